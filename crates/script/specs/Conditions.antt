@@ -1,0 +1,88 @@
+-- 01, "Conditions": W, and the conditions that a walk lists, in order. Nothing is simplified.
+-- The base rules are those of Hoare 1969 (source document 000); the conditions of a while are those of source
+-- document 004, section 3.4, with the variant added. Assumes nothing.
+use Prim.Native.Nat.{ℕ}
+use mathlib.Core.List.{List, [], _∷_, _++_}
+use mathlib.Core.Bool.{cond}
+use lib.IntN.{pos}
+use lib.Dec.{eqb}
+use Rattle.script.specs.Syntax.{Expr, const, var, mark, arith, neg, choose, Formula, truth, cmp, not, join, Stmt, skip, assign, seq, branch, loop, assert, Tree}
+use Rattle.script.specs.declared.Relation.the-variants.{Less, AtMost, Equal}
+use Rattle.script.specs.declared.Connective.the-variants.{And, Implies}
+use Rattle.script.specs.declared.Rule.{Rule}
+use Rattle.script.specs.declared.Rule.the-variants.{Exit, Floor, Step, Main}
+
+-- "each variable v replaced by E, all at once"
+module _ (v : ℕ) (e : Expr) where
+  unfoldable mutual
+    pub subst-expr : Expr → Expr
+    subst-expr (const z) = const z
+    subst-expr (var w) = cond (eqb w v) e (var w)
+    subst-expr (mark m) = mark m
+    subst-expr (arith o a b) = arith o (subst-expr a) (subst-expr b)
+    subst-expr (neg a) = neg (subst-expr a)
+    subst-expr (choose f a b) = choose (subst-formula f) (subst-expr a) (subst-expr b)
+
+    pub subst-formula : Formula → Formula
+    subst-formula (truth b) = truth b
+    subst-formula (cmp r a b) = cmp r (subst-expr a) (subst-expr b)
+    subst-formula (not f) = not (subst-formula f)
+    subst-formula (join c f g) = join c (subst-formula f) (subst-formula g)
+
+-- the weakest precondition: "W(S, Q) is the formula to hold before S"
+unfoldable pub wp : Stmt → Formula → Formula
+-- "Q"
+wp skip q = q
+-- "Q with each variable v replaced by E, all at once"
+wp (assign v e) q = subst-formula v e q
+-- "W(S, W(T, Q))"
+wp (seq a b) q = wp a (wp b q)
+-- "(B implies W(S, Q)) and ((not B) implies W(T, Q))"
+wp (branch b x y) q = join And (join Implies b (wp x q)) (join Implies (not b) (wp y q))
+-- "its invariant I"
+wp (loop m b i v x) q = i
+-- "A and Q"
+wp (assert a) q = join And a q
+
+pub record Condition : Type 0 where
+  pub rule : Rule
+  pub row : ℕ
+  pub claim : Formula
+
+abbrev pub condition : Rule → ℕ → Formula → Condition
+condition k r f = record { rule = k; row = r; claim = f }
+
+-- "(I and (V less m))"
+abbrev pub decreased : ℕ → Formula → Expr → Formula
+decreased m i v = join And i (cmp Less v (mark m))
+
+-- "(I and (not B)) implies Q"
+abbrev pub exit : Formula → Formula → Formula → Formula
+exit b i q = join Implies (join And i (not b)) q
+
+-- "(I and B) implies (0 at most V)"
+abbrev pub floor : Formula → Formula → Expr → Formula
+floor b i v = join Implies (join And i b) (cmp AtMost (const (pos 0)) v)
+
+-- "((I and B) and (V equal m)) implies W(body, I and (V less m))"
+abbrev pub step : ℕ → Formula → Formula → Expr → Stmt → Formula
+step m b i v x = join Implies (join And (join And i b) (cmp Equal v (mark m))) (wp x (decreased m i v))
+
+-- "a sequence lists its second part's conditions first; an if lists those of then, next those of else"; "Each loop ..
+-- lists: exit, floor, all conditions of its body, walked with (I and (V less m)), step"
+unfoldable pub walk : Stmt → Formula → List Condition
+walk skip q = []
+walk (assign v e) q = []
+walk (seq a b) q = walk b q ++ walk a (wp b q)
+walk (branch b x y) q = walk x q ++ walk y q
+walk (loop m b i v x) q =
+    condition Exit m (exit b i q)
+    ∷ condition Floor m (floor b i v)
+    ∷ (walk x (decreased m i v) ++ (condition Step m (step m b i v x) ∷ []))
+walk (assert a) q = []
+
+-- "Last comes main: P implies W(S, Q)."
+unfoldable pub conditions : Tree → List Condition
+conditions t =
+    walk (t .body) (t .post)
+    ++ (condition Main (t .row) (join Implies (t .pre) (wp (t .body) (t .post))) ∷ [])

@@ -1,0 +1,60 @@
+-- 01, "Room and scratch": what the generator answers and leaves in both buffers, for every table, list length and scratch
+-- length. Assumes nothing.
+use Prim.Native.Nat.{ℕ, _+_, _*_, _-_, min}
+use mathlib.Core.List.{List, _++_}
+use mathlib.Core.Bool.{cond}
+use lib.IntN.{ℤ, pos}
+use lib.Dec.{ltb}
+use lib.ListN.{length, replicate}
+use Rattle.script.specs.declared.Answer.{Answer}
+use Rattle.script.specs.Syntax.{Tree}
+use Rattle.script.specs.Conditions.{Condition, conditions}
+use Rattle.script.specs.Words.{list-words}
+use Rattle.script.specs.Trees.{tree, nesting}
+use Rattle.script.specs.Refusals.{accepted, refused, verdict}
+
+-- an answer, and every word that the list and scratch then hold
+pub record Outcome : Type 0 where
+  pub answer : Answer
+  pub list : List ℤ
+  pub scratch : List ℤ
+
+abbrev pub zeros : ℕ → List ℤ
+zeros n = replicate n (pos 0)
+
+abbrev pub refusal : ℕ → ℕ → Answer
+refusal n r = record { number = n; row = r; conditions = 0; words = 0 }
+
+-- "After a refusal the last two are 0, both buffers are all zeros, and the row is 0 unless the table below says otherwise."
+abbrev pub refuse : ℕ → ℕ → ℕ → ℕ → Outcome
+refuse n r list scratch = record { answer = refusal n r; list = zeros list; scratch = zeros scratch }
+
+-- "After every call scratch is all zeros, and so is every list word past the last one used."
+abbrev pub plan : List Condition → ℕ → ℕ → Outcome
+plan cs list scratch = record {
+  answer = record { number = 0; row = 0; conditions = length cs; words = length (list-words cs) };
+  list = list-words cs ++ zeros (list - length (list-words cs));
+  scratch = zeros scratch;
+}
+
+-- "Room is the length of the list buffer or 16,384, the smaller."
+abbrev pub room : ℕ → ℕ
+room list = min list 16384
+
+-- "Scratch must hold (nesting + 2) × room words."
+abbrev pub scratch-need : Tree → ℕ → ℕ
+scratch-need t list = (nesting (t .body) + 2) * room list
+
+-- 11: "scratch too short"; 12: "the list is longer than room"; 0: "list written; row 0"
+unfoldable pub outcome-for : Tree → ℕ → ℕ → Outcome
+outcome-for t list scratch =
+    cond (ltb scratch (scratch-need t list)) (refuse 11 0 list scratch)
+    (cond (ltb (room list) (length (list-words (conditions t)))) (refuse 12 0 list scratch)
+    (plan (conditions t) list scratch))
+
+unfoldable pub outcome : List ℤ → ℕ → ℕ → Outcome
+outcome table list scratch =
+    elim (verdict table) [
+      | refused n r ↦ refuse n r list scratch
+      | accepted ↦ outcome-for (tree table) list scratch
+    ]

@@ -1,0 +1,16 @@
+pub mod Rows
+pub mod Syntax
+pub mod Meaning
+pub mod Run
+pub mod Conditions
+pub mod Words
+pub mod Trees
+pub mod Refusals
+pub mod Generated
+pub mod Listing
+pub mod Promise
+pub mod Scoping
+pub mod Substitution
+pub mod Sound
+pub mod Trials
+pub mod Laws

@@ -1,0 +1,212 @@
+-- 01, "Reading a finished list". In this order: a formula read from its first word, the condition that ends at a place, a
+-- whole list, the line at an index, the reader that walks back. Assumes nothing.
+use Prim.Native.Nat.{ℕ, zero, suc, _-_}
+use mathlib.Core.Option.{Option, none, some}
+use mathlib.Core.List.{List, [], _∷_, _++_, map}
+use mathlib.Core.Bool.{Bool, true, false, cond, _&&_}
+use lib.IntN.{ℤ, pos, negsuc}
+use lib.Dec.{eqb, ltb, leb}
+use lib.ListN.{length, getD, getElem?}
+use lib.Seq.{slice}
+use Rattle.script.specs.declared.ExpressionRow.the-variants.{Constant, Variable, Arithmetic, Negate, Mark, Choose}
+use Rattle.script.specs.declared.FormulaRow.the-variants.{True, False, Comparison, Not, Junction}
+use Rattle.script.specs.declared.Row.{Row}
+use Rattle.script.specs.declared.Row.the-variants as Row
+use Rattle.script.specs.declared.Rule.{Rule}
+use Rattle.script.specs.declared.Rule.the-variants.{Exit, Floor, Step, Main}
+use Rattle.script.specs.declared.Line.{Line}
+use Rattle.script.specs.Syntax.{Expr, const, var, mark, arith, neg, choose, Formula, truth, cmp, not, join}
+use Rattle.script.specs.Conditions.{Condition, condition}
+use Rattle.script.specs.Words.{rule-number}
+use Rattle.script.specs.Rows.{field-number, row-of, variables}
+
+infixl 10 _>>=_
+-- go on where something was found
+abbrev pub _>>=_ : {A B : Type 0} → Option A → (A → Option B) → Option B
+none >>= f = none
+some a >>= f = f a
+
+-- go on where a test holds
+abbrev pub when : {A : Type 0} → Bool → Option A → Option A
+when true o = o
+when false o = none
+
+-- ---- a formula, read from its first word
+
+-- what was read, and the words after it
+pub record Read (A : Type 0) : Type 0 where
+  pub got : A
+  pub rest : List ℤ
+
+abbrev pub read : {A : Type 0} → A → List ℤ → Option (Read A)
+read a ws = some (record { got = a; rest = ws })
+
+-- the kind of a word, as the row that it and the next word would begin; the words after it
+abbrev pub next : {A : Type 0} → (Row → List ℤ → Option A) → List ℤ → Option A
+next f [] = none
+next f (w ∷ ws) = f (row-of (field-number w) (getD ws 0 (pos 0)) (pos 0) (pos 0)) ws
+
+-- past the number of a constant, a variable or a mark
+abbrev pub past-number : {A : Type 0} → A → List ℤ → Option (Read A)
+past-number a [] = none
+past-number a (w ∷ ws) = read a ws
+
+-- "marks 0 to 2,047", and so the rows of trailers
+abbrev pub row-limit : ℕ
+row-limit = 2048
+
+unfoldable mutual
+  pub read-expr : ℕ → Row → List ℤ → Option (Read Expr)
+  read-expr zero w ws = none
+  read-expr (suc n) (Row.Expression (Constant z)) ws = past-number (const z) ws
+  read-expr (suc n) (Row.Expression (Variable v)) ws = when (ltb (v .0) variables) (past-number (var (v .0)) ws)
+  read-expr (suc n) (Row.Expression (Mark m)) ws = when (ltb (m .0) row-limit) (past-number (mark (m .0)) ws)
+  read-expr (suc n) (Row.Expression (Arithmetic o x y)) ws = do
+    a ← next (read-expr n) ws
+    b ← next (read-expr n) (a .rest)
+    read (arith o (a .got) (b .got)) (b .rest)
+  read-expr (suc n) (Row.Expression (Negate x)) ws = do
+    a ← next (read-expr n) ws
+    read (neg (a .got)) (a .rest)
+  read-expr (suc n) (Row.Expression (Choose x y z)) ws = do
+    f ← next (λ w vs. read-formula n w vs) ws
+    a ← next (read-expr n) (f .rest)
+    b ← next (read-expr n) (a .rest)
+    read (choose (f .got) (a .got) (b .got)) (b .rest)
+  read-expr (suc n) (Row.Formula w) ws = none
+  read-expr (suc n) (Row.Statement w) ws = none
+  read-expr (suc n) (Row.Note x y) ws = none
+  read-expr (suc n) (Row.Script x y z) ws = none
+  read-expr (suc n) Row.Unknown ws = none
+
+  pub read-formula : ℕ → Row → List ℤ → Option (Read Formula)
+  read-formula zero w ws = none
+  read-formula (suc n) (Row.Formula True) ws = read (truth true) ws
+  read-formula (suc n) (Row.Formula False) ws = read (truth false) ws
+  read-formula (suc n) (Row.Formula (Comparison o x y)) ws = do
+    a ← next (λ w vs. read-expr n w vs) ws
+    b ← next (λ w vs. read-expr n w vs) (a .rest)
+    read (cmp o (a .got) (b .got)) (b .rest)
+  read-formula (suc n) (Row.Formula (Not x)) ws = do
+    f ← next (read-formula n) ws
+    read (not (f .got)) (f .rest)
+  read-formula (suc n) (Row.Formula (Junction o x y)) ws = do
+    f ← next (read-formula n) ws
+    g ← next (read-formula n) (f .rest)
+    read (join o (f .got) (g .got)) (g .rest)
+  read-formula (suc n) (Row.Expression w) ws = none
+  read-formula (suc n) (Row.Statement w) ws = none
+  read-formula (suc n) (Row.Note x y) ws = none
+  read-formula (suc n) (Row.Script x y z) ws = none
+  read-formula (suc n) Row.Unknown ws = none
+
+-- with nothing left over
+abbrev pub all-read : {A : Type 0} → Read A → Option A
+all-read r = elim (r .rest) [ [] ↦ some (r .got) | w ∷ ws ↦ none ]
+
+-- the formula that the words spell, all read: every node has a word of its own, so their number bounds the depth
+unfoldable pub spelled : List ℤ → Option Formula
+spelled ws = next (read-formula (length ws)) ws >>= all-read
+
+-- ---- the condition that ends at a place
+
+abbrev pub natural : ℤ → Option ℕ
+natural (pos n) = some n
+natural (negsuc n) = none
+
+abbrev pub below : ℕ → ℤ → Option ℕ
+below limit w = do
+  n ← natural w
+  when (ltb n limit) (some n)
+
+-- "a kind 1 to 4"
+abbrev pub rule-of : ℕ → Option Rule
+rule-of n =
+    cond (eqb n 1) (some Exit)
+    (cond (eqb n 2) (some Floor)
+    (cond (eqb n 3) (some Step)
+    (cond (eqb n 4) (some Main) none)))
+
+-- a condition, and from where to where its formula stands
+pub record Found : Type 0 where
+  pub condition : Condition
+  pub start : ℕ
+  pub end : ℕ
+
+-- with the trailer k, r, n after a formula that ends at e: "a kind 1 to 4, a row from 0 to 2,047 and the true length of
+-- one whole formula"
+unfoldable pub found : List ℤ → ℕ → ℤ → ℤ → ℤ → Option Found
+found ws e k r n = do
+  rule ← rule-of (field-number k)
+  row ← below row-limit r
+  size ← below (suc e) n
+  claim ← spelled (slice (e - size) e ws)
+  some (record { condition = condition rule row claim; start = e - size; end = e })
+
+-- the condition whose trailer ends at e
+unfoldable pub line-before : List ℤ → ℕ → Option Found
+line-before ws e =
+    when (leb 3 e && leb e (length ws))
+    (found ws (e - 3) (getD ws (e - 3) (pos 0)) (getD ws (e - 2) (pos 0)) (getD ws (e - 1) (pos 0)))
+
+-- ---- a whole list
+
+-- n conditions that end at e, first one first: "that many trailers", "nothing left at the front"
+unfoldable pub lines-before : List ℤ → ℕ → ℕ → Option (List Found)
+lines-before ws zero zero = some []
+lines-before ws zero (suc e) = none
+lines-before ws (suc n) e = do
+  last ← line-before ws e
+  front ← lines-before ws n (last .start)
+  some (front ++ (last ∷ []))
+
+-- "A well-formed list has a count of 1 or more, at most 16,384 words"; "A list is read from the end back."
+unfoldable pub lines : List ℤ → Option (List Found)
+lines ws =
+    when (leb (length ws) 16384)
+    (natural (getD ws (length ws - 1) (pos 0)) >>= λ count. when (ltb 0 count) (lines-before ws count (length ws - 1)))
+
+-- the conditions of a list, or nothing where the words are not a list
+unfoldable pub read-list : List ℤ → Option (List Condition)
+read-list ws = do
+  found ← lines ws
+  some (map (λ (f : Found). f .condition) found)
+
+-- ---- the line at an index
+
+-- "refused, kind and row are 0 with the empty part at the front"
+abbrev pub no-line : ℕ → Line
+no-line n = record { number = n; kind = 0; row = 0; start = 0; end = 0 }
+
+-- "it gives number 0, kind, row and the formula as the part of the caller's words where it stands"
+abbrev pub line : Found → Line
+line f = record { number = 0; kind = rule-number (f .condition .rule); row = f .condition .row; start = f .start; end = f .end }
+
+-- 21: "index negative or not below the count"
+abbrev pub line-of : List Found → ℤ → Line
+line-of fs (pos i) = elim (getElem? fs i) [ some f ↦ line f | none ↦ no-line 21 ]
+line-of fs (negsuc i) = no-line 21
+
+-- 20: "the words are not a list, all read"
+unfoldable pub line-at : List ℤ → ℤ → Line
+line-at ws i = elim (lines ws) [ some fs ↦ line-of fs i | none ↦ no-line 20 ]
+
+abbrev pub part-at : List ℤ → ℤ → List ℤ
+part-at ws i = slice (line-at ws i .start) (line-at ws i .end) ws
+
+-- ---- the reader that walks back: it keeps the words and the place where the conditions not yet read end
+
+-- no condition ends at 1: the place of a reader over a torn list
+abbrev pub torn : ℕ
+torn = 1
+
+unfoldable pub first-place : List ℤ → ℕ
+first-place ws = elim (lines ws) [ some fs ↦ length ws - 1 | none ↦ torn ]
+
+-- "On a torn list each of its steps answers 20; once the first condition is passed, 21."
+unfoldable pub step-back : List ℤ → ℕ → Line
+step-back ws zero = no-line 21
+step-back ws (suc e) = elim (line-before ws (suc e)) [ some f ↦ line f | none ↦ no-line 20 ]
+
+unfoldable pub next-place : List ℤ → ℕ → ℕ
+next-place ws e = elim (line-before ws e) [ some f ↦ f .start | none ↦ e ]

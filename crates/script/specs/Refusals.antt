@@ -1,0 +1,218 @@
+-- 01, "Room and scratch": the refusals 1 to 10 of a table, in the order of their tests.
+-- "Number 1 is tested first. Then rows from 0 up, in each row 2 to 6 in order over all its fields; the first faulty row
+-- decides, and that row is the one returned, not one it links to. Then 7 to 12 in order." Assumes nothing.
+use Prim.Native.Nat.{ℕ, zero, suc, _%_, _-_}
+use mathlib.Core.List.{List, [], _∷_, _++_}
+use mathlib.Core.Bool.{Bool, true, false, cond, not, _&&_, _||_}
+use lib.IntN.{ℤ, pos, negsuc}
+use lib.Dec.{eqb, ltb, leb}
+use lib.ListN.{length, drop}
+use Rattle.script.specs.declared.ExpressionRow.the-variants.{Constant, Variable, Arithmetic, Negate, Mark, Choose}
+use Rattle.script.specs.declared.FormulaRow.the-variants.{True, False, Comparison, Not, Junction}
+use Rattle.script.specs.declared.StatementRow.the-variants.{Skip, Assign, Sequence, If, While, Assert}
+use Rattle.script.specs.declared.Row.{Row}
+use Rattle.script.specs.declared.Row.the-variants as Row
+use Rattle.script.specs.declared.Sort.{Sort}
+use Rattle.script.specs.declared.Sort.the-variants.{Expression, Formula, Statement, Note, Script, Unknown}
+use Rattle.script.specs.Rows.{Field, value, variable, target, loop, link, fields, sort-of, Part, parts, variables, rows, word, row}
+use Rattle.script.specs.Trees.{tree, nesting}
+use Rattle.script.specs.Syntax.{Tree}
+
+pub data Verdict : Type 0 where
+  accepted : Verdict
+  -- the number and the row
+  refused : ℕ → ℕ → Verdict
+
+infixr 20 _and-then_
+-- the first of two verdicts that refuses
+abbrev pub _and-then_ : Verdict → Verdict → Verdict
+accepted and-then v = v
+refused n r and-then v = refused n r
+
+-- the lowest of the n rows from r up that has a fault: `fault` gives its number, or 0
+unfoldable pub lowest : (ℕ → ℕ) → ℕ → ℕ → Verdict
+lowest fault zero r = accepted
+lowest fault (suc n) r = elim (eqb (fault r) 0) [ true ↦ lowest fault n (suc r) | false ↦ refused (fault r) r ]
+
+abbrev pub member : ℕ → List ℕ → Bool
+member k [] = false
+member k (x ∷ xs) = eqb k x || member k xs
+
+-- "128 to 255 are frozen"
+abbrev pub frozen : ℕ → Bool
+frozen v = leb 128 v && leb v 255
+
+-- ---- 1: "no words, not a multiple of 4, or over 8,192"
+
+abbrev pub bad-length : ℕ → Bool
+bad-length n = eqb n 0 || (not (eqb (n % 4) 0) || ltb 8192 n)
+
+-- ---- 2 to 6: the faults of one row
+
+abbrev sort-code : Sort → ℕ
+sort-code Expression = 0
+sort-code Formula = 1
+sort-code Statement = 2
+sort-code Note = 3
+sort-code Script = 4
+sort-code Unknown = 5
+
+abbrev pub same-sort : Sort → Sort → Bool
+same-sort a b = eqb (sort-code a) (sort-code b)
+
+abbrev pub is-zero : ℤ → Bool
+is-zero (pos a) = eqb a 0
+is-zero (negsuc a) = false
+
+abbrev pub all-zero : List ℤ → Bool
+all-zero [] = true
+all-zero (z ∷ zs) = is-zero z && all-zero zs
+
+module _ (ws : List ℤ) where
+  -- 3: "variable number not 0 to 255, a mark's row not in the table"
+  abbrev pub in-range : List Field → Bool
+  in-range [] = true
+  in-range (value ∷ fs) = in-range fs
+  in-range (variable v ∷ fs) = ltb v variables && in-range fs
+  in-range (target v ∷ fs) = ltb v variables && in-range fs
+  in-range (loop m ∷ fs) = ltb m (rows ws) && in-range fs
+  in-range (link s r ∷ fs) = in-range fs
+
+  -- 3: "or an unused field not 0"
+  abbrev pub unused-zero : ℕ → ℕ → Bool
+  unused-zero r used = all-zero (drop used (word ws r 1 ∷ word ws r 2 ∷ word ws r 3 ∷ []))
+
+  -- 4: "link not from 0 to its row less 1"
+  abbrev pub all-below : ℕ → List Part → Bool
+  all-below r [] = true
+  all-below r (p ∷ ps) = ltb (p .at) r && all-below r ps
+
+  -- 5: "a linked row has the wrong sort"
+  abbrev pub well-sorted : List Part → Bool
+  well-sorted [] = true
+  well-sorted (p ∷ ps) = same-sort (sort-of (row ws (p .at))) (p .sort) && well-sorted ps
+
+  -- the rows that the rows below r link to, the latest first
+  abbrev pub adding : List Part → List ℕ → List ℕ
+  adding [] seen = seen
+  adding (p ∷ ps) seen = adding ps (p .at ∷ seen)
+
+  unfoldable pub linked : ℕ → List ℕ
+  linked zero = []
+  linked (suc r) = adding (parts (row ws r)) (linked r)
+
+  -- 6: "a link's row already linked by a lower row or an earlier field"
+  abbrev pub all-new : List ℕ → List Part → Bool
+  all-new seen [] = true
+  all-new seen (p ∷ ps) = not (member (p .at) seen) && all-new (p .at ∷ seen) ps
+
+  -- the first fault of row r, or 0
+  unfoldable pub row-fault : ℕ → ℕ
+  row-fault r =
+      let w = row ws r in
+      cond (same-sort (sort-of w) Unknown) 2
+      (cond (not (in-range (fields w) && unused-zero r (length (fields w)))) 3
+      (cond (not (all-below r (parts w))) 4
+      (cond (not (well-sorted (parts w))) 5
+      (cond (not (all-new (linked r) (parts w))) 6 0))))
+
+  -- ---- 7: "last row is no script (that row); else the lowest row but the last that nothing links to"
+
+  abbrev pub loose-fault : ℕ → ℕ
+  loose-fault r = cond (member r (linked (rows ws))) 0 7
+
+  -- ---- 8: "an assignment to a frozen name; lowest such row"
+
+  abbrev pub assigns-frozen : List Field → Bool
+  assigns-frozen [] = false
+  assigns-frozen (value ∷ fs) = assigns-frozen fs
+  assigns-frozen (variable v ∷ fs) = assigns-frozen fs
+  assigns-frozen (target v ∷ fs) = frozen v || assigns-frozen fs
+  assigns-frozen (loop m ∷ fs) = assigns-frozen fs
+  assigns-frozen (link s r ∷ fs) = assigns-frozen fs
+
+  abbrev pub target-fault : ℕ → ℕ
+  target-fault r = cond (assigns-frozen (fields (row ws r))) 8 0
+
+  -- ---- 9: "a frozen name in a guard or assigned expression, or a mark where it may not stand (one whose row is no while
+  -- stands nowhere); lowest such variable or mark row"
+
+  -- those rows at row r, which is w, and below it. `code`: r stands in a guard or an assigned expression; `inside`: the
+  -- loops in whose body it stands. "It may stand only in an annotation (assertion, invariant, variant) inside the body of
+  -- the loop it names. A loop's own note is not inside its body."
+  unfoldable pub misread : ℕ → Row → Bool → List ℕ → ℕ → List ℕ
+  misread zero w code inside r = []
+  misread (suc n) (Row.Expression (Constant z)) code inside r = []
+  misread (suc n) (Row.Expression (Variable v)) code inside r = cond (code && frozen (v .0)) (r ∷ []) []
+  misread (suc n) (Row.Expression (Arithmetic o a b)) code inside r =
+      misread n (row ws (a .0)) code inside (a .0) ++ misread n (row ws (b .0)) code inside (b .0)
+  misread (suc n) (Row.Expression (Negate a)) code inside r = misread n (row ws (a .0)) code inside (a .0)
+  misread (suc n) (Row.Expression (Mark m)) code inside r = cond (code || not (member (m .0) inside)) (r ∷ []) []
+  misread (suc n) (Row.Expression (Choose f a b)) code inside r =
+      misread n (row ws (f .0)) code inside (f .0)
+      ++ (misread n (row ws (a .0)) code inside (a .0) ++ misread n (row ws (b .0)) code inside (b .0))
+  misread (suc n) (Row.Formula True) code inside r = []
+  misread (suc n) (Row.Formula False) code inside r = []
+  misread (suc n) (Row.Formula (Comparison o a b)) code inside r =
+      misread n (row ws (a .0)) code inside (a .0) ++ misread n (row ws (b .0)) code inside (b .0)
+  misread (suc n) (Row.Formula (Not f)) code inside r = misread n (row ws (f .0)) code inside (f .0)
+  misread (suc n) (Row.Formula (Junction o f g)) code inside r =
+      misread n (row ws (f .0)) code inside (f .0) ++ misread n (row ws (g .0)) code inside (g .0)
+  misread (suc n) (Row.Statement Skip) code inside r = []
+  misread (suc n) (Row.Statement (Assign v e)) code inside r = misread n (row ws (e .0)) true inside (e .0)
+  misread (suc n) (Row.Statement (Sequence a b)) code inside r =
+      misread n (row ws (a .0)) false inside (a .0) ++ misread n (row ws (b .0)) false inside (b .0)
+  misread (suc n) (Row.Statement (If b x y)) code inside r =
+      misread n (row ws (b .0)) true inside (b .0)
+      ++ (misread n (row ws (x .0)) false inside (x .0) ++ misread n (row ws (y .0)) false inside (y .0))
+  misread (suc n) (Row.Statement (While b i x)) code inside r =
+      misread n (row ws (b .0)) true inside (b .0)
+      ++ (misread n (row ws (i .0)) false inside (i .0) ++ misread n (row ws (x .0)) false (r ∷ inside) (x .0))
+  misread (suc n) (Row.Statement (Assert f)) code inside r = misread n (row ws (f .0)) false inside (f .0)
+  misread (suc n) (Row.Note i v) code inside r =
+      misread n (row ws (i .0)) false inside (i .0) ++ misread n (row ws (v .0)) false inside (v .0)
+  misread (suc n) (Row.Script p s q) code inside r =
+      misread n (row ws (p .0)) false inside (p .0)
+      ++ (misread n (row ws (s .0)) false inside (s .0) ++ misread n (row ws (q .0)) false inside (q .0))
+  misread (suc n) Row.Unknown code inside r = []
+
+  -- those of the whole script
+  unfoldable pub misreads : List ℕ
+  misreads = misread (rows ws) (row ws (rows ws - 1)) false [] (rows ws - 1)
+
+  abbrev pub reading-fault : ℕ → ℕ
+  reading-fault r = cond (member r misreads) 9 0
+
+  -- ---- the tests
+
+  unfoldable pub length-test : Verdict
+  length-test = cond (bad-length (length ws)) (refused 1 0) accepted
+
+  unfoldable pub row-test : Verdict
+  row-test = lowest row-fault (rows ws) 0
+
+  unfoldable pub script-test : Verdict
+  script-test = cond (same-sort (sort-of (row ws (rows ws - 1))) Script) accepted (refused 7 (rows ws - 1))
+
+  unfoldable pub loose-test : Verdict
+  loose-test = lowest loose-fault (rows ws - 1) 0
+
+  unfoldable pub target-test : Verdict
+  target-test = lowest target-fault (rows ws) 0
+
+  unfoldable pub reading-test : Verdict
+  reading-test = lowest reading-fault (rows ws) 0
+
+  -- 10: "nesting over 8"
+  unfoldable pub nesting-test : Verdict
+  nesting-test = cond (leb (nesting (tree ws .body)) 8) accepted (refused 10 0)
+
+  unfoldable pub verdict : Verdict
+  verdict =
+      length-test
+      and-then row-test
+      and-then script-test
+      and-then loose-test
+      and-then target-test
+      and-then reading-test
+      and-then nesting-test

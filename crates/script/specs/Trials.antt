@@ -1,0 +1,153 @@
+-- 01, "Trial rows": the starred ones, and those of the others that computation reaches, as rows of a single statement that
+-- the prover settles by computing the definitions. Assumes nothing.
+use Prim.Native.Nat.{ℕ, zero, suc, _+_, _*_}
+use mathlib.Core.Path.{_≡_, refl}
+use mathlib.Core.Bool.{Bool, true, false}
+use mathlib.Core.List.{List, [], _∷_, _++_, map}
+use lib.IntN.{ℤ, pos, negsuc}
+use lib.ListN.{length, take}
+use Rattle.script.specs.declared.Answer.{Answer}
+use Rattle.script.specs.declared.Line.{Line}
+use Rattle.script.specs.Meaning.{divZ, modZ}
+use Rattle.script.specs.Conditions.{conditions, walk, wp, subst-expr, subst-formula}
+use Rattle.script.specs.Words.{list-words, all-lines, line-words, expr-words, formula-words}
+use Rattle.script.specs.Rows.{row, row-of}
+use Rattle.script.specs.Trees.{expr, formula, stmt, expr-at, formula-at, stmt-at, tree, nesting}
+use Rattle.script.specs.Refusals.{Verdict, accepted, refused, bad-length, lowest, row-fault, linked, misread, misreads, length-test, row-test, script-test, loose-test, target-test, reading-test, nesting-test, verdict}
+use Rattle.script.specs.Generated.{outcome-for, outcome, refusal}
+use Rattle.script.specs.Listing.{read-expr, read-formula, spelled, found, line-before, lines-before, lines, line-at, no-line}
+
+-- ---- tables
+
+infixr 20 _⨾_
+abbrev Row4 : Type 0
+Row4 = ℕ × ℕ × ℕ × ℕ
+
+-- a row, then the words after it
+_⨾_ : Row4 → List ℤ → List ℤ
+r ⨾ ws = pos (r .0) ∷ pos (r .1) ∷ pos (r .2) ∷ pos (r .3) ∷ ws
+
+-- example A, with its rows 9, 13 and 14
+example : Row4 → Row4 → Row4 → List ℤ
+example row-9 row-13 row-14 =
+    (1, 0, 0, 0) ⨾ (2, 0, 0, 0) ⨾ (19, 0, 1, 0) ⨾ (1, 0, 0, 0) ⨾ (2, 0, 0, 0) ⨾ (18, 3, 4, 0)
+    ⨾ (1, 0, 0, 0) ⨾ (2, 0, 0, 0) ⨾ (19, 6, 7, 0) ⨾ row-9 ⨾ (37, 8, 9, 0)
+    ⨾ (2, 0, 0, 0) ⨾ (1, 1, 0, 0) ⨾ row-13 ⨾ row-14 ⨾ (36, 5, 10, 14)
+    ⨾ (2, 0, 0, 0) ⨾ (1, 0, 0, 0) ⨾ (20, 16, 17, 0) ⨾ (48, 2, 15, 18) ⨾ []
+
+example-a : List ℤ
+example-a = example (2, 0, 0, 0) (4, 11, 12, 0) (33, 0, 13, 0)
+
+four-rows : List ℤ
+four-rows = (16, 0, 0, 0) ⨾ (32, 0, 0, 0) ⨾ (16, 0, 0, 0) ⨾ (48, 0, 1, 2) ⨾ []
+
+-- true; if true then while true do skip (invariant true, variant 0) else while false do skip (true, 1); true: wrong turn 1
+loops-in-branches : List ℤ
+loops-in-branches =
+    (16, 0, 0, 0) ⨾ (16, 0, 0, 0) ⨾ (16, 0, 0, 0) ⨾ (16, 0, 0, 0) ⨾ (1, 0, 0, 0) ⨾ (37, 3, 4, 0) ⨾ (32, 0, 0, 0) ⨾ (36, 2, 5, 6)
+    ⨾ (17, 0, 0, 0) ⨾ (16, 0, 0, 0) ⨾ (1, 1, 0, 0) ⨾ (37, 9, 10, 0) ⨾ (32, 0, 0, 0) ⨾ (36, 8, 11, 12)
+    ⨾ (35, 1, 7, 13) ⨾ (16, 0, 0, 0) ⨾ (48, 0, 14, 15) ⨾ []
+
+-- the n branches below row 3 × n, each the then part of the next
+branches : ℕ → List ℤ
+branches zero = (32, 0, 0, 0) ⨾ []
+branches (suc n) = branches n ++ ((16, 0, 0, 0) ⨾ (32, 0, 0, 0) ⨾ (35, 3 * n + 1, 3 * n, 3 * n + 2) ⨾ [])
+
+nested : ℕ → List ℤ
+nested n = branches n ++ ((16, 0, 0, 0) ⨾ (16, 0, 0, 0) ⨾ (48, 3 * n + 1, 3 * n, 3 * n + 2) ⨾ [])
+
+numbers : List ℕ → List ℤ
+numbers [] = []
+numbers (n ∷ ns) = pos n ∷ numbers ns
+
+-- ---- trials
+
+data Trial : Type 0 where
+  -- table, room, scratch, answer
+  generates : List ℤ → ℕ → ℕ → Answer → Trial
+  -- table, the words of its list
+  lists : List ℤ → List ℕ → Trial
+  -- table, verdict
+  judges : List ℤ → Verdict → Trial
+  -- a number of words, whether the length test refuses it
+  measures : ℕ → Bool → Trial
+  -- dividend, divisor, quotient, remainder
+  divides : ℤ → ℤ → ℤ → ℤ → Trial
+  -- words, index, line
+  reads : List ℤ → ℤ → Line → Trial
+
+data Observed : Type 0 where
+  answer : Answer → Observed
+  words : List ℤ → Observed
+  verdict-is : Verdict → Observed
+  test : Bool → Observed
+  division : ℤ → ℤ → Observed
+  line : Line → Observed
+
+abbrev planned : ℕ → ℕ → Answer
+planned n w = record { number = 0; row = 0; conditions = n; words = w }
+
+observed : Trial → Observed
+observed (generates t l s a) = answer (outcome t l s .answer)
+observed (lists t ws) = words (take (outcome t 512 5120 .answer .words) (outcome t 512 5120 .list))
+observed (judges t v) = verdict-is (verdict t)
+observed (measures n b) = test (bad-length n)
+observed (divides n d q r) = division (divZ n d) (modZ n d)
+observed (reads ws i l) = line (line-at ws i)
+
+expected : Trial → Observed
+expected (generates t l s a) = answer a
+expected (lists t ws) = words (numbers ws)
+expected (judges t v) = verdict-is v
+expected (measures n b) = test b
+expected (divides n d q r) = division q r
+expected (reads ws i l) = line l
+
+trials : List Trial
+trials =
+    generates example-a 512 5120 (planned 4 94)
+    ∷ generates example-a 93 5120 (refusal 12 0)
+    ∷ generates example-a 94 281 (refusal 11 0)
+    ∷ generates example-a 94 282 (planned 4 94)
+    ∷ lists four-rows (25 ∷ 16 ∷ 16 ∷ 4 ∷ 3 ∷ 3 ∷ 1 ∷ [])
+    ∷ generates four-rows 6 12 (refusal 12 0)
+    ∷ generates four-rows 7 13 (refusal 11 0)
+    ∷ generates four-rows 0 0 (refusal 12 0)
+    ∷ generates [] 512 5120 (refusal 1 0)
+    ∷ measures 8192 false
+    ∷ measures 8196 true
+    ∷ divides (negsuc 6) (pos 2) (negsuc 3) (pos 1)
+    ∷ divides (pos 7) (negsuc 1) (negsuc 2) (pos 1)
+    ∷ divides (negsuc 6) (negsuc 1) (pos 4) (pos 1)
+    ∷ divides (pos 5) (pos 0) (pos 0) (pos 5)
+    ∷ generates (example (2, 0, 0, 0) (4, 11, 12, 0) (33, 128, 13, 0)) 512 5120 (refusal 8 14)
+    ∷ generates (example (2, 0, 0, 0) (4, 11, 12, 0) (33, 256, 13, 0)) 512 5120 (refusal 3 14)
+    ∷ generates (example (9, 15, 0, 0) (4, 11, 12, 0) (33, 0, 13, 0)) 512 5120 (refusal 9 9)
+    ∷ generates (example (2, 0, 0, 0) (4, 11, 11, 0) (33, 0, 13, 0)) 512 5120 (refusal 6 13)
+    ∷ generates (example (2, 0, 0, 0) (4, 11, 13, 0) (33, 0, 13, 0)) 512 5120 (refusal 4 13)
+    ∷ judges (nested 8) accepted
+    ∷ judges (nested 9) (refused 10 0)
+    ∷ lists example-a
+    (25 ∷ 23 ∷ 19 ∷ 1 ∷ 0 ∷ 2 ∷ 0 ∷ 22 ∷ 18 ∷ 1 ∷ 0 ∷ 2 ∷ 0 ∷ 20 ∷ 2 ∷ 0 ∷ 1 ∷ 0 ∷ 1 ∷ 15 ∷ 18
+    ∷ 25 ∷ 23 ∷ 19 ∷ 1 ∷ 0 ∷ 2 ∷ 0 ∷ 18 ∷ 1 ∷ 0 ∷ 2 ∷ 0 ∷ 19 ∷ 1 ∷ 0 ∷ 2 ∷ 0 ∷ 2 ∷ 15 ∷ 17
+    ∷ 25 ∷ 23 ∷ 23 ∷ 19 ∷ 1 ∷ 0 ∷ 2 ∷ 0 ∷ 18 ∷ 1 ∷ 0 ∷ 2 ∷ 0 ∷ 20 ∷ 2 ∷ 0 ∷ 9 ∷ 15
+    ∷ 23 ∷ 19 ∷ 1 ∷ 0 ∷ 4 ∷ 2 ∷ 0 ∷ 1 ∷ 1 ∷ 18 ∷ 4 ∷ 2 ∷ 0 ∷ 1 ∷ 1 ∷ 9 ∷ 15 ∷ 3 ∷ 15 ∷ 35
+    ∷ 25 ∷ 19 ∷ 1 ∷ 0 ∷ 2 ∷ 0 ∷ 19 ∷ 1 ∷ 0 ∷ 2 ∷ 0 ∷ 4 ∷ 19 ∷ 11 ∷ 4 ∷ [])
+    ∷ lists loops-in-branches
+    (25 ∷ 23 ∷ 16 ∷ 22 ∷ 16 ∷ 16 ∷ 1 ∷ 7 ∷ 6
+    ∷ 25 ∷ 23 ∷ 16 ∷ 16 ∷ 19 ∷ 1 ∷ 0 ∷ 1 ∷ 0 ∷ 2 ∷ 7 ∷ 9
+    ∷ 25 ∷ 23 ∷ 23 ∷ 16 ∷ 16 ∷ 20 ∷ 1 ∷ 0 ∷ 9 ∷ 7 ∷ 23 ∷ 16 ∷ 18 ∷ 1 ∷ 0 ∷ 9 ∷ 7 ∷ 3 ∷ 7 ∷ 17
+    ∷ 25 ∷ 23 ∷ 16 ∷ 22 ∷ 17 ∷ 16 ∷ 1 ∷ 13 ∷ 6
+    ∷ 25 ∷ 23 ∷ 16 ∷ 17 ∷ 19 ∷ 1 ∷ 0 ∷ 1 ∷ 1 ∷ 2 ∷ 13 ∷ 9
+    ∷ 25 ∷ 23 ∷ 23 ∷ 16 ∷ 17 ∷ 20 ∷ 1 ∷ 1 ∷ 9 ∷ 13 ∷ 23 ∷ 16 ∷ 18 ∷ 1 ∷ 1 ∷ 9 ∷ 13 ∷ 3 ∷ 13 ∷ 17
+    ∷ 25 ∷ 16 ∷ 23 ∷ 25 ∷ 16 ∷ 16 ∷ 25 ∷ 22 ∷ 16 ∷ 16 ∷ 4 ∷ 16 ∷ 10 ∷ 7 ∷ [])
+    ∷ reads (numbers (25 ∷ 16 ∷ 16 ∷ 4 ∷ 3 ∷ 3 ∷ 1 ∷ [])) (pos 0) (record { number = 0; kind = 4; row = 3; start = 0; end = 3 })
+    ∷ reads (numbers (25 ∷ 16 ∷ 16 ∷ 4 ∷ 3 ∷ 3 ∷ 1 ∷ [])) (pos 1) (no-line 21)
+    ∷ reads (numbers (25 ∷ 16 ∷ 16 ∷ 4 ∷ 3 ∷ 3 ∷ 1 ∷ [])) (negsuc 0) (no-line 21)
+    ∷ reads (numbers (25 ∷ 16 ∷ 16 ∷ 4 ∷ 3 ∷ 4 ∷ 1 ∷ [])) (pos 0) (no-line 20)
+    ∷ reads [] (pos 0) (no-line 20)
+    ∷ []
+
+trials-hold : map observed trials ≡ map expected trials
+unfolding trials observed expected numbers example example-a four-rows loops-in-branches branches nested _⨾_ outcome outcome-for verdict length-test row-test script-test loose-test target-test reading-test nesting-test lowest row-fault linked misread misreads row row-of expr formula stmt expr-at formula-at stmt-at tree nesting conditions walk wp subst-expr subst-formula list-words all-lines line-words expr-words formula-words read-expr read-formula spelled found line-before lines-before lines line-at
+trials-hold = refl

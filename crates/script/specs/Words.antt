@@ -1,0 +1,74 @@
+-- 01, "Conditions": how formulas, conditions and lists are spelled as words. Assumes nothing.
+use Prim.Native.Nat.{ℕ}
+use mathlib.Core.List.{List, [], _∷_, _++_}
+use mathlib.Core.Bool.{cond}
+use lib.IntN.{ℤ, pos}
+use lib.ListN.{length}
+use Rattle.script.specs.Syntax.{Expr, const, var, mark, arith, neg, choose, Formula, truth, cmp, not, join}
+use Rattle.script.specs.Conditions.{Condition}
+use Rattle.script.specs.declared.Operator.{Operator}
+use Rattle.script.specs.declared.Operator.the-variants.{Plus, Minus, Times, Div, Mod}
+use Rattle.script.specs.declared.Relation.{Relation}
+use Rattle.script.specs.declared.Relation.the-variants.{Less, AtMost, Equal, Unequal}
+use Rattle.script.specs.declared.Connective.{Connective}
+use Rattle.script.specs.declared.Connective.the-variants.{And, Or, Implies}
+use Rattle.script.specs.declared.Rule.{Rule}
+use Rattle.script.specs.declared.Rule.the-variants.{Exit, Floor, Step, Main}
+
+abbrev pub op-word : Operator → ℤ
+op-word Plus = pos 3
+op-word Minus = pos 4
+op-word Times = pos 5
+op-word Div = pos 6
+op-word Mod = pos 7
+
+abbrev pub rel-word : Relation → ℤ
+rel-word Less = pos 18
+rel-word AtMost = pos 19
+rel-word Equal = pos 20
+rel-word Unequal = pos 21
+
+abbrev pub conn-word : Connective → ℤ
+conn-word And = pos 23
+conn-word Or = pos 24
+conn-word Implies = pos 25
+
+-- "A formula is written as words, kind before its parts, parts left to right. Constant, variable and mark have two words
+-- (kind, number); every other kind writes only its kind word before the parts."
+unfoldable mutual
+  pub expr-words : Expr → List ℤ
+  expr-words (const z) = pos 1 ∷ z ∷ []
+  expr-words (var v) = pos 2 ∷ pos v ∷ []
+  expr-words (mark m) = pos 9 ∷ pos m ∷ []
+  expr-words (arith o a b) = op-word o ∷ (expr-words a ++ expr-words b)
+  expr-words (neg a) = pos 8 ∷ expr-words a
+  expr-words (choose f a b) = pos 10 ∷ (formula-words f ++ (expr-words a ++ expr-words b))
+
+  pub formula-words : Formula → List ℤ
+  formula-words (truth b) = cond b (pos 16) (pos 17) ∷ []
+  formula-words (cmp r a b) = rel-word r ∷ (expr-words a ++ expr-words b)
+  formula-words (not f) = pos 22 ∷ formula-words f
+  formula-words (join c f g) = conn-word c ∷ (formula-words f ++ formula-words g)
+
+-- "condition kind (1 exit, 2 floor, 3 step, 4 main)"
+abbrev pub rule-number : Rule → ℕ
+rule-number Exit = 1
+rule-number Floor = 2
+rule-number Step = 3
+rule-number Main = 4
+
+-- "After each formula stands its trailer, three words: condition kind .., row (of the while, or of the script), and
+-- length of the formula just before."
+abbrev pub trailer : Condition → List ℤ
+trailer c = pos (rule-number (c .rule)) ∷ pos (c .row) ∷ pos (length (formula-words (c .claim))) ∷ []
+
+unfoldable pub line-words : Condition → List ℤ
+line-words c = formula-words (c .claim) ++ trailer c
+
+unfoldable pub all-lines : List Condition → List ℤ
+all-lines [] = []
+all-lines (c ∷ cs) = line-words c ++ all-lines cs
+
+-- "The last word of the list is the number of conditions."
+unfoldable pub list-words : List Condition → List ℤ
+list-words cs = all-lines cs ++ (pos (length cs) ∷ [])

@@ -1,0 +1,182 @@
+// What the code of every layer shares with the definitions in specs/: the numbers of rows and variables, a row taken
+// apart, an answer, a line of a list; and the functions that take a row apart.
+
+ghost use mathlib.Core.Path.{_≡_};
+ghost use Prim.Native.Nat.{ℕ, _+_, _*_, _<_, _≤_};
+ghost use lib.ListN.{length};
+ghost use Rattle.script.specs.Rows.{field-number, row-no, var-no, row-of, row};
+
+// A row number and a variable number are both small whole numbers: two types keep them apart.
+pub struct RowNumber(pub usize);
+
+pub struct VariableNumber(pub usize);
+
+pub enum Operator {
+    Plus,
+    Minus,
+    Times,
+    Div,
+    Mod,
+}
+
+pub enum Relation {
+    Less,
+    AtMost,
+    Equal,
+    Unequal,
+}
+
+pub enum Connective {
+    And,
+    Or,
+    Implies,
+}
+
+// A row taken apart: its sort, then its kind, with what its fields hold.
+pub enum Row {
+    Expression(ExpressionRow),
+    Formula(FormulaRow),
+    Statement(StatementRow),
+    // invariant, variant
+    Note(RowNumber, RowNumber),
+    // precondition, statement, postcondition
+    Script(RowNumber, RowNumber, RowNumber),
+    // a kind that is not listed
+    Unknown,
+}
+
+pub enum ExpressionRow {
+    Constant(i32),
+    Variable(VariableNumber),
+    Arithmetic(Operator, RowNumber, RowNumber),
+    Negate(RowNumber),
+    // the row of the loop that it names
+    Mark(RowNumber),
+    Choose(RowNumber, RowNumber, RowNumber),
+}
+
+pub enum FormulaRow {
+    True,
+    False,
+    Comparison(Relation, RowNumber, RowNumber),
+    Not(RowNumber),
+    Junction(Connective, RowNumber, RowNumber),
+}
+
+pub enum StatementRow {
+    Skip,
+    Assign(VariableNumber, RowNumber),
+    Sequence(RowNumber, RowNumber),
+    // guard, then, else
+    If(RowNumber, RowNumber, RowNumber),
+    // guard, note, body
+    While(RowNumber, RowNumber, RowNumber),
+    Assert(RowNumber),
+}
+
+pub enum Sort {
+    Expression,
+    Formula,
+    Statement,
+    Note,
+    Script,
+    Unknown,
+}
+
+// The rule that a condition comes from: what 01 calls the condition kind.
+pub enum Rule {
+    Exit,
+    Floor,
+    Step,
+    Main,
+}
+
+// What a call answers: 0 with the conditions and words of the list, or the number of a refusal with its row.
+pub struct Answer {
+    pub number: usize,
+    pub row: usize,
+    pub conditions: usize,
+    pub words: usize,
+}
+
+// A line of a list: a condition's kind and row, and where its formula starts and ends; or the number of a refusal.
+pub struct Line {
+    pub number: usize,
+    pub kind: usize,
+    pub row: usize,
+    pub start: usize,
+    pub end: usize,
+}
+
+// The number in a field; a negative one is read as one that is beyond every range.
+pub fn field_number(w: i32) -> usize
+    ensures { λ r. ⌜ r ≡ field-number w ⌝ }
+{
+    if w < 0 { 4294967295 } else { w as usize }
+}
+
+fn row_number(w: i32) -> RowNumber
+    ensures { λ r. ⌜ r ≡ row-no w ⌝ }
+{
+    RowNumber(field_number(w))
+}
+
+fn variable_number(w: i32) -> VariableNumber
+    ensures { λ r. ⌜ r ≡ var-no w ⌝ }
+{
+    VariableNumber(field_number(w))
+}
+
+// The row whose first word is n and whose fields are a, b and c.
+pub fn row_of(n: usize, a: i32, b: i32, c: i32) -> Row
+    ensures { λ r. ⌜ r ≡ row-of n a b c ⌝ }
+{
+    let v = variable_number(a);
+    let ra = row_number(a);
+    let rb = row_number(b);
+    let rc = row_number(c);
+    match n {
+        1 => Row::Expression(ExpressionRow::Constant(a)),
+        2 => Row::Expression(ExpressionRow::Variable(v)),
+        3 => Row::Expression(ExpressionRow::Arithmetic(Operator::Plus, ra, rb)),
+        4 => Row::Expression(ExpressionRow::Arithmetic(Operator::Minus, ra, rb)),
+        5 => Row::Expression(ExpressionRow::Arithmetic(Operator::Times, ra, rb)),
+        6 => Row::Expression(ExpressionRow::Arithmetic(Operator::Div, ra, rb)),
+        7 => Row::Expression(ExpressionRow::Arithmetic(Operator::Mod, ra, rb)),
+        8 => Row::Expression(ExpressionRow::Negate(ra)),
+        9 => Row::Expression(ExpressionRow::Mark(ra)),
+        10 => Row::Expression(ExpressionRow::Choose(ra, rb, rc)),
+        16 => Row::Formula(FormulaRow::True),
+        17 => Row::Formula(FormulaRow::False),
+        18 => Row::Formula(FormulaRow::Comparison(Relation::Less, ra, rb)),
+        19 => Row::Formula(FormulaRow::Comparison(Relation::AtMost, ra, rb)),
+        20 => Row::Formula(FormulaRow::Comparison(Relation::Equal, ra, rb)),
+        21 => Row::Formula(FormulaRow::Comparison(Relation::Unequal, ra, rb)),
+        22 => Row::Formula(FormulaRow::Not(ra)),
+        23 => Row::Formula(FormulaRow::Junction(Connective::And, ra, rb)),
+        24 => Row::Formula(FormulaRow::Junction(Connective::Or, ra, rb)),
+        25 => Row::Formula(FormulaRow::Junction(Connective::Implies, ra, rb)),
+        32 => Row::Statement(StatementRow::Skip),
+        33 => Row::Statement(StatementRow::Assign(v, rb)),
+        34 => Row::Statement(StatementRow::Sequence(ra, rb)),
+        35 => Row::Statement(StatementRow::If(ra, rb, rc)),
+        36 => Row::Statement(StatementRow::While(ra, rb, rc)),
+        37 => Row::Note(ra, rb),
+        38 => Row::Statement(StatementRow::Assert(ra)),
+        48 => Row::Script(ra, rb, rc),
+        _ => Row::Unknown,
+    }
+}
+
+// Row r of a table, taken apart.
+pub fn row_at(table: &[i32], r: usize) -> Row
+    requires { ⌜ 4 * r + 3 < length (now table) ⌝ }
+    ensures { λ w. ⌜ w ≡ row (now (table .entry)) r ⌝ }
+{
+    let at = 4 * r;
+    let kind = table[at];
+    let a = table[at + 1];
+    let b = table[at + 2];
+    let c = table[at + 3];
+    row_of(field_number(kind), a, b, c)
+}
