@@ -8,6 +8,7 @@ pub mod Trees
 pub mod Refusals
 pub mod Generated
 pub mod Listing
+pub mod WellFormed
 pub mod Promise
 pub mod Scoping
 pub mod Substitution

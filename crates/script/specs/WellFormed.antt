@@ -1,0 +1,40 @@
+-- 01, "Reading a finished list", once more as it is worded: "A well-formed list has a count of 1 or more, at most 16,384
+-- words, that many trailers, each with a kind 1 to 4, a row from 0 to 2,047 and the true length of one whole formula;
+-- variables 0 to 255, marks 0 to 2,047; nothing left at the front." So it is the words of one or more conditions whose
+-- numbers are in range. Assumes nothing.
+use Prim.Native.Nat.{ℕ, _≤_, _<_}
+use mathlib.Core.Path.{_≡_}
+use mathlib.Core.List.{List, [], _∷_}
+use lib.IntN.{ℤ}
+use lib.ListN.{length}
+use Rattle.script.specs.Rows.{variables}
+use Rattle.script.specs.Syntax.{Expr, const, var, mark, arith, neg, choose, Formula, truth, cmp, not, join}
+use Rattle.script.specs.Conditions.{Condition}
+use Rattle.script.specs.Words.{list-words}
+use Rattle.script.specs.Listing.{row-limit}
+
+abbrev mutual
+  pub In-range : Expr → Type 0
+  In-range (const z) = Unit {0}
+  In-range (var v) = v < variables
+  In-range (mark m) = m < row-limit
+  In-range (arith o a b) = In-range a × In-range b
+  In-range (neg a) = In-range a
+  In-range (choose f a b) = In-rangeᶠ f × In-range a × In-range b
+
+  pub In-rangeᶠ : Formula → Type 0
+  In-rangeᶠ (truth b) = Unit {0}
+  In-rangeᶠ (cmp r a b) = In-range a × In-range b
+  In-rangeᶠ (not f) = In-rangeᶠ f
+  In-rangeᶠ (join c f g) = In-rangeᶠ f × In-rangeᶠ g
+
+abbrev pub All-in-range : List Condition → Type 0
+All-in-range [] = Unit {0}
+All-in-range (c ∷ cs) = (c .row < row-limit) × In-rangeᶠ (c .claim) × All-in-range cs
+
+-- ws is the list of the conditions cs
+pub record Well-formed (ws : List ℤ) (cs : List Condition) : Type 0 where
+  pub spells : list-words cs ≡ ws
+  pub short : length ws ≤ 16384
+  pub counted : 0 < length cs
+  pub ranges : All-in-range cs
