@@ -137,48 +137,43 @@ module _ (ws : List ℤ) where
   -- ---- 9: "a frozen name in a guard or assigned expression, or a mark where it may not stand (one whose row is no while
   -- stands nowhere); lowest such variable or mark row"
 
-  -- those rows at row r, which is w, and below it. `code`: r stands in a guard or an assigned expression; `inside`: the
-  -- loops in whose body it stands. "It may stand only in an annotation (assertion, invariant, variant) inside the body of
-  -- the loop it names. A loop's own note is not inside its body."
-  unfoldable pub misread : ℕ → Row → Bool → List ℕ → ℕ → List ℕ
-  misread zero w code inside r = []
-  misread (suc n) (Row.Expression (Constant z)) code inside r = []
-  misread (suc n) (Row.Expression (Variable v)) code inside r = cond (code && frozen (v .0)) (r ∷ []) []
-  misread (suc n) (Row.Expression (Arithmetic o a b)) code inside r =
-      misread n (row ws (a .0)) code inside (a .0) ++ misread n (row ws (b .0)) code inside (b .0)
-  misread (suc n) (Row.Expression (Negate a)) code inside r = misread n (row ws (a .0)) code inside (a .0)
-  misread (suc n) (Row.Expression (Mark m)) code inside r = cond (code || not (member (m .0) inside)) (r ∷ []) []
-  misread (suc n) (Row.Expression (Choose f a b)) code inside r =
-      misread n (row ws (f .0)) code inside (f .0)
-      ++ (misread n (row ws (a .0)) code inside (a .0) ++ misread n (row ws (b .0)) code inside (b .0))
-  misread (suc n) (Row.Formula True) code inside r = []
-  misread (suc n) (Row.Formula False) code inside r = []
-  misread (suc n) (Row.Formula (Comparison o a b)) code inside r =
-      misread n (row ws (a .0)) code inside (a .0) ++ misread n (row ws (b .0)) code inside (b .0)
-  misread (suc n) (Row.Formula (Not f)) code inside r = misread n (row ws (f .0)) code inside (f .0)
-  misread (suc n) (Row.Formula (Junction o f g)) code inside r =
-      misread n (row ws (f .0)) code inside (f .0) ++ misread n (row ws (g .0)) code inside (g .0)
-  misread (suc n) (Row.Statement Skip) code inside r = []
-  misread (suc n) (Row.Statement (Assign v e)) code inside r = misread n (row ws (e .0)) true inside (e .0)
-  misread (suc n) (Row.Statement (Sequence a b)) code inside r =
-      misread n (row ws (a .0)) false inside (a .0) ++ misread n (row ws (b .0)) false inside (b .0)
-  misread (suc n) (Row.Statement (If b x y)) code inside r =
-      misread n (row ws (b .0)) true inside (b .0)
-      ++ (misread n (row ws (x .0)) false inside (x .0) ++ misread n (row ws (y .0)) false inside (y .0))
-  misread (suc n) (Row.Statement (While b i x)) code inside r =
-      misread n (row ws (b .0)) true inside (b .0)
-      ++ (misread n (row ws (i .0)) false inside (i .0) ++ misread n (row ws (x .0)) false (r ∷ inside) (x .0))
-  misread (suc n) (Row.Statement (Assert f)) code inside r = misread n (row ws (f .0)) false inside (f .0)
-  misread (suc n) (Row.Note i v) code inside r =
-      misread n (row ws (i .0)) false inside (i .0) ++ misread n (row ws (v .0)) false inside (v .0)
-  misread (suc n) (Row.Script p s q) code inside r =
-      misread n (row ws (p .0)) false inside (p .0)
-      ++ (misread n (row ws (s .0)) false inside (s .0) ++ misread n (row ws (q .0)) false inside (q .0))
-  misread (suc n) Row.Unknown code inside r = []
+  -- those rows at row r and below, from those M at and below the rows that it links to. `code`: r stands in a guard or an
+  -- assigned expression; `inside`: the loops in whose body it stands. "It may stand only in an annotation (assertion,
+  -- invariant, variant) inside the body of the loop it names. A loop's own note is not inside its body."
+  abbrev pub misread-node : (Bool → List ℕ → ℕ → List ℕ) → Bool → List ℕ → ℕ → Row → List ℕ
+  misread-node M code inside r (Row.Expression (Constant z)) = []
+  misread-node M code inside r (Row.Expression (Variable v)) = cond (code && frozen (v .0)) (r ∷ []) []
+  misread-node M code inside r (Row.Expression (Arithmetic o a b)) = M code inside (a .0) ++ M code inside (b .0)
+  misread-node M code inside r (Row.Expression (Negate a)) = M code inside (a .0)
+  misread-node M code inside r (Row.Expression (Mark m)) = cond (code || not (member (m .0) inside)) (r ∷ []) []
+  misread-node M code inside r (Row.Expression (Choose f a b)) =
+      M code inside (f .0) ++ (M code inside (a .0) ++ M code inside (b .0))
+  misread-node M code inside r (Row.Formula True) = []
+  misread-node M code inside r (Row.Formula False) = []
+  misread-node M code inside r (Row.Formula (Comparison o a b)) = M code inside (a .0) ++ M code inside (b .0)
+  misread-node M code inside r (Row.Formula (Not f)) = M code inside (f .0)
+  misread-node M code inside r (Row.Formula (Junction o f g)) = M code inside (f .0) ++ M code inside (g .0)
+  misread-node M code inside r (Row.Statement Skip) = []
+  misread-node M code inside r (Row.Statement (Assign v e)) = M true inside (e .0)
+  misread-node M code inside r (Row.Statement (Sequence a b)) = M false inside (a .0) ++ M false inside (b .0)
+  misread-node M code inside r (Row.Statement (If b x y)) =
+      M true inside (b .0) ++ (M false inside (x .0) ++ M false inside (y .0))
+  misread-node M code inside r (Row.Statement (While b i x)) =
+      M true inside (b .0) ++ (M false inside (i .0) ++ M false (r ∷ inside) (x .0))
+  misread-node M code inside r (Row.Statement (Assert f)) = M false inside (f .0)
+  misread-node M code inside r (Row.Note i v) = M false inside (i .0) ++ M false inside (v .0)
+  misread-node M code inside r (Row.Script p s q) =
+      M false inside (p .0) ++ (M false inside (s .0) ++ M false inside (q .0))
+  misread-node M code inside r Row.Unknown = []
+
+  -- the first number bounds the depth
+  unfoldable pub misread : ℕ → Bool → List ℕ → ℕ → List ℕ
+  misread zero code inside r = []
+  misread (suc n) code inside r = misread-node (misread n) code inside r (row ws r)
 
   -- those of the whole script
   unfoldable pub misreads : List ℕ
-  misreads = misread (rows ws) (row ws (rows ws - 1)) false [] (rows ws - 1)
+  misreads = misread (rows ws) false [] (rows ws - 1)
 
   abbrev pub reading-fault : ℕ → ℕ
   reading-fault r = cond (member r misreads) 9 0
