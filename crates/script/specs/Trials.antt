@@ -41,12 +41,19 @@ example-a = example (2, 0, 0, 0) (4, 11, 12, 0) (33, 0, 13, 0)
 four-rows : List ℤ
 four-rows = (16, 0, 0, 0) ⨾ (32, 0, 0, 0) ⨾ (16, 0, 0, 0) ⨾ (48, 0, 1, 2) ⨾ []
 
--- true; if true then while true do skip (invariant true, variant 0) else while false do skip (true, 1); true: wrong turn 1
+-- true; if true then while true do skip (invariant true, variant 0) else while false do skip (true, 1); true
 loops-in-branches : List ℤ
 loops-in-branches =
     (16, 0, 0, 0) ⨾ (16, 0, 0, 0) ⨾ (16, 0, 0, 0) ⨾ (16, 0, 0, 0) ⨾ (1, 0, 0, 0) ⨾ (37, 3, 4, 0) ⨾ (32, 0, 0, 0) ⨾ (36, 2, 5, 6)
     ⨾ (17, 0, 0, 0) ⨾ (16, 0, 0, 0) ⨾ (1, 1, 0, 0) ⨾ (37, 9, 10, 0) ⨾ (32, 0, 0, 0) ⨾ (36, 8, 11, 12)
     ⨾ (35, 1, 7, 13) ⨾ (16, 0, 0, 0) ⨾ (48, 0, 14, 15) ⨾ []
+
+-- while false (true, 0) do skip, then while false (true, 1) do assert true: the second one's conditions come first
+loops-in-sequence : List ℤ
+loops-in-sequence =
+    (16, 0, 0, 0) ⨾ (17, 0, 0, 0) ⨾ (16, 0, 0, 0) ⨾ (1, 0, 0, 0) ⨾ (37, 2, 3, 0) ⨾ (32, 0, 0, 0) ⨾ (36, 1, 4, 5)
+    ⨾ (17, 0, 0, 0) ⨾ (16, 0, 0, 0) ⨾ (1, 1, 0, 0) ⨾ (37, 8, 9, 0) ⨾ (16, 0, 0, 0) ⨾ (38, 11, 0, 0) ⨾ (36, 7, 10, 12)
+    ⨾ (34, 6, 13, 0) ⨾ (16, 0, 0, 0) ⨾ (48, 0, 14, 15) ⨾ []
 
 -- the n branches below row 3 × n, each the then part of the next
 branches : ℕ → List ℤ
@@ -141,6 +148,14 @@ trials =
     ∷ 25 ∷ 23 ∷ 16 ∷ 17 ∷ 19 ∷ 1 ∷ 0 ∷ 1 ∷ 1 ∷ 2 ∷ 13 ∷ 9
     ∷ 25 ∷ 23 ∷ 23 ∷ 16 ∷ 17 ∷ 20 ∷ 1 ∷ 1 ∷ 9 ∷ 13 ∷ 23 ∷ 16 ∷ 18 ∷ 1 ∷ 1 ∷ 9 ∷ 13 ∷ 3 ∷ 13 ∷ 17
     ∷ 25 ∷ 16 ∷ 23 ∷ 25 ∷ 16 ∷ 16 ∷ 25 ∷ 22 ∷ 16 ∷ 16 ∷ 4 ∷ 16 ∷ 10 ∷ 7 ∷ [])
+    ∷ lists loops-in-sequence
+    (25 ∷ 23 ∷ 16 ∷ 22 ∷ 17 ∷ 16 ∷ 1 ∷ 13 ∷ 6
+    ∷ 25 ∷ 23 ∷ 16 ∷ 17 ∷ 19 ∷ 1 ∷ 0 ∷ 1 ∷ 1 ∷ 2 ∷ 13 ∷ 9
+    ∷ 25 ∷ 23 ∷ 23 ∷ 16 ∷ 17 ∷ 20 ∷ 1 ∷ 1 ∷ 9 ∷ 13 ∷ 23 ∷ 16 ∷ 23 ∷ 16 ∷ 18 ∷ 1 ∷ 1 ∷ 9 ∷ 13 ∷ 3 ∷ 13 ∷ 19
+    ∷ 25 ∷ 23 ∷ 16 ∷ 22 ∷ 17 ∷ 16 ∷ 1 ∷ 6 ∷ 6
+    ∷ 25 ∷ 23 ∷ 16 ∷ 17 ∷ 19 ∷ 1 ∷ 0 ∷ 1 ∷ 0 ∷ 2 ∷ 6 ∷ 9
+    ∷ 25 ∷ 23 ∷ 23 ∷ 16 ∷ 17 ∷ 20 ∷ 1 ∷ 0 ∷ 9 ∷ 6 ∷ 23 ∷ 16 ∷ 18 ∷ 1 ∷ 0 ∷ 9 ∷ 6 ∷ 3 ∷ 6 ∷ 17
+    ∷ 25 ∷ 16 ∷ 16 ∷ 4 ∷ 16 ∷ 3 ∷ 7 ∷ [])
     ∷ reads (numbers (25 ∷ 16 ∷ 16 ∷ 4 ∷ 3 ∷ 3 ∷ 1 ∷ [])) (pos 0) (record { number = 0; kind = 4; row = 3; start = 0; end = 3 })
     ∷ reads (numbers (25 ∷ 16 ∷ 16 ∷ 4 ∷ 3 ∷ 3 ∷ 1 ∷ [])) (pos 1) (no-line 21)
     ∷ reads (numbers (25 ∷ 16 ∷ 16 ∷ 4 ∷ 3 ∷ 3 ∷ 1 ∷ [])) (negsuc 0) (no-line 21)
@@ -149,5 +164,5 @@ trials =
     ∷ []
 
 trials-hold : map observed trials ≡ map expected trials
-unfolding trials observed expected numbers example example-a four-rows loops-in-branches branches nested _⨾_ outcome outcome-for verdict length-test row-test script-test loose-test target-test reading-test nesting-test lowest row-fault linked misread misreads row row-of expr formula stmt expr-at formula-at stmt-at tree nesting conditions walk wp subst-expr subst-formula list-words all-lines line-words expr-words formula-words read-expr read-formula spelled found line-before lines-before lines line-at
+unfolding trials observed expected numbers example example-a four-rows loops-in-branches loops-in-sequence branches nested _⨾_ outcome outcome-for verdict length-test row-test script-test loose-test target-test reading-test nesting-test lowest row-fault linked misread misreads row row-of expr formula stmt expr-at formula-at stmt-at tree nesting conditions walk wp subst-expr subst-formula list-words all-lines line-words expr-words formula-words read-expr read-formula spelled found line-before lines-before lines line-at
 trials-hold = refl
