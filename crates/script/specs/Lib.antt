@@ -10,8 +10,5 @@ pub mod Generated
 pub mod Listing
 pub mod WellFormed
 pub mod Promise
-pub mod Trials
-pub mod Scoping
-pub mod Substitution
-pub mod Sound
+pub mod Computed
 pub mod Laws

@@ -5,10 +5,16 @@ use mathlib.Core.Path.{_≡_, refl}
 use mathlib.Core.Bool.{Bool, true, false}
 use mathlib.Core.List.{List, [], _∷_, _++_, map}
 use lib.IntN.{ℤ, pos, negsuc}
-use lib.ListN.{length, take}
+use lib.Dec.{lit≤}
+use lib.ListN.{take}
 use Rattle.script.specs.declared.Answer.{Answer}
 use Rattle.script.specs.declared.Line.{Line}
-use Rattle.script.specs.Meaning.{divZ, modZ}
+use Rattle.script.specs.Syntax.{const, var, arith, truth, cmp, assign, loop, Tree}
+use Rattle.script.specs.declared.Operator.the-variants.{Minus}
+use Rattle.script.specs.declared.Relation.the-variants.{AtMost}
+use Rattle.script.specs.Meaning.{State, divZ, modZ, whole, value, holds}
+use Rattle.script.specs.Run.{Frame, begin, again, Config, at, failed, first-step, step-of, step, after, start, Good}
+use Rattle.script.specs.Run as Run
 use Rattle.script.specs.Conditions.{conditions, walk, wp, subst-expr, subst-formula}
 use Rattle.script.specs.Words.{list-words, all-lines, line-words, expr-words, formula-words}
 use Rattle.script.specs.Rows.{row, row-of}
@@ -166,3 +172,34 @@ trials =
 trials-hold : map observed trials ≡ map expected trials
 unfolding trials observed expected numbers example example-a four-rows loops-in-branches loops-in-sequence branches nested _⨾_ outcome outcome-for verdict length-test row-test script-test loose-test target-test reading-test nesting-test lowest row-fault linked misread misreads row row-of expr formula stmt expr-at formula-at stmt-at tree nesting conditions walk wp subst-expr subst-formula list-words all-lines line-words expr-words formula-words read-expr read-formula spelled found line-before lines-before lines line-at
 trials-hold = refl
+
+-- ---- "With guard 0 ≤ x, variant x and body x := x − 1, a start at 0 makes one pass."
+
+counting-down : Tree
+counting-down = record {
+  pre = truth true;
+  body = loop 0 (cmp AtMost (const (pos 0)) (var 0)) (truth true) (var 0) (assign 0 (arith Minus (var 0) (const (pos 1))));
+  post = truth true;
+  row = 1;
+}
+
+zero-state : State
+zero-state = record { var = λ v. pos 0; mark = λ m. pos 0 }
+
+-- how often the bodies of the loops that a run is in were begun
+passes : List Frame → List ℕ
+passes [] = []
+passes (begin x ∷ k) = passes k
+passes (again m b v x v₀ n ∷ k) = n ∷ passes k
+
+begun : Config → List ℕ
+begun (at k s) = passes k
+begun failed = []
+
+moment : ℕ → Config
+moment n = after whole n (start counting-down zero-state)
+
+-- the first step begins the body, which the bound allows; the third leaves the loop
+one-pass : Good (moment 1) × (begun (moment 1) ≡ 1 ∷ []) × (begun (moment 3) ≡ [])
+unfolding moment counting-down zero-state passes begun after step step-of first-step Run.test value holds
+one-pass = ((lit≤ tt, tt), refl, refl)

@@ -6,11 +6,11 @@ use mathlib.Core.Bool.{Bool, true, false, cond}
 use mathlib.Core.Bool as Bool
 use lib.IntN.{ℤ}
 use lib.Dec.{T, eqb}
 use Rattle.script.specs.Syntax.{Expr, const, var, mark, arith, neg, choose, Formula, truth, cmp, not, join}
 use Rattle.script.specs.Meaning.{Arithmetic, State, value, holds, relate, connect}
 use Rattle.script.specs.Run.{put, set-var, set-mark}
 use Rattle.script.specs.Conditions.{subst-expr, subst-formula}
-use Rattle.script.specs.Scoping.{Mark-free, Mark-freeᶠ}
+use Rattle.theorems.specs.Scoping.{Mark-free, Mark-freeᶠ}
 
 ap₃ : {b b′ : Bool} {x x′ y y′ : ℤ} → b ≡ b′ → x ≡ x′ → y ≡ y′ → cond b x y ≡ cond b′ x′ y′
 ap₃ p q r = λ i. cond (p i) (q i) (r i)

@@ -13,15 +13,15 @@ use mathlib.Core.Bool as Bool
 use lib.IntN.{ℤ, pos, negsuc}
 use lib.Signed.{ltZ, leZ}
 use lib.Dec.{T, eqb, eqb→eq, eqb-refl, ltb→lt, lt→ltb}
 use Rattle.script.specs.Syntax.{Expr, const, mark, Formula, cmp, not, join, Stmt, skip, assign, seq, branch, loop, assert, Tree}
 use Rattle.script.specs.declared.Relation.the-variants.{Less, AtMost, Equal}
 use Rattle.script.specs.declared.Connective.the-variants.{And, Implies}
 use Rattle.script.specs.Meaning.{Arithmetic, State, value, holds, eqZ}
 use Rattle.script.specs.Run.{put, set-var, set-mark, Frame, begin, again, Config, at, failed, test, first-step, step-of, step, after, start, Bounded, Passes-bounded, Good, Total-correctness}
 use Rattle.script.specs.Conditions.{decreased, wp, Condition, walk, conditions}
 use Rattle.script.specs.Promise.{Valid, All-valid}
-use Rattle.script.specs.Scoping.{Mark-free, Mark-freeᶠ, Loops-below, Well-scoped}
-use Rattle.script.specs.Substitution.{substᶠ, mark-free, mark-freeᶠ}
+use Rattle.theorems.specs.Scoping.{Mark-free, Mark-freeᶠ, Loops-below, Well-scoped}
+use Rattle.theorems.specs.Substitution.{substᶠ, mark-free, mark-freeᶠ}
 
 module _ (𝔸 : Arithmetic) where
   all-left : (xs ys : List Condition) → All-valid 𝔸 (xs ++ ys) → All-valid 𝔸 xs
