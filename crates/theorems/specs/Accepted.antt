@@ -18,6 +18,7 @@ use Rattle.script.specs.declared.Row.the-variants as Row
 use Rattle.script.specs.declared.Sort.the-variants.{Script, Unknown}
 use Rattle.script.specs.Rows.{row, rows, fields, parts, sort-of}
 use Rattle.script.specs.Trees.{tree, nesting}
+pub use Rattle.theorems.specs.Truths.{both}
 use Rattle.script.specs.Refusals.{Verdict, accepted, refused, _and-then_, lowest, member, bad-length, same-sort, in-range, unused-zero, all-below, well-sorted, all-new, linked, row-fault, loose-fault, assigns-frozen, target-fault, misreads, reading-fault, length-test, row-test, script-test, loose-test, target-test, reading-test, nesting-test, verdict}
 
 pub record Accepted (t : List ℤ) : Type 0 where
@@ -81,10 +82,6 @@ absent false k h = tt
 present : (b : Bool) (k : ℕ) → cond b 0 (suc k) ≡ 0 → T b
 present true k h = tt
 present false k h = absurd (omega linear)
-
-pub both : (a b : Bool) → T (a && b) → T a × T b
-both true b h = (tt, h)
-both false b h = absurd h
 
 record Sound-row (t : List ℤ) (k : ℕ) : Type 0 where
   pub ranges : T (in-range t (fields (row t k)) && unused-zero t k (length (fields (row t k))))

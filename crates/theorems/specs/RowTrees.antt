@@ -76,7 +76,8 @@ module _ (t : List ℤ) (E E′ : ℕ → Expr) (F F′ : ℕ → Formula) (r : 
   formula-same Row.Unknown l = refl
 
   -- the note stands at row i
-  loop-same : (q i : ℕ) (b : Formula) (w : Row) (x : Stmt) → i ≤ r → T (all-below t i (parts w)) → loop-node E F q b w x ≡ loop-node E′ F′ q b w x
+  loop-same : (q i : ℕ) (b : Formula) (w : Row) (x : Stmt) → i ≤ r → T (all-below t i (parts w))
+      → loop-node E F q b w x ≡ loop-node E′ F′ q b w x
   loop-same q i b (Row.Note f v) x h l =
       let d = lower₂ (f .0) (v .0) i l in
       rw (fs (f .0) (omega linear), es (v .0) (omega linear))
@@ -98,7 +99,8 @@ module _ (t : List ℤ) (E E′ : ℕ → Expr) (F F′ : ℕ → Formula) (r : 
       rw (fs (b .0) (d .0), ss (x .0) (d .1 .0), ss (y .0) (d .1 .1))
   stmt-same S S′ ss low (Row.Statement (While b i x)) l =
       let d = lower₃ (b .0) (i .0) (x .0) r l in
-      rw (fs (b .0) (d .0), ss (x .0) (d .1 .1)) (loop-same r (i .0) (F′ (b .0)) (row t (i .0)) (S′ (x .0)) (omega linear) (low (i .0) (d .1 .0)))
+      rw (fs (b .0) (d .0), ss (x .0) (d .1 .1))
+      (loop-same r (i .0) (F′ (b .0)) (row t (i .0)) (S′ (x .0)) (omega linear) (low (i .0) (d .1 .0)))
   stmt-same S S′ ss low (Row.Statement (Assert f)) l = rw (fs (f .0) (lower₁ (f .0) r l))
   stmt-same S S′ ss low (Row.Expression w) l = refl
   stmt-same S S′ ss low (Row.Formula w) l = refl
@@ -118,36 +120,62 @@ module _ (t : List ℤ) (ok : Accepted t) where
     pub stmts : (r : ℕ) → r < n → r < m → r < rows t → stmt t n r ≡ stmt t m r
 
   -- trees at the bounds suc n and suc m are nodes over trees at n and m
-  next-steady : (n m : ℕ) → Steady n m → Steady (suc n) (suc m)
-  unfolding expr stmt
-  next-steady n m s = record {
-    exprs = λ r h k g. expr-same t (expr t n) (expr t m) (formula t n) (formula t m) r (es r h k g) (fs r h k g) (row t r) (ok .ordered r g);
-    formulas = λ r h k g. formula-same t (expr t n) (expr t m) (formula t n) (formula t m) r (es r h k g) (fs r h k g) (row t r) (ok .ordered r g);
-    stmts = λ r h k g. stmt-same t (expr t n) (expr t m) (formula t n) (formula t m) r (es r h k g) (fs r h k g) (stmt t n) (stmt t m) (ss r h k g) (λ i l. ok .ordered i (omega linear)) (row t r) (ok .ordered r g);
-  }
-    where
-      es : (r : ℕ) → r < suc n → r < suc m → r < rows t → Agree (expr t n) (expr t m) r
-      es r h k g i l = s .exprs i (omega linear) (omega linear) (omega linear)
+  module _ (n m : ℕ) (s : Steady n m) (r : ℕ) (h : r < suc n) (k : r < suc m) (g : r < rows t) where
+    es : Agree (expr t n) (expr t m) r
+    es i l = s .exprs i (omega linear) (omega linear) (omega linear)
 
-      fs : (r : ℕ) → r < suc n → r < suc m → r < rows t → Agree (formula t n) (formula t m) r
-      fs r h k g i l = s .formulas i (omega linear) (omega linear) (omega linear)
+    fs : Agree (formula t n) (formula t m) r
+    fs i l = s .formulas i (omega linear) (omega linear) (omega linear)
 
-      ss : (r : ℕ) → r < suc n → r < suc m → r < rows t → Agree (stmt t n) (stmt t m) r
-      ss r h k g i l = s .stmts i (omega linear) (omega linear) (omega linear)
+    ss : Agree (stmt t n) (stmt t m) r
+    ss i l = s .stmts i (omega linear) (omega linear) (omega linear)
+
+    low : (i : ℕ) → i < r → T (all-below t i (parts (row t i)))
+    low i l = ok .ordered i (omega linear)
+
+    next-expr : expr t (suc n) r ≡ expr t (suc m) r
+    unfolding expr
+    next-expr = expr-same t (expr t n) (expr t m) (formula t n) (formula t m) r es fs (row t r) (ok .ordered r g)
+
+    next-formula : formula t (suc n) r ≡ formula t (suc m) r
+    unfolding expr
+    next-formula = formula-same t (expr t n) (expr t m) (formula t n) (formula t m) r es fs (row t r) (ok .ordered r g)
+
+    next-stmt : stmt t (suc n) r ≡ stmt t (suc m) r
+    unfolding stmt
+    next-stmt =
+        stmt-same t (expr t n) (expr t m) (formula t n) (formula t m) r es fs (stmt t n) (stmt t m) ss low (row t r)
+        (ok .ordered r g)
 
   steady : (n m : ℕ) → Steady n m
-  steady zero m = record { exprs = λ r h. absurd (none h); formulas = λ r h. absurd (none h); stmts = λ r h. absurd (none h) }
-  steady (suc n) zero = record { exprs = λ r h k. absurd (none k); formulas = λ r h k. absurd (none k); stmts = λ r h k. absurd (none k) }
-  steady (suc n) (suc m) = next-steady n m (steady n m)
+  steady zero m = record {
+    exprs = λ r h. absurd (none h);
+    formulas = λ r h. absurd (none h);
+    stmts = λ r h. absurd (none h);
+  }
+  steady (suc n) zero = record {
+    exprs = λ r h k. absurd (none k);
+    formulas = λ r h k. absurd (none k);
+    stmts = λ r h k. absurd (none k);
+  }
+  steady (suc n) (suc m) = record {
+    exprs = next-expr n m (steady n m);
+    formulas = next-formula n m (steady n m);
+    stmts = next-stmt n m (steady n m);
+  }
 
   -- ---- the trees at a row number
 
   -- the node over the trees at a bound is the tree at the next: bridged to the bound that `expr-at` has
-  to-at : (n : ℕ) → suc n ≡ rows t → (r : ℕ) → r < rows t → Agree (expr t n) (expr-at t) r × Agree (formula t n) (formula-at t) r × Agree (stmt t n) (stmt-at t) r
+  to-at : (n : ℕ) → suc n ≡ rows t → (r : ℕ) → r < rows t
+      → Agree (expr t n) (expr-at t) r × Agree (formula t n) (formula-at t) r × Agree (stmt t n) (stmt-at t) r
   unfolding expr-at formula-at stmt-at
   to-at n e r h =
-      let s = steady n (rows t) in
-      (λ k l. s .exprs k (omega linear) (omega linear) (omega linear), λ k l. s .formulas k (omega linear) (omega linear) (omega linear), λ k l. s .stmts k (omega linear) (omega linear) (omega linear))
+      let s = steady n (rows t) in (
+        λ k l. s .exprs k (omega linear) (omega linear) (omega linear),
+        λ k l. s .formulas k (omega linear) (omega linear) (omega linear),
+        λ k l. s .stmts k (omega linear) (omega linear) (omega linear),
+      )
 
   expr-by : (n : ℕ) → n ≡ rows t → (r : ℕ) → r < rows t → expr t n r ≡ expr-node (expr-at t) (formula-at t) (row t r)
   unfolding expr
@@ -163,12 +191,14 @@ module _ (t : List ℤ) (ok : Accepted t) where
       let a = to-at n e r h in
       formula-same t (expr t n) (expr-at t) (formula t n) (formula-at t) r (a .0) (a .1) (row t r) (ok .ordered r h)
 
-  stmt-by : (n : ℕ) → n ≡ rows t → (r : ℕ) → r < rows t → stmt t n r ≡ stmt-node (expr-at t) (formula-at t) (stmt-at t) (row t) r (row t r)
+  stmt-by : (n : ℕ) → n ≡ rows t → (r : ℕ) → r < rows t
+      → stmt t n r ≡ stmt-node (expr-at t) (formula-at t) (stmt-at t) (row t) r (row t r)
   unfolding stmt
   stmt-by zero e r h = absurd (omega linear)
   stmt-by (suc n) e r h =
       let a = to-at n e r h in
-      stmt-same t (expr t n) (expr-at t) (formula t n) (formula-at t) r (a .0) (a .1) (stmt t n) (stmt-at t) (a .2) (λ i l. ok .ordered i (omega linear)) (row t r) (ok .ordered r h)
+      stmt-same t (expr t n) (expr-at t) (formula t n) (formula-at t) r (a .0) (a .1) (stmt t n) (stmt-at t) (a .2)
+      (λ i l. ok .ordered i (omega linear)) (row t r) (ok .ordered r h)
 
   pub expr-is : (r : ℕ) {w : Row} → r < rows t → row t r ≡ w → expr-at t r ≡ expr-node (expr-at t) (formula-at t) w
   unfolding expr-at
@@ -178,10 +208,12 @@ module _ (t : List ℤ) (ok : Accepted t) where
   unfolding formula-at
   formula-is r h e = formula-by (rows t) refl r h ∙ ap (formula-node (expr-at t) (formula-at t)) e
 
-  pub stmt-is : (r : ℕ) {w : Row} → r < rows t → row t r ≡ w → stmt-at t r ≡ stmt-node (expr-at t) (formula-at t) (stmt-at t) (row t) r w
+  pub stmt-is : (r : ℕ) {w : Row} → r < rows t → row t r ≡ w
+      → stmt-at t r ≡ stmt-node (expr-at t) (formula-at t) (stmt-at t) (row t) r w
   unfolding stmt-at
   stmt-is r h e = stmt-by (rows t) refl r h ∙ ap (stmt-node (expr-at t) (formula-at t) (stmt-at t) (row t) r) e
 
-pub tree-is : (t : List ℤ) {w : Row} → row t (rows t - 1) ≡ w → tree t ≡ script-node (expr-at t) (formula-at t) (stmt-at t) (rows t - 1) w
+pub tree-is : (t : List ℤ) {w : Row} → row t (rows t - 1) ≡ w
+    → tree t ≡ script-node (expr-at t) (formula-at t) (stmt-at t) (rows t - 1) w
 unfolding tree
 tree-is t e = ap (script-node (expr-at t) (formula-at t) (stmt-at t) (rows t - 1)) e
