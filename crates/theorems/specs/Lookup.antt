@@ -1,0 +1,156 @@
+-- What is answered at an index, and to the reader that walks back.
+-- In a well-formed list each condition is found again at its index (`line-at-index`), with its formula as the part where it
+-- stands (`part-at-index`); other indices give 21, and torn words give 20. Walking back gives the lines from the last to
+-- the first, then 21 (`walk-back-list`); on a torn list every step gives 20. Assumes nothing.
+use Prim.Native.Nat.{ℕ, zero, suc, _+_, _-_, _≤_, _<_}
+use mathlib.Core.Path.{_≡_, refl, sym, ap, _∙_, subst}
+use mathlib.Core.Option.{none, some}
+use mathlib.Core.List.{List, [], _∷_, _++_, map, reverse, append-assoc, map-append, reverse-append}
+use native.Mathlib.Nat.{zero-add, add-zero}
+use native.Mathlib.Omega.{arith as linear}
+use lib.IntN.{ℤ, pos, negsuc}
+use lib.ListN.{length, take, drop, getElem?, replicate, length-append}
+use Rattle.script.specs.declared.Line.{Line}
+use Rattle.script.specs.Conditions.{Condition}
+use Rattle.script.specs.Words.{formula-words, trailer, line-words, all-lines, list-words}
+use Rattle.script.specs.WellFormed.{Well-formed}
+use Rattle.script.specs.Listing.{Found, line-before, lines-before, lines, read-list}
+use Rattle.script.specs.Listing.{no-line, line, line-of, line-at, part-at, torn, first-place, step-back, next-place}
+use Rattle.theorems.specs.Options.{none-is-not, some-inj, went-on, stopped}
+use Rattle.theorems.specs.Line.{place, slice-part}
+use Rattle.theorems.specs.ReadBack.{places, conditions-of, lines-written, tested}
+
+-- ---- the line at an index
+
+-- an index below the count is that of a condition
+pub condition-at : (cs : List Condition) (i : ℕ) → i < length cs → (c : Condition) × (getElem? cs i ≡ some c)
+condition-at [] i h = absurd (omega linear)
+condition-at (c ∷ cs) zero h = (c, refl)
+condition-at (c ∷ cs) (suc i) h = condition-at cs i (omega linear)
+
+place-at : (cs : List Condition) (s i : ℕ) (c : Condition) → getElem? cs i ≡ some c
+    → getElem? (places s cs) i ≡ some (place (s + length (all-lines (take i cs))) c)
+unfolding all-lines
+place-at [] s i c q = none-is-not q
+place-at (d ∷ cs) s zero c q = rw (add-zero s) (ap (λ x. some (place s x)) (some-inj q))
+place-at (d ∷ cs) s (suc i) c q =
+    let first = line-words d in
+    let before = all-lines (take i cs) in
+    let start : s + length first + length before ≡ s + length (first ++ before) = omega (linear, length-append first before) in
+    rw (← start) (place-at cs (s + length first) i c q)
+
+none-past : (cs : List Condition) (s i : ℕ) → length cs ≤ i → getElem? (places s cs) i ≡ none
+none-past [] s i h = refl
+none-past (c ∷ cs) s zero h = absurd (omega linear)
+none-past (c ∷ cs) s (suc i) h = none-past cs (s + length (line-words c)) i (omega linear)
+
+read-at : (ws : List ℤ) (cs : List Condition) → Well-formed ws cs → (i : ℤ) → line-at ws i ≡ line-of (places 0 cs) i
+unfolding line-at
+read-at ws cs w i = rw (lines-written ws cs w, line-at)
+
+-- "For index i from the front it gives number 0, kind, row and the formula as the part of the caller's words where it
+-- stands": c is the condition at index i, and its formula begins where the lines of the conditions before it end
+pub line-at-index : (ws : List ℤ) (cs : List Condition) → Well-formed ws cs → (i : ℕ) (c : Condition) → getElem? cs i ≡ some c
+    → line-at ws (pos i) ≡ line (place (length (all-lines (take i cs))) c)
+line-at-index ws cs w i c q =
+    let s = length (all-lines (take i cs)) in
+    let found : getElem? (places 0 cs) i ≡ some (place s c) = rw (zero-add s) at (place-at cs 0 i c q) in
+    read-at ws cs w (pos i) ∙ rw (found, line-of)
+
+-- 21: "index negative or not below the count"
+pub line-at-past : (ws : List ℤ) (cs : List Condition) → Well-formed ws cs → (i : ℕ) → length cs ≤ i → line-at ws (pos i) ≡ no-line 21
+line-at-past ws cs w i h = read-at ws cs w (pos i) ∙ rw (none-past cs 0 i h, line-of)
+
+pub line-at-negative : (ws : List ℤ) (cs : List Condition) → Well-formed ws cs → (i : ℕ) → line-at ws (negsuc i) ≡ no-line 21
+line-at-negative ws cs w i = read-at ws cs w (negsuc i)
+
+-- 20: "the words are not a list, all read"
+pub line-at-torn : (ws : List ℤ) → read-list ws ≡ none → (i : ℤ) → line-at ws i ≡ no-line 20
+unfolding line-at read-list
+line-at-torn ws q i = rw (stopped (lines ws) conditions-of q, line-at)
+
+-- the line of the condition at index i stands after the lines of those before it
+split-lines : (cs : List Condition) (i : ℕ) (c : Condition) → getElem? cs i ≡ some c
+    → all-lines (take i cs) ++ (line-words c ++ all-lines (drop (suc i) cs)) ≡ all-lines cs
+unfolding all-lines
+split-lines [] i c q = none-is-not q
+split-lines (d ∷ cs) zero c q = ap (λ x. line-words x ++ all-lines cs) (sym (some-inj q))
+split-lines (d ∷ cs) (suc i) c q = append-assoc (line-words d) _ _ ∙ ap (λ l. line-words d ++ l) (split-lines cs i c q)
+
+regroup : (a b c d e : List ℤ) → (a ++ ((b ++ c) ++ d)) ++ e ≡ a ++ (b ++ (c ++ (d ++ e)))
+regroup a b c d e = simp append-assoc
+
+pub part-at-index : (ws : List ℤ) (cs : List Condition) → Well-formed ws cs → (i : ℕ) (c : Condition) → getElem? cs i ≡ some c
+    → part-at ws (pos i) ≡ formula-words (c .claim)
+unfolding list-words line-words
+part-at-index ws cs w i c q =
+    let before = all-lines (take i cs) in
+    let part = formula-words (c .claim) in
+    let last = pos (length cs) ∷ [] in
+    let after = all-lines (drop (suc i) cs) in
+    let grouped = regroup before part (trailer c) after last in
+    let whole = sym grouped ∙ ap (λ l. l ++ last) (split-lines cs i c q) ∙ w .spells in
+    rw (line-at-index ws cs w i c q, ← whole) (slice-part before part (trailer c ++ (after ++ last)))
+
+-- ---- the reader that walks back
+
+-- the answers of n steps, the first one from place e
+unfoldable pub walk-back : List ℤ → ℕ → ℕ → List Line
+walk-back ws zero e = []
+walk-back ws (suc n) e = step-back ws e ∷ walk-back ws n (next-place ws e)
+
+-- no condition ends at 0 or at 1: the reader stays there, and gives the same answer again
+none-at-front : (ws : List ℤ) → line-before ws 0 ≡ none
+unfolding line-before
+none-at-front ws = refl
+
+stays-at-front : (ws : List ℤ) (n : ℕ) → walk-back ws n 0 ≡ replicate n (no-line 21)
+unfolding walk-back step-back next-place line-before
+stays-at-front ws zero = refl
+stays-at-front ws (suc n) = ap (λ l. no-line 21 ∷ l) (stays-at-front ws n)
+
+stays-torn : (ws : List ℤ) (n : ℕ) → walk-back ws n torn ≡ replicate n (no-line 20)
+unfolding walk-back step-back next-place line-before
+stays-torn ws zero = refl
+stays-torn ws (suc n) = ap (λ l. no-line 20 ∷ l) (stays-torn ws n)
+
+one-step : (ws : List ℤ) (n e : ℕ) (f : Found) → line-before ws e ≡ some f
+    → walk-back ws (suc n) e ≡ line f ∷ walk-back ws n (f .start)
+unfolding walk-back step-back next-place
+one-step ws n zero f q = none-is-not (sym (none-at-front ws) ∙ q)
+one-step ws n (suc e) f q = rw (q, step-back, next-place)
+
+-- from e on, the first steps give the lines of fs, last one first, and the n others go on from the front
+abbrev Walked : List ℤ → ℕ → ℕ → List Found → Type 0
+Walked ws n e fs = walk-back ws (length fs + n) e ≡ reverse (map line fs) ++ walk-back ws n 0
+
+one-back : (ws : List ℤ) (n e : ℕ) (f : Found) (fs : List Found) → line-before ws e ≡ some f → Walked ws n (f .start) fs
+    → Walked ws n e (fs ++ (f ∷ []))
+one-back ws n e f fs p h =
+    let steps : length (fs ++ (f ∷ [])) + n ≡ suc (length fs + n) = omega (linear, length-append fs (f ∷ [])) in
+    let answers = map-append line fs (f ∷ []) in
+    rw (steps, answers, reverse-append (map line fs) (line f ∷ []), one-step ws (length fs + n) e f p, h)
+
+walked : (ws : List ℤ) (m n e : ℕ) (fs : List Found) → lines-before ws m e ≡ some fs → Walked ws n e fs
+unfolding lines-before
+walked ws zero n zero fs q = subst (λ x. Walked ws n 0 x) (some-inj q) (rw (zero-add n))
+walked ws zero n (suc e) fs q = none-is-not q
+walked ws (suc m) n e fs q =
+    let last = went-on (line-before ws e) _ q in
+    let front = went-on (lines-before ws m (last .0 .start)) _ (last .2) in
+    let before = walked ws m n (last .0 .start) (front .0) (front .1) in
+    subst (λ x. Walked ws n e x) (some-inj (front .2)) (one-back ws n e (last .0) (front .0) (last .1) before)
+
+first-is : (ws : List ℤ) (fs : List Found) → lines ws ≡ some fs → first-place ws ≡ length ws - 1
+unfolding first-place
+first-is ws fs q = rw (q, first-place)
+
+pub walk-back-list : (ws : List ℤ) (fs : List Found) (n : ℕ) → lines ws ≡ some fs
+    → walk-back ws (length fs + n) (first-place ws) ≡ reverse (map line fs) ++ replicate n (no-line 21)
+walk-back-list ws fs n q =
+    let t = tested ws fs q in
+    rw (first-is ws fs q, walked ws (t .count) n (length ws - 1) fs (t .read), stays-at-front ws n)
+
+pub walk-back-torn : (ws : List ℤ) (n : ℕ) → lines ws ≡ none → walk-back ws n (first-place ws) ≡ replicate n (no-line 20)
+unfolding first-place
+walk-back-torn ws n q = rw (q, first-place) (stays-torn ws n)

@@ -1,0 +1,87 @@
+-- The conditions of a tree whose numbers are in range have theirs in range: `conditions-in-range`.
+-- Argument: substitution, W and the walk put in no number but those of the tree; each by induction. Assumes nothing.
+use Prim.Native.Nat.{ℕ, _<_}
+use mathlib.Core.Bool.{Bool, true, false, cond}
+use mathlib.Core.List.{List, [], _∷_, _++_}
+use lib.Dec.{eqb}
+use Rattle.script.specs.Syntax.{Expr, const, var, mark, arith, neg, choose, Formula, truth, cmp, not, join, Stmt, skip, assign, seq, branch, loop, assert, Tree}
+use Rattle.script.specs.declared.Rule.the-variants.{Step}
+use Rattle.script.specs.Conditions.{subst-expr, subst-formula, wp, Condition, condition, decreased, step, walk, conditions}
+use Rattle.script.specs.Listing.{row-limit}
+use Rattle.script.specs.WellFormed.{In-range, In-rangeᶠ, All-in-range}
+
+chosen : (b : Bool) (e a : Expr) → In-range e → In-range a → In-range (cond b e a)
+chosen true e a h k = h
+chosen false e a h k = k
+
+module _ (v : ℕ) (e : Expr) (h : In-range e) where
+  mutual
+    unfolding subst-expr
+
+    subst-in-range : (a : Expr) → In-range a → In-range (subst-expr v e a)
+    subst-in-range (const z) k = tt
+    subst-in-range (var w) k = chosen (eqb w v) e (var w) h k
+    subst-in-range (mark m) k = k
+    subst-in-range (arith o a b) k = (subst-in-range a (k .0), subst-in-range b (k .1))
+    subst-in-range (neg a) k = subst-in-range a k
+    subst-in-range (choose f a b) k = (subst-in-rangeᶠ f (k .0), subst-in-range a (k .1), subst-in-range b (k .2))
+
+    subst-in-rangeᶠ : (f : Formula) → In-rangeᶠ f → In-rangeᶠ (subst-formula v e f)
+    subst-in-rangeᶠ (truth b) k = tt
+    subst-in-rangeᶠ (cmp r a b) k = (subst-in-range a (k .0), subst-in-range b (k .1))
+    subst-in-rangeᶠ (not f) k = subst-in-rangeᶠ f k
+    subst-in-rangeᶠ (join c f g) k = (subst-in-rangeᶠ f (k .0), subst-in-rangeᶠ g (k .1))
+
+-- what a statement gives to conditions is in range
+abbrev pub In-rangeˢ : Stmt → Type 0
+In-rangeˢ skip = Unit {0}
+In-rangeˢ (assign v e) = In-range e
+In-rangeˢ (seq a b) = In-rangeˢ a × In-rangeˢ b
+In-rangeˢ (branch b x y) = In-rangeᶠ b × In-rangeˢ x × In-rangeˢ y
+In-rangeˢ (loop m b i v x) = (m < row-limit) × In-rangeᶠ b × In-rangeᶠ i × In-range v × In-rangeˢ x
+In-rangeˢ (assert a) = In-rangeᶠ a
+
+wp-in-range : (s : Stmt) (q : Formula) → In-rangeˢ s → In-rangeᶠ q → In-rangeᶠ (wp s q)
+unfolding wp
+wp-in-range skip q h k = k
+wp-in-range (assign v e) q h k = subst-in-rangeᶠ v e h q k
+wp-in-range (seq a b) q h k = wp-in-range a (wp b q) (h .0) (wp-in-range b q (h .1) k)
+wp-in-range (branch b x y) q h k = ((h .0, wp-in-range x q (h .1) k), (h .0, wp-in-range y q (h .2) k))
+wp-in-range (loop m b i v x) q h k = h .2
+wp-in-range (assert a) q h k = (h, k)
+
+all-append : (cs ds : List Condition) → All-in-range cs → All-in-range ds → All-in-range (cs ++ ds)
+all-append [] ds h k = k
+all-append (c ∷ cs) ds h k = (h .0, h .1, all-append cs ds (h .2) k)
+
+walk-in-range : (s : Stmt) (q : Formula) → In-rangeˢ s → In-rangeᶠ q → All-in-range (walk s q)
+unfolding walk
+walk-in-range skip q h k = tt
+walk-in-range (assign v e) q h k = tt
+walk-in-range (seq a b) q h k =
+    all-append (walk b q) (walk a (wp b q)) (walk-in-range b q (h .1) k) (walk-in-range a (wp b q) (h .0) (wp-in-range b q (h .1) k))
+walk-in-range (branch b x y) q h k = all-append (walk x q) (walk y q) (walk-in-range x q (h .1) k) (walk-in-range y q (h .2) k)
+walk-in-range (loop m b i v x) q h k =
+    let guard = h .1 in
+    let invariant = h .2 in
+    let variant = h .3 in
+    let after : In-rangeᶠ (decreased m i v) = (invariant, (variant, h .0)) in
+    let body = walk-in-range x (decreased m i v) (h .4) after in
+    let last : All-in-range (condition Step m (step m b i v x) ∷ []) =
+    (h .0, (((invariant, guard), (variant, h .0)), wp-in-range x (decreased m i v) (h .4) after), tt) in
+    let rest = all-append (walk x (decreased m i v)) (condition Step m (step m b i v x) ∷ []) body last in
+    (h .0, ((invariant, guard), k), (h .0, ((invariant, guard), (tt, variant)), rest))
+walk-in-range (assert a) q h k = tt
+
+-- the parts of a whole tree
+pub record In-rangeᵗ (t : Tree) : Type 0 where
+  pub pre : In-rangeᶠ (t .pre)
+  pub body : In-rangeˢ (t .body)
+  pub post : In-rangeᶠ (t .post)
+  pub row : t .row < row-limit
+
+pub conditions-in-range : (t : Tree) → In-rangeᵗ t → All-in-range (conditions t)
+unfolding conditions
+conditions-in-range t h =
+    all-append (walk (t .body) (t .post)) _ (walk-in-range (t .body) (t .post) (h .body) (h .post))
+    (h .row, (h .pre, wp-in-range (t .body) (t .post) (h .body) (h .post)), tt)
