@@ -2,12 +2,11 @@
 -- once, the last is a script, numbers are in range, names stand where they may, and the nesting is at most 8.
 -- `passed` takes the verdict apart, test by test. Assumes nothing.
 use Prim.Native.Nat.{ℕ, zero, suc, _+_, _*_, _/_, _%_, _-_, _≤_, _<_}
-use mathlib.Core.Path.{_≡_, refl, sym, ap, _∙_}
-use mathlib.Core.Logic.{_≢_, _⊎_, ⊎-elim}
+use mathlib.Core.Path.{_≡_, refl}
+use mathlib.Core.Logic.{_≢_}
 use mathlib.Core.Bool.{Bool, true, false, cond, not, _&&_, _||_}
 use mathlib.Core.List.{List, [], _∷_}
 use native.Mathlib.Omega.{arith as linear}
-use native.Mathlib.Nat.{eq-or-lt-of-le}
 use borrow.Author.Tests.{eqb-true, eqb-false, ltb-false, leb-true, not-false}
 use lib.Dec.{T, eqb, ltb, leb}
 use lib.IntN.{ℤ}
@@ -19,6 +18,7 @@ use Rattle.script.specs.declared.Sort.the-variants.{Script, Unknown}
 use Rattle.script.specs.Rows.{row, rows, fields, parts, sort-of}
 use Rattle.script.specs.Trees.{tree, nesting}
 pub use Rattle.theorems.specs.Truths.{both}
+use Rattle.theorems.specs.Lowest.{lowest-accepts}
 use Rattle.script.specs.Refusals.{Verdict, accepted, refused, _and-then_, lowest, member, bad-length, same-sort, in-range, unused-zero, all-below, well-sorted, all-new, linked, row-fault, loose-fault, assigns-frozen, target-fault, misreads, reading-fault, length-test, row-test, script-test, loose-test, target-test, reading-test, nesting-test, verdict}
 
 pub record Accepted (t : List ℤ) : Type 0 where
@@ -52,18 +52,6 @@ pass-true false n r h = clash h
 pass-false : (b : Bool) (n r : ℕ) → cond b (refused n r) accepted ≡ accepted → b ≡ false
 pass-false true n r h = clash h
 pass-false false n r h = refl
-
-lowest-step : (b : Bool) (n r : ℕ) (v : Verdict) → elim b [ true ↦ v | false ↦ refused n r ] ≡ accepted → (b ≡ true) × (v ≡ accepted)
-lowest-step true n r v h = (refl, h)
-lowest-step false n r v h = clash h
-
--- no row from r up has a fault
-pub lowest-accepts : (fault : ℕ → ℕ) (n r : ℕ) → lowest fault n r ≡ accepted → (k : ℕ) → r ≤ k → k < r + n → fault k ≡ 0
-unfolding lowest
-lowest-accepts fault zero r h k a b = absurd (omega linear)
-lowest-accepts fault (suc n) r h k a b =
-    let s = lowest-step (eqb (fault r) 0) (fault r) r (lowest fault n (suc r)) h in
-    ⊎-elim (λ e. ap fault (sym e) ∙ eqb-true (fault r) 0 (s .0)) (λ l. lowest-accepts fault n (suc r) (s .1) k l (omega linear)) (eq-or-lt-of-le a)
 
 -- ---- the faults of a row
 
@@ -151,7 +139,8 @@ unfolding length-test row-test script-test loose-test target-test reading-test n
 passed t h =
     let s = all-tests t h in
     let l = sound-length (length t) (pass-false (bad-length (length t)) 1 0 (s .length)) in
-    let r : (k : ℕ) → k < rows t → Sound-row t k = λ k i. sound-row t k (lowest-accepts (row-fault t) (rows t) 0 (s .row) k (omega linear) (omega linear)) in
+    let r : (k : ℕ) → k < rows t → Sound-row t k =
+    λ k i. sound-row t k (lowest-accepts (row-fault t) (rows t) 0 .0 (s .row) k (omega linear) (omega linear)) in
     record {
       filled = l .filled;
       fours = l .fours;
@@ -161,9 +150,12 @@ passed t h =
       unshared = λ k i. r k i .new;
       ranged = λ k i. both (in-range t (fields (row t k))) (unused-zero t k (length (fields (row t k)))) (r k i .ranges) .0;
       script = pass-true (same-sort (sort-of (row t (rows t - 1))) Script) 7 _ (s .script);
-      used = λ k i. present (member k (linked t (rows t))) 6 (lowest-accepts (loose-fault t) (rows t - 1) 0 (s .loose) k (omega linear) (omega linear));
-      ordinary = λ k i. absent (assigns-frozen t (fields (row t k))) 7 (lowest-accepts (target-fault t) (rows t) 0 (s .target) k (omega linear) (omega linear));
-      placed = λ k i. absent (member k (misreads t)) 8 (lowest-accepts (reading-fault t) (rows t) 0 (s .reading) k (omega linear) (omega linear));
+      used = λ k i.
+          present (member k (linked t (rows t))) 6 (lowest-accepts (loose-fault t) (rows t - 1) 0 .0 (s .loose) k (omega linear) (omega linear));
+      ordinary = λ k i.
+          absent (assigns-frozen t (fields (row t k))) 7 (lowest-accepts (target-fault t) (rows t) 0 .0 (s .target) k (omega linear) (omega linear));
+      placed = λ k i.
+          absent (member k (misreads t)) 8 (lowest-accepts (reading-fault t) (rows t) 0 .0 (s .reading) k (omega linear) (omega linear));
       shallow = leb-true (nesting (tree t .body)) 8 (is-true _ (pass-true (leb (nesting (tree t .body)) 8) 10 0 (s .nesting)));
     }
   where

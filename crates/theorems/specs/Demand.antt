@@ -1,69 +1,32 @@
 -- Demand 3 of what the generator answers and leaves, for every table, list and scratch: `demand-3`.
--- Argument: every refusal has a number that is not 0 (`numbered`), so the number is 0 only where the table is accepted and
+-- Argument: every refusal of a table has a number from 1 to 10, so the number is 0 only where the table is accepted and
 -- the list was written. Its words are those of the conditions, a well-formed list, which is read as it was written
 -- (`read-written`); the tree of an accepted table is well-scoped, and the rules are sound. Assumes nothing.
-use Prim.Native.Nat.{ℕ, zero, suc, _-_, _≤_, _<_}
-use mathlib.Core.Path.{_≡_, refl, subst}
+use Prim.Native.Nat.{ℕ, _≤_, _<_}
+use mathlib.Core.Path.{_≡_, refl}
 use mathlib.Core.Logic.{_≢_}
 use mathlib.Core.Bool.{Bool, true, false, cond}
 use mathlib.Core.List.{List}
 use native.Mathlib.Omega.{arith as linear}
-use borrow.Author.Tests.{eqb-false, ltb-false}
-use lib.Dec.{eqb, ltb, leb}
+use borrow.Author.Tests.{ltb-false}
+use lib.Dec.{ltb}
 use lib.IntN.{ℤ}
 use lib.ListN.{length, length-append}
 use lib.Seq.{take-append-seam}
-use Rattle.script.specs.declared.Sort.the-variants.{Script}
-use Rattle.script.specs.Rows.{row, rows, sort-of}
 use Rattle.script.specs.Syntax.{Tree}
 use Rattle.script.specs.Meaning.{whole}
 use Rattle.script.specs.Conditions.{walk, conditions}
 use Rattle.script.specs.Words.{list-words}
-use Rattle.script.specs.Trees.{tree, nesting}
+use Rattle.script.specs.Trees.{tree}
 use Rattle.script.specs.WellFormed.{Well-formed}
-use Rattle.script.specs.Refusals.{Verdict, accepted, refused, _and-then_, lowest, bad-length, same-sort, row-fault, loose-fault, target-fault, reading-fault, verdict, length-test, row-test, script-test, loose-test, target-test, reading-test, nesting-test}
+use Rattle.script.specs.Refusals.{Verdict, accepted, refused, verdict}
 use Rattle.script.specs.Generated.{Outcome, refuse, plan, room, scratch-need, outcome-for, outcome}
 use Rattle.script.specs.Promise.{Demand-3}
+use Rattle.theorems.specs.Numbers.{one-to-ten}
 use Rattle.theorems.specs.Sound.{sound}
 use Rattle.theorems.specs.ReadBack.{read-written}
 use Rattle.theorems.specs.Scoped.{scoped}
 use Rattle.theorems.specs.InRange.{in-range-conditions}
-
--- ---- every refusal has a number that is not 0
-
-abbrev pub Numbered : Verdict → Type 0
-Numbered accepted = Unit {0}
-Numbered (refused n r) = n ≢ 0
-
-first-numbered : (v w : Verdict) → Numbered v → Numbered w → Numbered (v and-then w)
-first-numbered accepted w a b = b
-first-numbered (refused n r) w a b = a
-
-test-numbered : (b : Bool) (v w : Verdict) → Numbered v → Numbered w → Numbered (cond b v w)
-test-numbered true v w a b = a
-test-numbered false v w a b = b
-
-lowest-numbered : (fault : ℕ → ℕ) (n r : ℕ) → Numbered (lowest fault n r)
-unfolding lowest
-lowest-numbered fault zero r = tt
-lowest-numbered fault (suc n) r = first (eqb (fault r) 0) refl (lowest-numbered fault n (suc r))
-  where
-    first : (b : Bool) → eqb (fault r) 0 ≡ b → Numbered (lowest fault n (suc r))
-        → Numbered (elim b [ true ↦ lowest fault n (suc r) | false ↦ refused (fault r) r ])
-    first true e h = h
-    first false e h = eqb-false (fault r) 0 e
-
-pub numbered : (t : List ℤ) → Numbered (verdict t)
-unfolding verdict length-test row-test script-test loose-test target-test reading-test nesting-test
-numbered t =
-    let last = rows t - 1 in
-    first-numbered (length-test t) _ (test-numbered (bad-length (length t)) (refused 1 0) accepted (λ e. omega linear) tt)
-    (first-numbered (row-test t) _ (lowest-numbered (row-fault t) (rows t) 0)
-    (first-numbered (script-test t) _ (test-numbered (same-sort (sort-of (row t last)) Script) accepted (refused 7 last) tt (λ e. omega linear))
-    (first-numbered (loose-test t) _ (lowest-numbered (loose-fault t) last 0)
-    (first-numbered (target-test t) _ (lowest-numbered (target-fault t) (rows t) 0)
-    (first-numbered (reading-test t) (nesting-test t) (lowest-numbered (reading-fault t) (rows t) 0)
-    (test-numbered (leb (nesting (tree t .body)) 8) accepted (refused 10 0) tt (λ e. omega linear)))))))
 
 -- ---- the list of an accepted table
 
@@ -104,7 +67,7 @@ module _ (table : List ℤ) (list scratch : ℕ) where
       → Demand (elim v [ refused n r ↦ refuse n r list scratch | accepted ↦ outcome-for (tree table) list scratch ])
   unfolding outcome-for
   verdict-demand accepted h = tests-demand h (ltb scratch (scratch-need (tree table) list)) _ refl
-  verdict-demand (refused n r) h = refused-demand n r (subst Numbered h (numbered table))
+  verdict-demand (refused n r) h = refused-demand n r (λ e. let k = one-to-ten table n r h in omega linear)
 
   pub demand-3 : Demand-3 table (outcome table list scratch .answer) (outcome table list scratch .list)
   unfolding outcome

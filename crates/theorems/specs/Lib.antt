@@ -4,6 +4,16 @@ pub mod Substitution
 pub mod Traces
 pub mod LoopRule
 pub mod Sound
+pub mod Division
+pub mod Tests
+pub mod Lowest
+pub mod Links
+pub mod Faults
+pub mod Occasions
+pub mod Standing
+pub mod Misread
+pub mod Misplaced
+pub mod Numbers
 pub mod Accepted
 pub mod RowTrees
 pub mod Induction
