@@ -1,0 +1,7 @@
+pub mod Ends
+pub mod Waiting
+pub mod Walked
+pub mod Steps
+pub mod Branches
+pub mod Rest
+pub mod Start

@@ -1,0 +1,3 @@
+pub mod Writing
+pub mod Paths
+pub mod Nodes
