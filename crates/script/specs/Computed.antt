@@ -19,8 +19,8 @@ use Rattle.script.specs.Conditions.{conditions, walk, wp, subst-expr, su
 use Rattle.script.specs.Words.{list-words, all-lines, line-words, expr-words, formula-words}
 use Rattle.script.specs.Rows.{row, row-of}
 use Rattle.script.specs.Trees.{expr, formula, stmt, expr-at, formula-at, stmt-at, tree, nesting}
-use Rattle.script.specs.Refusals.{Verdict, accepted, refused, bad-length, lowest, row-fault, linked, misread, misreads, length-test, row-test, script-test, loose-test, target-test, reading-test, nesting-test, verdict}
-use Rattle.script.specs.Generated.{outcome-for, outcome, refusal}
+use Rattle.script.specs.Refusals.{Verdict, accepted, refused, bad-length, lowest, row-fault, linked, misread, misreads, length-test, row-test, script-test, unlinked-test, target-test, reading-test, nesting-test, verdict}
+use Rattle.script.specs.Generated.{zeros, outcome-for, outcome, refusal}
 use Rattle.script.specs.Listing.{read-expr, read-formula, spelled, found, line-before, lines-before, lines, line-at, no-line}
 
 -- ---- tables
@@ -61,7 +61,7 @@ loops-in-sequence =
     ⨾ (17, 0, 0, 0) ⨾ (16, 0, 0, 0) ⨾ (1, 1, 0, 0) ⨾ (37, 8, 9, 0) ⨾ (16, 0, 0, 0) ⨾ (38, 11, 0, 0) ⨾ (36, 7, 10, 12)
     ⨾ (34, 6, 13, 0) ⨾ (16, 0, 0, 0) ⨾ (48, 0, 14, 15) ⨾ []
 
--- the n branches below row 3 × n, each the then part of the next
+-- n branches, each the then part of the next; the last stands at row 3 × n
 branches : ℕ → List ℤ
 branches zero = (32, 0, 0, 0) ⨾ []
 branches (suc n) = branches n ++ ((16, 0, 0, 0) ⨾ (32, 0, 0, 0) ⨾ (35, 3 * n + 1, 3 * n, 3 * n + 2) ⨾ [])
@@ -129,6 +129,8 @@ trials =
     ∷ generates [] 512 5120 (refusal 1 0)
     ∷ measures 8192 false
     ∷ measures 8196 true
+    ∷ judges (zeros 8192) (refused 2 0)
+    ∷ judges (zeros 8196) (refused 1 0)
     ∷ divides (negsuc 6) (pos 2) (negsuc 3) (pos 1)
     ∷ divides (pos 7) (negsuc 1) (negsuc 2) (pos 1)
     ∷ divides (negsuc 6) (negsuc 1) (pos 4) (pos 1)
@@ -170,7 +172,7 @@ trials =
     ∷ []
 
 trials-hold : map observed trials ≡ map expected trials
-unfolding trials observed expected numbers example example-a four-rows loops-in-branches loops-in-sequence branches nested _⨾_ outcome outcome-for verdict length-test row-test script-test loose-test target-test reading-test nesting-test lowest row-fault linked misread misreads row row-of expr formula stmt expr-at formula-at stmt-at tree nesting conditions walk wp subst-expr subst-formula list-words all-lines line-words expr-words formula-words read-expr read-formula spelled found line-before lines-before lines line-at
+unfolding trials observed expected numbers example example-a four-rows loops-in-branches loops-in-sequence branches nested _⨾_ outcome outcome-for verdict length-test row-test script-test unlinked-test target-test reading-test nesting-test lowest row-fault linked misread misreads row row-of expr formula stmt expr-at formula-at stmt-at tree nesting conditions walk wp subst-expr subst-formula list-words all-lines line-words expr-words formula-words read-expr read-formula spelled found line-before lines-before lines line-at
 trials-hold = refl
 
 -- ---- "With guard 0 ≤ x, variant x and body x := x − 1, a start at 0 makes one pass."

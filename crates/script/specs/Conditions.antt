@@ -1,6 +1,6 @@
 -- 01, "Conditions": W, and the conditions that a walk lists, in order. Nothing is simplified.
--- The base rules are those of Hoare 1969 (source document 000); the conditions of a while are those of source
--- document 004, section 3.4, with the variant added. Assumes nothing.
+-- The language and the shape of loops follow source document 000; the base rules are those of Hoare 1969; the conditions of
+-- a while are those of source document 004, section 3.4, with the variant added. Assumes nothing.
 use Prim.Native.Nat.{ℕ}
 use mathlib.Core.List.{List, [], _∷_, _++_}
 use mathlib.Core.Bool.{cond}
@@ -29,7 +29,8 @@ module _ (v : ℕ) (e : Expr) where
     subst-formula (not f) = not (subst-formula f)
     subst-formula (join c f g) = join c (subst-formula f) (subst-formula g)
 
--- the weakest precondition: "W(S, Q) is the formula to hold before S"
+-- "W(S, Q) is the formula to hold before S": where S has no loop, the weakest precondition. "The rule for a statement refers
+-- to the rule for its parts"
 unfoldable pub wp : Stmt → Formula → Formula
 -- "Q"
 wp skip q = q
@@ -68,16 +69,15 @@ floor b i v = join Implies (join And i b) (cmp AtMost (const (pos 0)) v)
 abbrev pub step : ℕ → Formula → Formula → Expr → Stmt → Formula
 step m b i v x = join Implies (join And (join And i b) (cmp Equal v (mark m))) (wp x (decreased m i v))
 
--- "a sequence lists its second part's conditions first; an if lists those of then, next those of else"; "Each loop ..
--- lists: exit, floor, all conditions of its body, walked with (I and (V less m)), step"
+-- "Walk order: a sequence lists its second part's conditions first; an if lists those of then, next those of else." A loop
+-- lists exit, floor, "all conditions of its body, walked with (I and (V less m))", and step.
 unfoldable pub walk : Stmt → Formula → List Condition
 walk skip q = []
 walk (assign v e) q = []
 walk (seq a b) q = walk b q ++ walk a (wp b q)
 walk (branch b x y) q = walk x q ++ walk y q
 walk (loop m b i v x) q =
-    condition Exit m (exit b i q)
-    ∷ condition Floor m (floor b i v)
+    condition Exit m (exit b i q) ∷ condition Floor m (floor b i v)
     ∷ (walk x (decreased m i v) ++ (condition Step m (step m b i v x) ∷ []))
 walk (assert a) q = []
 

@@ -13,7 +13,7 @@ use Rattle.script.specs.Words.{list-words}
 use Rattle.script.specs.Trees.{tree, nesting}
 use Rattle.script.specs.Refusals.{accepted, refused, verdict}
 
--- an answer, and every word that the list and scratch then hold
+-- an answer ("An answer holds: number, row, conditions, words used."), and every word that the list and scratch then hold
 pub record Outcome : Type 0 where
   pub answer : Answer
   pub list : List ℤ

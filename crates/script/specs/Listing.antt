@@ -27,9 +27,9 @@ none >>= f = none
 some a >>= f = f a
 
 -- go on where a test holds
-abbrev pub when : {A : Type 0} → Bool → Option A → Option A
-when true o = o
-when false o = none
+abbrev pub guarded : {A : Type 0} → Bool → Option A → Option A
+guarded true o = o
+guarded false o = none
 
 -- ---- a formula, read from its first word
 
@@ -59,8 +59,8 @@ unfoldable mutual
   pub read-expr : ℕ → Row → List ℤ → Option (Read Expr)
   read-expr zero w ws = none
   read-expr (suc n) (Row.Expression (Constant z)) ws = past-number (const z) ws
-  read-expr (suc n) (Row.Expression (Variable v)) ws = when (ltb (v .0) variables) (past-number (var (v .0)) ws)
-  read-expr (suc n) (Row.Expression (Mark m)) ws = when (ltb (m .0) row-limit) (past-number (mark (m .0)) ws)
+  read-expr (suc n) (Row.Expression (Variable v)) ws = guarded (ltb (v .0) variables) (past-number (var (v .0)) ws)
+  read-expr (suc n) (Row.Expression (Mark m)) ws = guarded (ltb (m .0) row-limit) (past-number (mark (m .0)) ws)
   read-expr (suc n) (Row.Expression (Arithmetic o x y)) ws = do
     a ← next (read-expr n) ws
     b ← next (read-expr n) (a .rest)
@@ -117,7 +117,7 @@ natural (negsuc n) = none
 abbrev pub below : ℕ → ℤ → Option ℕ
 below limit w = do
   n ← natural w
-  when (ltb n limit) (some n)
+  guarded (ltb n limit) (some n)
 
 -- "a kind 1 to 4"
 abbrev pub rule-of : ℕ → Option Rule
@@ -146,7 +146,7 @@ found ws e k r n = do
 -- the condition whose trailer ends at e
 unfoldable pub line-before : List ℤ → ℕ → Option Found
 line-before ws e =
-    when (leb 3 e && leb e (length ws))
+    guarded (leb 3 e && leb e (length ws))
     (found ws (e - 3) (getD ws (e - 3) (pos 0)) (getD ws (e - 2) (pos 0)) (getD ws (e - 1) (pos 0)))
 
 -- ---- a whole list
@@ -163,8 +163,8 @@ lines-before ws (suc n) e = do
 -- "A well-formed list has a count of 1 or more, at most 16,384 words"; "A list is read from the end back."
 unfoldable pub lines : List ℤ → Option (List Found)
 lines ws =
-    when (leb (length ws) 16384)
-    (natural (getD ws (length ws - 1) (pos 0)) >>= λ count. when (ltb 0 count) (lines-before ws count (length ws - 1)))
+    guarded (leb (length ws) 16384)
+    (natural (getD ws (length ws - 1) (pos 0)) >>= λ count. guarded (ltb 0 count) (lines-before ws count (length ws - 1)))
 
 -- the conditions of a list, or nothing where the words are not a list
 unfoldable pub read-list : List ℤ → Option (List Condition)
@@ -194,14 +194,15 @@ line-at ws i = elim (lines ws) [ some fs ↦ line-of fs i | none ↦ no-line 20 
 abbrev pub part-at : List ℤ → ℤ → List ℤ
 part-at ws i = slice (line-at ws i .start) (line-at ws i .end) ws
 
--- ---- the reader that walks back: it keeps the words and the place where the conditions not yet read end
+-- ---- "A reader over a finished list keeps the words and its place, and walks back one condition at a time." Its place is
+-- where the conditions not yet read end.
 
--- no condition ends at 1: the place of a reader over a torn list
-abbrev pub torn : ℕ
-torn = 1
+-- no condition ends at 1: the place of a reader over words that are no list, which 01 calls torn
+abbrev pub malformed-place : ℕ
+malformed-place = 1
 
 unfoldable pub first-place : List ℤ → ℕ
-first-place ws = elim (lines ws) [ some fs ↦ length ws - 1 | none ↦ torn ]
+first-place ws = elim (lines ws) [ some fs ↦ length ws - 1 | none ↦ malformed-place ]
 
 -- "On a torn list each of its steps answers 20; once the first condition is passed, 21."
 unfoldable pub step-back : List ℤ → ℕ → Line

@@ -1,6 +1,6 @@
--- Demand 3: "If every condition of the list left is true in all states, every run from a start that meets the precondition
+-- Demand 3: if every condition of the list left is true in all states, every run from a start that meets the precondition
 -- fails no assertion, ends, meets the postcondition, and begins a loop's body at most v + 1 times on each arrival with
--- variant v (not at all if v < 0)." Assumes nothing.
+-- variant v (not at all if v < 0). 01: "Demand 3 is a single claim on table, list and whole run". Assumes nothing.
 use mathlib.Core.Path.{_≡_}
 use mathlib.Core.Option.{some}
 use mathlib.Core.List.{List, [], _∷_}

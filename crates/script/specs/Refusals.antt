@@ -116,10 +116,11 @@ module _ (ws : List ℤ) where
       (cond (not (well-sorted (parts w))) 5
       (cond (not (all-new (linked r) (parts w))) 6 0))))
 
-  -- ---- 7: "last row is no script (that row); else the lowest row but the last that nothing links to"
+  -- ---- 7: "last row is no script (that row); else the lowest row but the last that nothing links to". 01 calls such a row
+  -- a loose part.
 
-  abbrev pub loose-fault : ℕ → ℕ
-  loose-fault r = cond (member r (linked (rows ws))) 0 7
+  abbrev pub unlinked-fault : ℕ → ℕ
+  unlinked-fault r = cond (member r (linked (rows ws))) 0 7
 
   -- ---- 8: "an assignment to a frozen name; lowest such row"
 
@@ -189,8 +190,8 @@ module _ (ws : List ℤ) where
   unfoldable pub script-test : Verdict
   script-test = cond (same-sort (sort-of (row ws (rows ws - 1))) Script) accepted (refused 7 (rows ws - 1))
 
-  unfoldable pub loose-test : Verdict
-  loose-test = lowest loose-fault (rows ws - 1) 0
+  unfoldable pub unlinked-test : Verdict
+  unlinked-test = lowest unlinked-fault (rows ws - 1) 0
 
   unfoldable pub target-test : Verdict
   target-test = lowest target-fault (rows ws) 0
@@ -207,7 +208,7 @@ module _ (ws : List ℤ) where
       length-test
       and-then row-test
       and-then script-test
-      and-then loose-test
+      and-then unlinked-test
       and-then target-test
       and-then reading-test
       and-then nesting-test

@@ -40,7 +40,7 @@ pub record Kind : Type 0 where
 abbrev kind : ℕ → Row → Kind
 kind n w = record { number = n; of = w }
 
--- the row of the first kind with this number
+-- the row of the first kind with this number; unknown: "kind not listed"
 abbrev pub listed : ℕ → List Kind → Row
 listed n [] = Row.Unknown
 listed n (k ∷ ks) = cond (eqb n (k .number)) (k .of) (listed n ks)
@@ -150,7 +150,8 @@ parts w = links (fields w)
 abbrev pub variables : ℕ
 variables = 256
 
--- ---- "A table is a lent run of 32-bit signed words, four to a row: kind, first, second, third. Rows count from 0."
+-- ---- "A table is a lent run of 32-bit signed words, four to a row: kind, first, second, third. Rows count from 0; at most
+-- 2,048."
 
 module _ (ws : List ℤ) where
   abbrev pub rows : ℕ

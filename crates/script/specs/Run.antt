@@ -32,6 +32,7 @@ pub data Config : Type 0 where
   failed : Config
 
 module _ (𝔸 : Arithmetic) where
+  -- "The mark of a loop is the variant's value when the present pass of its body began."
   -- "it tests its guard. True: its mark takes the variant's value, the body runs, and it tests again. False: the loop is left."
   unfoldable pub test : ℕ → Formula → Expr → Stmt → ℤ → ℕ → List Frame → State → Config
   test m b v x v₀ n k s =
@@ -65,11 +66,12 @@ module _ (𝔸 : Arithmetic) where
   after zero x = x
   after (suc n) x = after n (step x)
 
--- "It runs the script's statement"
+-- "A run is fed the rows and a start, nothing of the list. It runs the script's statement, each statement from the state the
+-- one before left". "a start is any state"
 abbrev pub start : Tree → State → Config
 start t s = at (begin (t .body) ∷ []) s
 
--- n bodies begun since an arrival with variant v: "at most v + 1 times", "not at all if v < 0"
+-- n bodies begun since an arrival with variant v: at most v + 1, and none if v < 0
 abbrev pub Bounded : ℤ → ℕ → Type 0
 Bounded (pos v) n = n ≤ suc v
 Bounded (negsuc v) n = n ≡ zero
@@ -85,8 +87,8 @@ abbrev pub Good : Config → Type 0
 Good (at k s) = Passes-bounded k
 Good failed = ⊥
 
--- what demand 3 promises of the run of a script from s: it "fails no assertion, ends, meets the postcondition, and begins
--- a loop's body at most v + 1 times on each arrival with variant v (not at all if v < 0)"
+-- what demand 3 promises of the run of a script from s: it fails no assertion, ends, meets the postcondition, and begins a
+-- loop's body at most v + 1 times on each arrival with variant v (not at all if v < 0)
 pub record Total-correctness (𝔸 : Arithmetic) (t : Tree) (s : State) : Type 0 where
   pub steps : ℕ
   pub end : State

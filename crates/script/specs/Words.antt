@@ -50,15 +50,15 @@ unfoldable mutual
   formula-words (not f) = pos 22 ∷ formula-words f
   formula-words (join c f g) = conn-word c ∷ (formula-words f ++ formula-words g)
 
--- "condition kind (1 exit, 2 floor, 3 step, 4 main)"
+-- the condition kind
 abbrev pub rule-number : Rule → ℕ
 rule-number Exit = 1
 rule-number Floor = 2
 rule-number Step = 3
 rule-number Main = 4
 
--- "After each formula stands its trailer, three words: condition kind .., row (of the while, or of the script), and
--- length of the formula just before."
+-- "After each formula stands its trailer, three words: condition kind (1 exit, 2 floor, 3 step, 4 main), row (of the while,
+-- or of the script), and length of the formula just before."
 abbrev pub trailer : Condition → List ℤ
 trailer c = pos (rule-number (c .rule)) ∷ pos (c .row) ∷ pos (length (formula-words (c .claim))) ∷ []
 

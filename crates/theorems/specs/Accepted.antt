@@ -19,7 +19,7 @@ use Rattle.script.specs.Rows.{row, rows, fields, parts, sort-of}
 use Rattle.script.specs.Trees.{tree, nesting}
 pub use Rattle.theorems.specs.Truths.{both}
 use Rattle.theorems.specs.Lowest.{lowest-accepts}
-use Rattle.script.specs.Refusals.{Verdict, accepted, refused, _and-then_, lowest, member, bad-length, same-sort, in-range, unused-zero, all-below, well-sorted, all-new, linked, row-fault, loose-fault, assigns-frozen, target-fault, misreads, reading-fault, length-test, row-test, script-test, loose-test, target-test, reading-test, nesting-test, verdict}
+use Rattle.script.specs.Refusals.{Verdict, accepted, refused, _and-then_, lowest, member, bad-length, same-sort, in-range, unused-zero, all-below, well-sorted, all-new, linked, row-fault, unlinked-fault, assigns-frozen, target-fault, misreads, reading-fault, length-test, row-test, script-test, unlinked-test, target-test, reading-test, nesting-test, verdict}
 
 pub record Accepted (t : List ℤ) : Type 0 where
   pub filled : 0 < rows t
@@ -118,7 +118,7 @@ pub record Tests (t : List ℤ) : Type 0 where
   pub length : length-test t ≡ accepted
   pub row : row-test t ≡ accepted
   pub script : script-test t ≡ accepted
-  pub loose : loose-test t ≡ accepted
+  pub unlinked : unlinked-test t ≡ accepted
   pub target : target-test t ≡ accepted
   pub reading : reading-test t ≡ accepted
   pub nesting : nesting-test t ≡ accepted
@@ -129,13 +129,13 @@ all-tests t h =
     let a = both-accept (length-test t) _ h in
     let b = both-accept (row-test t) _ (a .1) in
     let c = both-accept (script-test t) _ (b .1) in
-    let d = both-accept (loose-test t) _ (c .1) in
+    let d = both-accept (unlinked-test t) _ (c .1) in
     let e = both-accept (target-test t) _ (d .1) in
     let f = both-accept (reading-test t) (nesting-test t) (e .1) in
-    record { length = a .0; row = b .0; script = c .0; loose = d .0; target = e .0; reading = f .0; nesting = f .1 }
+    record { length = a .0; row = b .0; script = c .0; unlinked = d .0; target = e .0; reading = f .0; nesting = f .1 }
 
 pub passed : (t : List ℤ) → verdict t ≡ accepted → Accepted t
-unfolding length-test row-test script-test loose-test target-test reading-test nesting-test
+unfolding length-test row-test script-test unlinked-test target-test reading-test nesting-test
 passed t h =
     let s = all-tests t h in
     let l = sound-length (length t) (pass-false (bad-length (length t)) 1 0 (s .length)) in
@@ -151,7 +151,7 @@ passed t h =
       ranged = λ k i. both (in-range t (fields (row t k))) (unused-zero t k (length (fields (row t k)))) (r k i .ranges) .0;
       script = pass-true (same-sort (sort-of (row t (rows t - 1))) Script) 7 _ (s .script);
       used = λ k i.
-          present (member k (linked t (rows t))) 6 (lowest-accepts (loose-fault t) (rows t - 1) 0 .0 (s .loose) k (omega linear) (omega linear));
+          present (member k (linked t (rows t))) 6 (lowest-accepts (unlinked-fault t) (rows t - 1) 0 .0 (s .unlinked) k (omega linear) (omega linear));
       ordinary = λ k i.
           absent (assigns-frozen t (fields (row t k))) 7 (lowest-accepts (target-fault t) (rows t) 0 .0 (s .target) k (omega linear) (omega linear));
       placed = λ k i.

@@ -1,6 +1,6 @@
 -- The refusals 2 to 6 of one row in the words of 01, in the order of their tests (`row-faults`). Each test asks something of
 -- all fields or links, so it fails where one of them lacks it; a row has the first number whose test fails.
--- `shared-part` is number 6 by itself, `whole-row` a row that passes them all. Assumes nothing.
+-- `linked-twice` is number 6 by itself, `whole-row` a row that passes them all. Assumes nothing.
 use Prim.Native.Nat.{ℕ, _≤_}
 use native.Mathlib.Omega.{arith}
 use mathlib.Core.Path.{_≡_, refl, sym, ap}
@@ -157,8 +157,8 @@ module _ (ws : List ℤ) (r : ℕ) where
           (record { listed = a .0; ranged = b .0; falls = c .0; sorted = d .0 }, d .1)
 
 -- "a link's row already linked by a lower row or an earlier field", in a row that passes the tests before
-pub shared-part : (ws : List ℤ) (r : ℕ) → (row-fault ws r ≡ 6) ↔ (Well-made ws r × Shared ws r)
-shared-part ws r = Iff·trans (row-faults ws r 6) (Iff·trans (passed-to-6 ws r 6 (omega arith)) (out, λ h. (h .0, inl (h .1, refl))))
+pub linked-twice : (ws : List ℤ) (r : ℕ) → (row-fault ws r ≡ 6) ↔ (Well-made ws r × Shared ws r)
+linked-twice ws r = Iff·trans (row-faults ws r 6) (Iff·trans (passed-to-6 ws r 6 (omega arith)) (out, λ h. (h .0, inl (h .1, refl))))
   where
     out : Well-made ws r × from-6 ws r 6 → Well-made ws r × Shared ws r
     out h = (h .0, ⊎-elim (λ s. s .0) (λ s. absurd (omega arith)) (h .1))

@@ -15,7 +15,7 @@ use Rattle.script.specs.Conditions.{Condition}
 use Rattle.script.specs.Words.{formula-words, trailer, line-words, all-lines, list-words}
 use Rattle.script.specs.WellFormed.{Well-formed}
 use Rattle.script.specs.Listing.{Found, line-before, lines-before, lines, read-list}
-use Rattle.script.specs.Listing.{no-line, line, line-of, line-at, part-at, torn, first-place, step-back, next-place}
+use Rattle.script.specs.Listing.{no-line, line, line-of, line-at, part-at, malformed-place, first-place, step-back, next-place}
 use Rattle.theorems.specs.Options.{none-is-not, some-inj, went-on, stopped}
 use Rattle.theorems.specs.Line.{place, slice-part}
 use Rattle.theorems.specs.ReadBack.{places, conditions-of, lines-written, tested}
@@ -65,9 +65,9 @@ pub line-at-negative : (ws : List ℤ) (cs : List Condition) → Well-formed ws 
 line-at-negative ws cs w i = read-at ws cs w (negsuc i)
 
 -- 20: "the words are not a list, all read"
-pub line-at-torn : (ws : List ℤ) → read-list ws ≡ none → (i : ℤ) → line-at ws i ≡ no-line 20
+pub line-at-malformed : (ws : List ℤ) → read-list ws ≡ none → (i : ℤ) → line-at ws i ≡ no-line 20
 unfolding line-at read-list
-line-at-torn ws q i = rw (stopped (lines ws) conditions-of q, line-at)
+line-at-malformed ws q i = rw (stopped (lines ws) conditions-of q, line-at)
 
 -- the line of the condition at index i stands after the lines of those before it
 split-lines : (cs : List Condition) (i : ℕ) (c : Condition) → getElem? cs i ≡ some c
@@ -109,10 +109,10 @@ unfolding walk-back step-back next-place line-before
 stays-at-front ws zero = refl
 stays-at-front ws (suc n) = ap (λ l. no-line 21 ∷ l) (stays-at-front ws n)
 
-stays-torn : (ws : List ℤ) (n : ℕ) → walk-back ws n torn ≡ replicate n (no-line 20)
+stays-malformed : (ws : List ℤ) (n : ℕ) → walk-back ws n malformed-place ≡ replicate n (no-line 20)
 unfolding walk-back step-back next-place line-before
-stays-torn ws zero = refl
-stays-torn ws (suc n) = ap (λ l. no-line 20 ∷ l) (stays-torn ws n)
+stays-malformed ws zero = refl
+stays-malformed ws (suc n) = ap (λ l. no-line 20 ∷ l) (stays-malformed ws n)
 
 one-step : (ws : List ℤ) (n e : ℕ) (f : Found) → line-before ws e ≡ some f
     → walk-back ws (suc n) e ≡ line f ∷ walk-back ws n (f .start)
@@ -151,6 +151,6 @@ walk-back-list ws fs n q =
     let t = tested ws fs q in
     rw (first-is ws fs q, walked ws (t .count) n (length ws - 1) fs (t .read), stays-at-front ws n)
 
-pub walk-back-torn : (ws : List ℤ) (n : ℕ) → lines ws ≡ none → walk-back ws n (first-place ws) ≡ replicate n (no-line 20)
+pub walk-back-malformed : (ws : List ℤ) (n : ℕ) → lines ws ≡ none → walk-back ws n (first-place ws) ≡ replicate n (no-line 20)
 unfolding first-place
-walk-back-torn ws n q = rw (q, first-place) (stays-torn ws n)
+walk-back-malformed ws n q = rw (q, first-place) (stays-malformed ws n)

@@ -1,7 +1,7 @@
 -- The total rule for loops is sound: where the exit, floor and step conditions of a loop are valid and its body terminates,
 -- the loop terminates, with its passes bounded.
 -- Argument: by induction on a bound d above the variant (`turn`). Where the guard holds, floor keeps the variant from being
--- negative; the mark is set to it, so the body's weakest precondition holds (`ready`); the body keeps the mark, since its
+-- negative; the mark is set to it, so W of the body holds (`ready`); the body keeps the mark, since its
 -- loops have lower rows, and ends with the variant below it (`pass`). The variant and the number of bodies begun together
 -- stay within the variant at the arrival (`Room`), which is the bound on passes. Assumes nothing.
 use Prim.Native.Nat.{ℕ, zero, suc, _+_, _≤_, _<_}
@@ -83,7 +83,7 @@ module _ (𝔸 : Arithmetic) where
       → Terminates 𝔸 k (first-step 𝔸 x k s) s (decreased m i v) x)
       (k : List Frame) (fair : Passes-bounded k) (v₀ : ℤ)
     where
-      -- the body's weakest precondition holds once the mark is set
+      -- W of the body holds once the mark is set
       ready : (s : State) → T (holds 𝔸 s i) → T (holds 𝔸 s b)
           → T (holds 𝔸 (set-mark s m (value 𝔸 s v)) (wp x (decreased m i v)))
       unfolding value holds

@@ -14,11 +14,11 @@ use lib.Dec.{eqb, ltb, leb}
 use borrow.Author.Tests.{eqb-true, eqb-false, eq-eqb, ne-eqb, ltb-true, lt-ltb, leb-false, lt-leb}
 use Rattle.script.specs.Rows.{rows, row}
 use Rattle.script.specs.Trees.{tree, nesting}
-use Rattle.script.specs.Refusals.{Verdict, accepted, refused, _and-then_, bad-length, row-fault, length-test, row-test, script-test, loose-test, target-test, reading-test, nesting-test, verdict}
+use Rattle.script.specs.Refusals.{Verdict, accepted, refused, _and-then_, bad-length, row-fault, length-test, row-test, script-test, unlinked-test, target-test, reading-test, nesting-test, verdict}
 use Rattle.theorems.specs.Lowest.{Says, Lowest, First-fault, lowest-refuses}
 use Rattle.theorems.specs.Tests.{either, not-iff, or-iff, turned}
 use Rattle.theorems.specs.Faults.{Fault, row-faults}
-use Rattle.theorems.specs.Occasions.{Loose, loose-part, Assigns-frozen, frozen-target}
+use Rattle.theorems.specs.Occasions.{Unlinked, unlinked-row, Assigns-frozen, frozen-target}
 use Rattle.theorems.specs.Misplaced.{Misplaced, misplaced-name}
 
 -- ---- tests in order
@@ -115,7 +115,7 @@ abbrev pub Occasion : List ℤ → ℕ → ℕ → Type 0
 Occasion ws =
     Then (length-test ws) (λ k r. (k ≡ 1) × (r ≡ 0) × Bad-length (length ws))
     (Then (row-test ws) (Faulty-row ws)
-    (Then (script-test ws and-then loose-test ws) (λ k r. (k ≡ 7) × Loose ws r)
+    (Then (script-test ws and-then unlinked-test ws) (λ k r. (k ≡ 7) × Unlinked ws r)
     (Then (target-test ws) (λ k r. (k ≡ 8) × Lowest (λ q. Assigns-frozen (row ws q)) (rows ws) r)
     (Then (reading-test ws) (λ k r. (k ≡ 9) × Lowest (Misplaced ws) (rows ws) r)
     (λ k r. (k ≡ 10) × (r ≡ 0) × (8 < nesting (tree ws .body)))))))
@@ -129,13 +129,13 @@ unfolding verdict
 refusal-numbers ws =
     then-says (length-test ws) (row-test ws and-then rest) (length-says ws)
     (λ e. then-says (row-test ws) rest (row-says ws)
-    (λ ok. rw (regroup (script-test ws) (loose-test ws) (target-test ws and-then reading-test ws and-then nesting-test ws))
-    (then-says (script-test ws and-then loose-test ws) (target-test ws and-then reading-test ws and-then nesting-test ws) (loose-part ws)
+    (λ ok. rw (regroup (script-test ws) (unlinked-test ws) (target-test ws and-then reading-test ws and-then nesting-test ws))
+    (then-says (script-test ws and-then unlinked-test ws) (target-test ws and-then reading-test ws and-then nesting-test ws) (unlinked-row ws)
     (λ e. then-says (target-test ws) (reading-test ws and-then nesting-test ws) (frozen-target ws)
     (λ e. then-says (reading-test ws) (nesting-test ws) (misplaced-name ws ok) (λ e. nesting-says ws))))))
   where
     rest : Verdict
-    rest = script-test ws and-then loose-test ws and-then target-test ws and-then reading-test ws and-then nesting-test ws
+    rest = script-test ws and-then unlinked-test ws and-then target-test ws and-then reading-test ws and-then nesting-test ws
 
 -- "No refusal is given in other circumstances."
 pub no-other : (ws : List ℤ) → (verdict ws ≡ accepted) ↔ ((k r : ℕ) → ¬ Occasion ws k r)

@@ -19,7 +19,7 @@ use Rattle.script.specs.declared.Row.{Row}
 use Rattle.script.specs.declared.Row.the-variants as Row
 use Rattle.script.specs.declared.Sort.the-variants.{Expression, Formula, Statement, Note, Script, Unknown}
 use Rattle.script.specs.Rows.{fields, sort-of, rows, row}
-use Rattle.script.specs.Refusals.{accepted, refused, _and-then_, same-sort, member, frozen, linked, assigns-frozen, loose-fault, target-fault, script-test, loose-test, target-test}
+use Rattle.script.specs.Refusals.{accepted, refused, _and-then_, same-sort, member, frozen, linked, assigns-frozen, unlinked-fault, target-fault, script-test, unlinked-test, target-test}
 use Rattle.theorems.specs.Tests.{false-iff, sort-iff}
 use Rattle.theorems.specs.Lowest.{Says, Lowest, lowest-with, where-true, where-false}
 use Rattle.theorems.specs.Links.{Linked-below, linked-iff}
@@ -31,31 +31,31 @@ module _ (ws : List ℤ) where
   last = rows ws - 1
 
   -- "last row is no script (that row); else the lowest row but the last that nothing links to"
-  abbrev pub Loose : ℕ → Type 0
-  Loose r = ((sort-of (row ws last) ≢ Script) × (r ≡ last)) ⊎
+  abbrev pub Unlinked : ℕ → Type 0
+  Unlinked r = ((sort-of (row ws last) ≢ Script) × (r ≡ last)) ⊎
       ((sort-of (row ws last) ≡ Script) × Lowest (λ q. ¬ Linked-below ws (rows ws) q) last r)
 
-  loose : Says (loose-test ws) (λ k r. (k ≡ 7) × Lowest (λ q. ¬ Linked-below ws (rows ws) q) last r)
-  unfolding loose-test
-  loose = lowest-with (λ q. ¬ Linked-below ws (rows ws) q) (loose-fault ws) 7 last (omega arith)
+  unlinked : Says (unlinked-test ws) (λ k r. (k ≡ 7) × Lowest (λ q. ¬ Linked-below ws (rows ws) q) last r)
+  unfolding unlinked-test
+  unlinked = lowest-with (λ q. ¬ Linked-below ws (rows ws) q) (unlinked-fault ws) 7 last (omega arith)
       (λ j h. where-false (member j (linked ws (rows ws))) 7 (omega arith) (false-iff (member j (linked ws (rows ws))) (linked-iff ws (rows ws) j)))
 
-  pub loose-part : Says (script-test ws and-then loose-test ws) (λ k r. (k ≡ 7) × Loose r)
+  pub unlinked-row : Says (script-test ws and-then unlinked-test ws) (λ k r. (k ≡ 7) × Unlinked r)
   unfolding script-test
-  loose-part k r = go (same-sort (sort-of (row ws last)) Script) (sort-iff (sort-of (row ws last)) Script)
+  unlinked-row k r = go (same-sort (sort-of (row ws last)) Script) (sort-iff (sort-of (row ws last)) Script)
     where
-      of-script : sort-of (row ws last) ≡ Script → Loose r → Lowest (λ q. ¬ Linked-below ws (rows ws) q) last r
+      of-script : sort-of (row ws last) ≡ Script → Unlinked r → Lowest (λ q. ¬ Linked-below ws (rows ws) q) last r
       of-script h (inl l) = absurd (l .0 h)
       of-script h (inr l) = l .1
 
-      of-other : sort-of (row ws last) ≢ Script → Loose r → r ≡ last
+      of-other : sort-of (row ws last) ≢ Script → Unlinked r → r ≡ last
       of-other h (inl l) = l .1
       of-other h (inr l) = absurd (h (l .0))
 
       go : (b : Bool) → (b ≡ true) ↔ (sort-of (row ws last) ≡ Script)
-          → (cond b accepted (refused 7 last) and-then loose-test ws ≡ refused k r) ↔ ((k ≡ 7) × Loose r)
+          → (cond b accepted (refused 7 last) and-then unlinked-test ws ≡ refused k r) ↔ ((k ≡ 7) × Unlinked r)
       go true s =
-          (λ e. let h = loose k r .0 e in (h .0, inr (s .0 refl, h .1)), λ h. loose k r .1 (h .0, of-script (s .0 refl) (h .1)))
+          (λ e. let h = unlinked k r .0 e in (h .0, inr (s .0 refl, h .1)), λ h. unlinked k r .1 (h .0, of-script (s .0 refl) (h .1)))
       go false s =
           let other : sort-of (row ws last) ≢ Script = λ h. false≢true (s .1 h) in
           (λ e. (cc, inl (other, cc)), λ h. cc (h .0, of-other other (h .1)))

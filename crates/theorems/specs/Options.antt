@@ -3,7 +3,7 @@
 use mathlib.Core.Path.{_≡_, refl, sym, subst}
 use mathlib.Core.Option.{Option, none, some}
 use mathlib.Core.Bool.{Bool, true, false}
-use Rattle.script.specs.Listing.{_>>=_, when}
+use Rattle.script.specs.Listing.{_>>=_, guarded}
 
 abbrev Is-some : {A : Type 0} → Option A → Type 0
 Is-some (some a) = Unit {0}
@@ -27,6 +27,6 @@ module _ {A B : Type 0} where
   stopped (some a) f e = none-is-not (sym e)
 
 -- the test held
-pub held : {A : Type 0} (t : Bool) (o : Option A) {a : A} → when t o ≡ some a → (t ≡ true) × (o ≡ some a)
+pub held : {A : Type 0} (t : Bool) (o : Option A) {a : A} → guarded t o ≡ some a → (t ≡ true) × (o ≡ some a)
 held true o e = (refl, e)
 held false o e = none-is-not e

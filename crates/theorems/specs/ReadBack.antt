@@ -1,5 +1,5 @@
 -- The words that are read as a list are exactly the well-formed lists, with their conditions (`read-list-iff`); anything
--- else is torn (`torn-iff`). What is written is read: by induction on the conditions, first one first, since where those
+-- else is torn (`malformed-iff`). What is written is read: by induction on the conditions, first one first, since where those
 -- before are read the next one is read after them (`lines-back`). Only what is written is read: by induction on the count,
 -- last one first (`lines-only`). Assumes nothing.
 use Prim.Native.Nat.{ℕ, zero, suc, _+_, _-_, _≤_, _<_}
@@ -169,12 +169,12 @@ pub read-list-iff : (ws : List ℤ) (cs : List Condition) → (read-list ws ≡ 
 read-list-iff ws cs = (written-read ws cs, read-written ws cs)
 
 -- "Anything else is 20."
-pub torn-iff : (ws : List ℤ) → (read-list ws ≡ none) ↔ ((cs : List Condition) → ¬ Well-formed ws cs)
-torn-iff ws = (λ q cs w. none-is-not (sym q ∙ read-written ws cs w), λ h. torn (read-list ws) refl h)
+pub malformed-iff : (ws : List ℤ) → (read-list ws ≡ none) ↔ ((cs : List Condition) → ¬ Well-formed ws cs)
+malformed-iff ws = (λ q cs w. none-is-not (sym q ∙ read-written ws cs w), λ h. malformed-place (read-list ws) refl h)
   where
-    torn : (o : Option (List Condition)) → read-list ws ≡ o → ((cs : List Condition) → ¬ Well-formed ws cs) → o ≡ none
-    torn none q h = refl
-    torn (some cs) q h = absurd (h cs (written-read ws cs q))
+    malformed-place : (o : Option (List Condition)) → read-list ws ≡ o → ((cs : List Condition) → ¬ Well-formed ws cs) → o ≡ none
+    malformed-place none q h = refl
+    malformed-place (some cs) q h = absurd (h cs (written-read ws cs q))
 
 -- two different lists of conditions never have the same words
 pub words-tell : (cs ds : List Condition) → Well-formed (list-words cs) cs → Well-formed (list-words ds) ds

@@ -1,5 +1,5 @@
 -- Hoare's rules with the total rule for loops are sound for the meaning of a run, for any arithmetic.
--- Argument: a statement whose conditions are valid, begun where its weakest precondition holds, is run to its end with the
+-- Argument: a statement whose conditions are valid, begun where W of it holds, is run to its end with the
 -- postcondition met (`terminates`, by induction on the statement; for a loop it is `LoopRule.turn`). Assumes nothing.
 use Prim.Native.Nat.{ℕ, zero}
 use mathlib.Core.Path.{_≡_, refl, _∙_, subst}
