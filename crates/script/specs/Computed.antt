@@ -26,25 +26,25 @@ use Rattle.script.specs.Listing.{read-expr, read-formula, spelled, found
 -- ---- tables
 
 infixr 20 _⨾_
-abbrev Row4 : Type 0
+abbrev pub Row4 : Type 0
 Row4 = ℕ × ℕ × ℕ × ℕ
 
 -- a row, then the words after it
-_⨾_ : Row4 → List ℤ → List ℤ
+unfoldable pub _⨾_ : Row4 → List ℤ → List ℤ
 r ⨾ ws = pos (r .0) ∷ pos (r .1) ∷ pos (r .2) ∷ pos (r .3) ∷ ws
 
 -- example A, with its rows 9, 13 and 14
-example : Row4 → Row4 → Row4 → List ℤ
+unfoldable pub example : Row4 → Row4 → Row4 → List ℤ
 example row-9 row-13 row-14 =
     (1, 0, 0, 0) ⨾ (2, 0, 0, 0) ⨾ (19, 0, 1, 0) ⨾ (1, 0, 0, 0) ⨾ (2, 0, 0, 0) ⨾ (18, 3, 4, 0)
     ⨾ (1, 0, 0, 0) ⨾ (2, 0, 0, 0) ⨾ (19, 6, 7, 0) ⨾ row-9 ⨾ (37, 8, 9, 0)
     ⨾ (2, 0, 0, 0) ⨾ (1, 1, 0, 0) ⨾ row-13 ⨾ row-14 ⨾ (36, 5, 10, 14)
     ⨾ (2, 0, 0, 0) ⨾ (1, 0, 0, 0) ⨾ (20, 16, 17, 0) ⨾ (48, 2, 15, 18) ⨾ []
 
-example-a : List ℤ
+unfoldable pub example-a : List ℤ
 example-a = example (2, 0, 0, 0) (4, 11, 12, 0) (33, 0, 13, 0)
 
-four-rows : List ℤ
+unfoldable pub four-rows : List ℤ
 four-rows = (16, 0, 0, 0) ⨾ (32, 0, 0, 0) ⨾ (16, 0, 0, 0) ⨾ (48, 0, 1, 2) ⨾ []
 
 -- true; if true then while true do skip (invariant true, variant 0) else while false do skip (true, 1); true
@@ -55,7 +55,7 @@ loops-in-branches =
     ⨾ (35, 1, 7, 13) ⨾ (16, 0, 0, 0) ⨾ (48, 0, 14, 15) ⨾ []
 
 -- while false (true, 0) do skip, then while false (true, 1) do assert true: the second one's conditions come first
-loops-in-sequence : List ℤ
+unfoldable pub loops-in-sequence : List ℤ
 loops-in-sequence =
     (16, 0, 0, 0) ⨾ (17, 0, 0, 0) ⨾ (16, 0, 0, 0) ⨾ (1, 0, 0, 0) ⨾ (37, 2, 3, 0) ⨾ (32, 0, 0, 0) ⨾ (36, 1, 4, 5)
     ⨾ (17, 0, 0, 0) ⨾ (16, 0, 0, 0) ⨾ (1, 1, 0, 0) ⨾ (37, 8, 9, 0) ⨾ (16, 0, 0, 0) ⨾ (38, 11, 0, 0) ⨾ (36, 7, 10, 12)
@@ -69,7 +69,7 @@ branches (suc n) = branches n ++ ((16, 0, 0, 0) ⨾ (32, 0, 0, 0) ⨾ (35, 3 * n
 nested : ℕ → List ℤ
 nested n = branches n ++ ((16, 0, 0, 0) ⨾ (16, 0, 0, 0) ⨾ (48, 3 * n + 1, 3 * n, 3 * n + 2) ⨾ [])
 
-numbers : List ℕ → List ℤ
+unfoldable pub numbers : List ℕ → List ℤ
 numbers [] = []
 numbers (n ∷ ns) = pos n ∷ numbers ns
 

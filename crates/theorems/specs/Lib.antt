@@ -31,3 +31,4 @@ pub mod Line
 pub mod ReadBack
 pub mod Lookup
 pub mod Demand
+pub mod Attempts
