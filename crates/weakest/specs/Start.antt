@@ -1,7 +1,7 @@
 -- The first call of a writer of W is ready: nothing waits and no assignment was passed, and there is room, since the statement
 -- at row r weighs at most r + 1. Assumes nothing.
-use Prim.Native.Nat.{ℕ, zero, suc, _+_, _≤_, _<_}
-use mathlib.Core.Path.{_≡_, refl, ap}
+use Prim.Native.Nat.{ℕ, suc, _+_, _≤_, _<_}
+use mathlib.Core.Path.{_≡_, refl}
 use mathlib.Core.List.{List}
 use native.Mathlib.Omega.{arith as linear}
 use lib.IntN.{ℤ}
@@ -20,15 +20,17 @@ use Rattle.script.specs.Refusals.{verdict, accepted}
 use Rattle.theorems.specs.Accepted.{Accepted, passed}
 use Rattle.theorems.specs.RowTrees.{stmt-is}
 use Rattle.writing.specs.declared.Place.{Place}
-use Rattle.writing.specs.Writing.{Wrote, wrote-as}
-use Rattle.writing.specs.Paths.{none-passed}
-use Rattle.writing.specs.Nodes.{Linked, links-of}
+use Rattle.writing.specs.Writing.{Wrote}
+use Rattle.writing.specs.Links.{Linked, links-of}
 use Rattle.weakest.specs.declared.End.{End}
 use Rattle.weakest.specs.declared.End.the-variants as End
 use Rattle.weakest.specs.Ends.{Ended}
 use Rattle.weakest.specs.Waiting.{weight, close, waiting}
-use Rattle.weakest.specs.Walked.{Before, Walked}
+use Rattle.weakest.specs.Walked.{Before, Walked, walked-plain}
 use Rattle.theorems.specs.Counting.{part-sum, counted}
+
+none-below : {r : ℕ} → r < zero → ⊥
+none-below h = omega linear
 
 -- ---- the statement at row r weighs at most r + 1
 
@@ -66,22 +68,19 @@ module _ (t : List ℤ) (ok : Accepted t) where
 
 -- ---- the first call
 
-none : {i : ℕ} → i < 0 → ⊥
-none h = omega linear
-
-pub first-before : (t todo path : List ℤ) (s : ℕ) {end : End} → Accepted t → Linked t (rows t) s Sort.Statement → Ended t end → s < length todo
+pub start-before : (t todo path : List ℤ) (s : ℕ) {end : End} → Accepted t → Linked t (rows t) s Sort.Statement → Ended t end → s < length todo
     → rows t ≤ length path → Before t todo 0 path 0 end s
 unfolding waiting
-first-before t todo path s ok h f a b =
+start-before t todo path s ok h f a b =
     let i = h .0 in
     let w = weight-bounded t ok s i in
     record {
       going = record {
         table = ok;
         ended = f;
-        along = record { bound = omega linear; assigns = λ k m. absurd (none m) };
+        along = record { bound = omega linear; assigns = λ k m. absurd (none-below m) };
         deep = omega linear;
-        waits = λ k m. absurd (none m);
+        waits = λ k m. absurd (none-below m);
         budget = omega linear;
       };
       here = h;
@@ -95,13 +94,13 @@ start t todo path s v h f a b =
     let ok = passed t v in
     let i = h .0 in
     let n = ok .short in
-    first-before t todo path s ok h f (omega linear) (omega linear)
+    start-before t todo path s ok h f (omega linear) (omega linear)
 
 -- what it leaves is W itself
 pub first-walked : (t todo path : List ℤ) (s : ℕ) (f : Formula) {l l′ todo′ path′ : List ℤ} {p q : Place}
     → Walked t todo 0 path 0 (wp (stmt-at t s) (close t todo 0 f)) l p q l′ todo′ path′ → Wrote l p (formula-words (wp (stmt-at t s) f)) q l′
 unfolding close
-first-walked t todo path s f w = wrote-as (ap formula-words (none-passed t path (wp (stmt-at t s) f))) (w .words)
+first-walked t todo path s f w = walked-plain w
 
 -- the body of the loop at hand, on the part of `todo` that is not used, before (I and (V less m))
 pub body-before : (t todo : List ℤ) (n : ℕ) (path : List ℤ) (j : ℕ) (end : End) (s : ℕ) {todo′ path′ : List ℤ} {b i x f v : RowNumber} {m : RowNumber}
@@ -117,4 +116,5 @@ body-before t todo n path j end s {todo′} {path′} {b} {i} {x} {f} {v} {m} g 
     let q = links-of t ok (i .0) (omega linear) o in
     let qf = q .0 .0 in
     let qv = q .1 .0 .0 in
-    first-before t todo′ path′ (x .0) ok (omega linear, l .1 .1 .0 .1) (omega linear, ((omega linear, q .0 .1), (omega linear, q .1 .0 .1))) (omega linear) c
+    let ended : Ended t (End.Decreased m f v) = (omega linear, ((omega linear, q .0 .1), (omega linear, q .1 .0 .1))) in
+    start-before t todo′ path′ (x .0) ok (omega linear, l .1 .1 .0 .1) ended (omega linear) c

@@ -1,6 +1,6 @@
 -- What is still to do: its formula and its weight, which depend only on the part of `todo` that is used. `Same n` says that
 -- two runs of rows agree below n. Assumes nothing.
-use Prim.Native.Nat.{ℕ, zero, suc, _+_, _-_, _≤_, _<_}
+use Prim.Native.Nat.{ℕ, zero, suc, _+_, _-_, _*_, _≤_, _<_}
 use mathlib.Core.Path.{_≡_, refl, sym, ap, _∙_}
 use mathlib.Core.Logic.{_⊎_, ⊎-elim}
 use mathlib.Core.List.{List}
@@ -9,11 +9,11 @@ use native.Mathlib.Nat.{lt-of-lt-of-le, eq-or-lt-of-le}
 use lib.IntN.{ℤ, pos}
 use lib.ListN.{length, getD, set, length-set}
 use lib.Seq.{getD-set-same, getD-set-other}
-use Rattle.script.specs.Syntax.{Expr, Formula, Stmt, skip, assign, seq, branch, loop, assert}
+use Rattle.script.specs.Syntax.{Formula, Stmt, skip, assign, seq, branch, loop, assert}
 use Rattle.script.specs.Conditions.{wp}
 use Rattle.script.specs.Trees.{stmt-at}
-use Rattle.writing.specs.Paths.{passing, row-on, under}
-use Rattle.writing.specs.Nodes.{Assignment, OnPath}
+use Rattle.writing.specs.Paths.{row-on, under}
+use Rattle.writing.specs.Nodes.{OnPath}
 
 -- ---- the statements that a writer of W passes: it does not enter a loop's body
 
@@ -64,6 +64,17 @@ module _ (t todo : List ℤ) where
   waiting-step zero h = absurd (h refl)
   waiting-step (suc n) h = let e : suc n - 1 ≡ n = omega linear in rw e
 
+-- ---- the measures: of `write_before` at row s, of `write_branch` with its sides at rows x and y, and of `write_rest`
+
+abbrev pub before-measure : List ℤ → List ℤ → ℕ → ℕ → ℕ
+before-measure t todo n s = 2 * (weight (stmt-at t s) + waiting t todo n)
+
+abbrev pub branch-measure : List ℤ → List ℤ → ℕ → ℕ → ℕ → ℕ
+branch-measure t todo n x y = 2 * (weight (stmt-at t x) + (weight (stmt-at t y) + waiting t todo n)) + 1
+
+abbrev pub rest-measure : List ℤ → List ℤ → ℕ → ℕ
+rest-measure t todo n = 2 * waiting t todo n + 1
+
 -- ---- runs that agree below n
 
 pub record Same (n : ℕ) (xs ys : List ℤ) : Type 0 where
@@ -94,7 +105,8 @@ same-restored n xs ys z l e s = record {
   long = length-set ys n z ∙ s .long;
   at = λ i h.
       let q = s .long in
-      ⊎-elim (λ k. ap (λ (x : ℕ). getD (set ys n z) x (pos 0)) k ∙ getD-set-same ys n z (pos 0) (omega linear) ∙ e ∙ ap (λ (x : ℕ). getD xs x (pos 0)) (sym k))
+      ⊎-elim (λ k.
+      ap (λ (x : ℕ). getD (set ys n z) x (pos 0)) k ∙ getD-set-same ys n z (pos 0) (omega linear) ∙ e ∙ ap (λ (x : ℕ). getD xs x (pos 0)) (sym k))
       (λ k. getD-set-other ys n i z (pos 0) (apart i n k) ∙ s .at i k)
       (eq-or-lt i n h);
 }

@@ -1,3 +1,5 @@
 pub mod Writing
+pub mod Links
 pub mod Paths
 pub mod Nodes
+pub mod Variables

@@ -94,7 +94,9 @@ pub fn write_expression(
     at: Place,
 ) -> Place
     requires { ⌜ Ready (now table) (now path) j (r .0) Expression ⌝ }
-    ensures { λ p. ⌜ Wrote (now (list .entry)) at (expr-under (now (table .entry)) (now (path .entry)) j (r .0)) p (now (list .exit)) ⌝ }
+    ensures { λ p. ⌜ Wrote (now (list .entry)) at
+        (expr-under (now (table .entry)) (now (path .entry)) j (r .0))
+        p (now (list .exit)) ⌝ }
 {
     if let Place::Full = at {
         return Place::Full;
@@ -122,6 +124,7 @@ pub fn write_expression(
             }
         }
     } else {
+        // not reached: the row is an expression
         at
     }
 }
@@ -136,7 +139,9 @@ pub fn write_formula(
     at: Place,
 ) -> Place
     requires { ⌜ Ready (now table) (now path) j (r .0) Formula ⌝ }
-    ensures { λ p. ⌜ Wrote (now (list .entry)) at (formula-under (now (table .entry)) (now (path .entry)) j (r .0)) p (now (list .exit)) ⌝ }
+    ensures { λ p. ⌜ Wrote (now (list .entry)) at
+        (formula-under (now (table .entry)) (now (path .entry)) j (r .0))
+        p (now (list .exit)) ⌝ }
 {
     if let Place::Full = at {
         return Place::Full;
@@ -162,6 +167,7 @@ pub fn write_formula(
             }
         }
     } else {
+        // not reached: the row is a formula
         at
     }
 }
@@ -176,7 +182,9 @@ fn write_variable(
     at: Place,
 ) -> Place
     requires { ⌜ VariableReady (now table) (now path) j (v .0) ⌝ }
-    ensures { λ p. ⌜ Wrote (now (list .entry)) at (expr-words (under (now (table .entry)) (now (path .entry)) j (v .0))) p (now (list .exit)) ⌝ }
+    ensures { λ p. ⌜ Wrote (now (list .entry)) at
+        (expr-words (under (now (table .entry)) (now (path .entry)) j (v .0)))
+        p (now (list .exit)) ⌝ }
 {
     if let Place::Full = at {
         return Place::Full;
@@ -194,6 +202,7 @@ fn write_variable(
                 write_variable(table, v, list, path, k, at)
             }
         } else {
+            // not reached, here and below: the path holds rows of assignments
             at
         }
     } else {

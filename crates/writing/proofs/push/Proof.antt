@@ -26,7 +26,9 @@ same-length : tie.Need-same-length
 same-length c = search needs
 
 returns : tie.Need-returns
-returns c = fitted (c .before .before .at .given .0 .0) (c .before .before .at .given .1) (search needs) refl (rw (toZ-ofZ (c .before .before .before .before .fits .word)))
+returns c =
+    let at = c .before .before .at .given in
+    fitted (at .0 .0) (at .1) (search needs) refl (rw (toZ-ofZ (c .before .before .before .before .fits .word)))
 
 returns-2 : tie.Need-returns-2
 returns-2 c = stopped (c .before .before .at .given .0 .0) (c .before .before .at .given .1) (search needs) refl refl
