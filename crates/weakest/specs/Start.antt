@@ -1,6 +1,6 @@
 -- The first call of a writer of W is ready: nothing waits and no assignment was passed, and there is room, since the statement
 -- at row r weighs at most r + 1. Assumes nothing.
-use Prim.Native.Nat.{ℕ, suc, _+_, _≤_, _<_}
+use Prim.Native.Nat.{ℕ, zero, suc, _+_, _≤_, _<_}
 use mathlib.Core.Path.{_≡_, refl}
 use mathlib.Core.List.{List}
 use native.Mathlib.Omega.{arith as linear}
