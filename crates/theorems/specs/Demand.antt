@@ -1,15 +1,11 @@
 -- Demand 3 of what the generator answers and leaves, for every table, list and scratch: `demand-3`.
--- Argument: every refusal of a table has a number from 1 to 10, so the number is 0 only where the table is accepted and
--- the list was written. Its words are those of the conditions, a well-formed list, which is read as it was written
+-- Argument: the number is 0 only where the table is accepted and the list was written (`Outcomes`). Its words are those of the conditions, a well-formed list, which is read as it was written
 -- (`read-written`); the tree of an accepted table is well-scoped, and the rules are sound. Assumes nothing.
 use Prim.Native.Nat.{ℕ, _≤_, _<_}
 use mathlib.Core.Path.{_≡_, refl}
 use mathlib.Core.Logic.{_≢_}
-use mathlib.Core.Bool.{Bool, true, false, cond}
 use mathlib.Core.List.{List}
 use native.Mathlib.Omega.{arith as linear}
-use borrow.Author.Tests.{ltb-false}
-use lib.Dec.{ltb}
 use lib.IntN.{ℤ}
 use lib.ListN.{length, length-append}
 use lib.Seq.{take-append-seam}
@@ -19,10 +15,10 @@ use Rattle.script.specs.Conditions.{walk, conditions}
 use Rattle.script.specs.Words.{list-words}
 use Rattle.script.specs.Trees.{tree}
 use Rattle.script.specs.WellFormed.{Well-formed}
-use Rattle.script.specs.Refusals.{Verdict, accepted, refused, verdict}
-use Rattle.script.specs.Generated.{Outcome, refuse, plan, room, scratch-need, outcome-for, outcome}
+use Rattle.script.specs.Refusals.{accepted, verdict}
+use Rattle.script.specs.Generated.{Outcome, refuse, plan, room, outcome}
 use Rattle.script.specs.Promise.{Demand-3}
-use Rattle.theorems.specs.Numbers.{one-to-ten}
+use Rattle.theorems.specs.Outcomes.{outcome-cases}
 use Rattle.theorems.specs.Sound.{sound}
 use Rattle.theorems.specs.ReadBack.{read-written}
 use Rattle.theorems.specs.Scoped.{scoped}
@@ -57,18 +53,5 @@ module _ (table : List ℤ) (list scratch : ℕ) where
       let read = read-written (list-words cs) cs (well-formed table list h fits) in
       sound whole (tree table) (scoped table h) (valid cs (rw take-append-seam read)) s pre
 
-  tests-demand : verdict table ≡ accepted → (a b : Bool) → ltb (room list) (length (list-words (conditions (tree table)))) ≡ b
-      → Demand (cond a (refuse 11 0 list scratch) (cond b (refuse 12 0 list scratch) (plan (conditions (tree table)) list scratch)))
-  tests-demand h true b e = refused-demand 11 0 (omega linear)
-  tests-demand h false true e = refused-demand 12 0 (omega linear)
-  tests-demand h false false e = plan-demand h (ltb-false (room list) _ e)
-
-  verdict-demand : (v : Verdict) → verdict table ≡ v
-      → Demand (elim v [ refused n r ↦ refuse n r list scratch | accepted ↦ outcome-for (tree table) list scratch ])
-  unfolding outcome-for
-  verdict-demand accepted h = tests-demand h (ltb scratch (scratch-need (tree table) list)) _ refl
-  verdict-demand (refused n r) h = refused-demand n r (λ e. let k = one-to-ten table n r h in omega linear)
-
   pub demand-3 : Demand-3 table (outcome table list scratch .answer) (outcome table list scratch .list)
-  unfolding outcome
-  demand-3 = verdict-demand (verdict table) refl
+  demand-3 = outcome-cases Demand table list scratch refused-demand plan-demand

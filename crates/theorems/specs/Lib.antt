@@ -30,5 +30,6 @@ pub mod Spelling
 pub mod Line
 pub mod ReadBack
 pub mod Lookup
+pub mod Outcomes
 pub mod Demand
 pub mod Attempts

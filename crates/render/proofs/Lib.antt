@@ -1,0 +1,7 @@
+mod Signs
+mod Digits
+mod Lines
+mod Short
+mod Loops
+mod Bytes
+mod Walk
