@@ -45,11 +45,11 @@ both-accept accepted w h = (refl, h)
 both-accept (refused n r) w h = clash h
 
 -- a test that gives `accepted` where b is true
-pass-true : (b : Bool) (n r : ℕ) → cond b accepted (refused n r) ≡ accepted → T b
+pub pass-true : (b : Bool) (n r : ℕ) → cond b accepted (refused n r) ≡ accepted → T b
 pass-true true n r h = tt
 pass-true false n r h = clash h
 
-pass-false : (b : Bool) (n r : ℕ) → cond b (refused n r) accepted ≡ accepted → b ≡ false
+pub pass-false : (b : Bool) (n r : ℕ) → cond b (refused n r) accepted ≡ accepted → b ≡ false
 pass-false true n r h = clash h
 pass-false false n r h = refl
 
@@ -71,13 +71,13 @@ present : (b : Bool) (k : ℕ) → cond b 0 (suc k) ≡ 0 → T b
 present true k h = tt
 present false k h = absurd (omega linear)
 
-record Sound-row (t : List ℤ) (k : ℕ) : Type 0 where
+pub record Sound-row (t : List ℤ) (k : ℕ) : Type 0 where
   pub ranges : T (in-range t (fields (row t k)) && unused-zero t k (length (fields (row t k))))
   pub order : T (all-below t k (parts (row t k)))
   pub sorts : T (well-sorted t (parts (row t k)))
   pub new : T (all-new t (linked t k) (parts (row t k)))
 
-sound-row : (t : List ℤ) (k : ℕ) → row-fault t k ≡ 0 → Sound-row t k
+pub sound-row : (t : List ℤ) (k : ℕ) → row-fault t k ≡ 0 → Sound-row t k
 unfolding row-fault
 sound-row t k h =
     let a = known (same-sort (sort-of (row t k)) Unknown) 1 _ h in
@@ -89,7 +89,7 @@ sound-row t k h =
 
 -- ---- the length
 
-record Sound-length (n : ℕ) : Type 0 where
+pub record Sound-length (n : ℕ) : Type 0 where
   pub filled : 0 < n / 4
   pub fours : n ≡ 4 * (n / 4)
   pub short : n / 4 ≤ 2048
@@ -107,7 +107,7 @@ neither false true c h = absurd (let z : _≡_ {A = ℕ} 0 1 = cc in omega linea
 neither false false true h = absurd (let z : _≡_ {A = ℕ} 0 1 = cc in omega linear)
 neither false false false h = (refl, refl, refl)
 
-sound-length : (n : ℕ) → bad-length n ≡ false → Sound-length n
+pub sound-length : (n : ℕ) → bad-length n ≡ false → Sound-length n
 sound-length n h =
     let s = neither (eqb n 0) (not (eqb (n % 4) 0)) (ltb 8192 n) h in
     length-by n (s .0) (not-false (eqb (n % 4) 0) (s .1)) (s .2)

@@ -1,5 +1,6 @@
 -- `lines::write_step` meets its contract: the parts, one run after another, are the formula, and its trailer ends the line. Assumes nothing.
 use borrow.Author.Needs.{needs}
+use Rattle.writing.specs.Writing.{then}
 use mir.Facts.{toZ-ofZ}
 use Rattle.lines.specs.Listed.{listed-length}
 use Rattle.lines.specs.Spelled.{finishing}
@@ -14,22 +15,27 @@ write-formula-requires c κs =
 
 write-formula-requires-2 : tie.Need-write-formula-requires-2
 write-formula-requires-2 c κs =
-    let c1 = c .before .before .before .before .before .before .before .before .before .before .before .before .before .before .before in
+    let a1 = c .before .before .before .before .before .before .before .before .before .before .before .before .before .before in
+    let c1 = a1 .before in
     node-ready _ _ _ (c1 .pre .0 .loops .table) (c1 .pre .0 .loops .guarded)
 
 write-expression-requires : tie.Need-write-expression-requires
 write-expression-requires c κs =
-    let c1 = c .before .before .before .before .before .before .before .before .before .before .before .before .before .before .before .before .before .before .before .before .before .before in
+    let a1 = c .before .before .before .before .before .before .before .before .before .before .before .before .before .before in
+    let c1 = a1 .before .before .before .before .before .before .before .before in
     node-ready _ _ _ (c1 .pre .0 .loops .table) (c1 .pre .0 .loops .falling)
 
 cast-push-two : tie.Need-cast-push-two
 cast-push-two c =
-    let c1 = c .before .before .before .before .before .before .before .before .before .before .before .before .before .before .before .before .before .before .before .before .before .before .before .before .before .before in
+    let a1 = c .before .before .before .before .before .before .before .before .before .before .before .before .before .before in
+    let c1 = a1 .before .before .before .before .before .before .before .before .before .before .before .before in
     mark-fits _ _ (c1 .pre .0 .loops)
 
 write-before-requires : tie.Need-write-before-requires
 write-before-requires c κs =
-    let c1 = c .before .before .before .before .before .before .before .before .before .before .before .before .before .before .before .before .before .before .before .before .before .before .before .before .before .before .before .before .before .before .before .before .before .before in
+    let a1 = c .before .before .before .before .before .before .before .before .before .before .before .before .before .before in
+    let b1 = a1 .before .before .before .before .before .before .before .before .before .before .before .before .before .before in
+    let c1 = b1 .before .before .before .before .before .before in
     step-before _ _ (c1 .pre .0)
 
 finish-line-requires : tie.Need-finish-line-requires
@@ -44,7 +50,9 @@ finish-line-requires c κs =
     let c8 = c7 .before .before .before in
     let c9 = c8 .before .before .before in
     let c10 = c9 .before .before in
-    finishing _ (c10 .pre .0 .loops .table) (c10 .pre .0 .loops .inside) (c10 .pre .1) (c9 .at .given .1) (wrote-step _ (c10 .args .k) (c8 .push-two .ensures) (c7 .push .ensures) (c6 .write-formula .ensures) (c5 .write-formula2 .ensures) (c4 .push2 .ensures) (c3 .write-expression .ensures) (rw (toZ-ofZ (mark-fits _ _ (c10 .pre .0 .loops))) at (c2 .push-two2 .ensures)) (c1 .write-before .ensures))
+    let w = then (c8 .push-two .ensures) (then (c7 .push .ensures) (then (c6 .write-formula .ensures) (c5 .write-formula2 .ensures))) in
+    let v = then (c4 .push2 .ensures) (then (c3 .write-expression .ensures) (then (c2 .push-two2 .ensures) (c1 .write-before .ensures .words))) in
+    finishing _ (c10 .pre .0 .loops .table) (c10 .pre .0 .loops .inside) (c10 .pre .1) (c9 .at .given .1) (then w v)
 
 same-length-3 : tie.Need-same-length-3
 same-length-3 c =
@@ -58,7 +66,10 @@ same-length-3 c =
     let c8 = c7 .before .before .before .before in
     let c9 = c8 .before .before .before in
     let c10 = c9 .before .before .before .before .before in
-    listed-length (c1 .finish-line .ensures _ _ (wrote-step _ (c10 .args .k) (c9 .push-two .ensures) (c8 .push .ensures) (c7 .write-formula .ensures) (c6 .write-formula2 .ensures) (c5 .push2 .ensures) (c4 .write-expression .ensures) (rw (toZ-ofZ (mark-fits _ _ (c10 .pre .0 .loops))) at (c3 .push-two2 .ensures)) (c2 .write-before .ensures)))
+    let m = rw (toZ-ofZ (mark-fits _ _ (c10 .pre .0 .loops))) at (c3 .push-two2 .ensures) in
+    let w = wrote-step _ (c10 .args .k) (c9 .push-two .ensures) (c8 .push .ensures) (c7 .write-formula .ensures) (c6 .write-formula2 .ensures)
+    (c5 .push2 .ensures) (c4 .write-expression .ensures) m (c2 .write-before .ensures) in
+    listed-length (c1 .finish-line .ensures _ _ w)
 
 returns : tie.Need-returns
 returns c =
@@ -73,7 +84,10 @@ returns c =
     let c9 = c8 .before .before .before in
     let c10 = c9 .before .before .before in
     let c11 = c10 .before .before in
-    line-walked (c10 .at .given .1) (c2 .write-before .ensures) (c1 .finish-line .ensures _ _ (wrote-step _ (c11 .args .k) (c9 .push-two .ensures) (c8 .push .ensures) (c7 .write-formula .ensures) (c6 .write-formula2 .ensures) (c5 .push2 .ensures) (c4 .write-expression .ensures) (rw (toZ-ofZ (mark-fits _ _ (c11 .pre .0 .loops))) at (c3 .push-two2 .ensures)) (c2 .write-before .ensures)))
+    let m = rw (toZ-ofZ (mark-fits _ _ (c11 .pre .0 .loops))) at (c3 .push-two2 .ensures) in
+    let w = wrote-step _ (c11 .args .k) (c9 .push-two .ensures) (c8 .push .ensures) (c7 .write-formula .ensures) (c6 .write-formula2 .ensures)
+    (c5 .push2 .ensures) (c4 .write-expression .ensures) m (c2 .write-before .ensures) in
+    line-walked (c10 .at .given .1) (c2 .write-before .ensures) (c1 .finish-line .ensures _ _ w)
 
 returns-2 : tie.Need-returns-2
 returns-2 c = lined-full (c .enum-told .given .1)

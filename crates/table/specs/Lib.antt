@@ -1,0 +1,10 @@
+pub mod Parts
+pub mod Seen
+pub mod Ranges
+pub mod Faults
+pub mod Lowest
+pub mod Reads
+pub mod Misread
+pub mod Reading
+pub mod Nesting
+pub mod Check
