@@ -84,7 +84,7 @@ past-last [] i h = refl
 past-last (f ∷ fs) zero h = absurd (let l : suc (length fs) ≤ 0 = h in omega linear)
 past-last (f ∷ fs) (suc i) h = past-last fs i (let l : suc (length fs) ≤ suc i = h in omega linear)
 
-abbrev or-21 : Option Found → Line
+abbrev pub or-21 : Option Found → Line
 or-21 o = elim o [ some f ↦ line f | none ↦ no-line 21 ]
 
 -- a negative index is read as one beyond every count

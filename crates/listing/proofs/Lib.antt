@@ -1,12 +1,15 @@
+-- where an expression or a formula ends
 mod Opening
 mod Parts
 mod Joining
 mod Reading
+-- the line that ends at a place
 mod Tests
 mod Trailers
 mod Part
 mod Stepping
+pub mod Places
+-- the whole list and the line at an index
 mod Walking
 mod Entries
 mod Fitting
-pub mod Places

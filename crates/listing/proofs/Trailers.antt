@@ -18,7 +18,7 @@ use Rattle.listing.specs.Lines.{is-some, is-line, answer}
 use Rattle.listing.proofs.Tests.{rule-is, below-is, below-most}
 
 -- what is found of a trailer after a formula that ends at e
-abbrev line-found : ℕ → Rule → ℕ → ℕ → Formula → Found
+abbrev pub line-found : ℕ → Rule → ℕ → ℕ → Formula → Found
 line-found e rule row size claim = record { condition = condition rule row claim; start = e - size; end = e }
 
 -- the line with the trailer k, r, n after a formula that ends at e, where its tests hold

@@ -36,7 +36,8 @@ returns c =
     let l = turn .before .loop in
     let a = turn .before .before .before .args in
     c .no-line2 .ensures
-    ∙ sym (torn-step (a .words .now) (a .index) (l .kept) (l .end) (l .left) (turn .loop-test .taken) (c .before .before .before .line-before .ensures)
+    ∙ sym (torn-step (a .words .now) (a .index) (l .kept) (l .end) (l .left) (turn .loop-test .taken)
+    (c .before .before .before .line-before .ensures)
     (c .before .if1 .taken))
     ∙ l .inv ∙ walk-finds (a .words .now) (a .index) (a .count) (a .last)
 

@@ -31,7 +31,8 @@ returns : tie.Need-returns
 returns c =
     let read = c .before .before .before in
     let s = read .before .before .before in
-    opened (s .args .words .now) (s .args .at) (read .before .before .if1 .taken) (read .field-number .ensures) (back (read .before .field-number-arg .given))
+    opened (s .args .words .now) (s .args .at) (read .before .before .if1 .taken) (read .field-number .ensures)
+    (back (read .before .field-number-arg .given))
     (back (c .before .before .word-at .ok) ∙ c .before .before .word-at .ensures)
     (c .before .row-of .ensures)
     (c .node-of .ensures)
