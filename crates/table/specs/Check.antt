@@ -14,7 +14,7 @@ use Rattle.theorems.specs.Accepted.{Sound-row, sound-row, sound-length, pass-fa
 use Rattle.script.specs.declared.RowNumber.{RowNumber}
 use Rattle.table.specs.declared.Verdict.{Verdict as Answer}
 use Rattle.table.specs.declared.Verdict.the-variants as Answer
-use Rattle.table.specs.Lowest.{reading}
+use Rattle.table.specs.Verdicts.{verdict-of}
 use Rattle.table.specs.Faults.{Sized}
 use Rattle.table.specs.Misread.{Sound}
 
@@ -59,15 +59,12 @@ length-passed t e h = rw (← e, h)
 
 -- ---- a test that accepts leaves the verdict to the others, and one that refuses gives it
 
-pub passes : {v : Answer} {w : Verdict} → reading v ≡ w → v ≡ Answer.Accepted → w ≡ accepted
-passes e h = sym e ∙ ap reading h
-
 pub goes-on : (v w : Verdict) {u : Verdict} → v ≡ accepted → v and-then w ≡ u → w ≡ u
 goes-on v w e h = rw e at h
 
-pub decides : {x : Answer} {n : ℕ} {r : RowNumber} (v w : Verdict) {u : Verdict} → reading x ≡ v → x ≡ Answer.Refused n r
-    → v and-then w ≡ u → reading x ≡ u
-decides {r} v w e h k = ap reading h ∙ (rw (← e, h) at k)
+pub decides : {x : Answer} {n : ℕ} {r : RowNumber} (v w : Verdict) {u : Verdict} → verdict-of x ≡ v → x ≡ Answer.Refused n r
+    → v and-then w ≡ u → verdict-of x ≡ u
+decides {r} v w e h k = ap verdict-of h ∙ (rw (← e, h) at k)
 
 -- what an accepted table gives to the descents
 pub accepted-sound : {t : List ℤ} → verdict t ≡ accepted → Sound t × (script-test t ≡ accepted)

@@ -1,3 +1,4 @@
+pub mod Verdicts
 pub mod Parts
 pub mod Seen
 pub mod Ranges

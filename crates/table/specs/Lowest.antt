@@ -1,4 +1,4 @@
--- A verdict as the code gives it, and loops that look for the lowest row with a fault.
+-- Loops that look for the lowest row with a fault, and what they give to the tests 1 to 8.
 -- Argument: while no row below i has a fault, the test from row i up is the whole test. Assumes nothing.
 use Prim.Native.Nat.{ℕ, suc, _+_, _-_, _%_, _≤_, _<_}
 use mathlib.Core.Path.{_≡_, refl, sym, ap, _∙_}
@@ -23,13 +23,9 @@ use Rattle.table.specs.declared.Links.{Links}
 use Rattle.table.specs.declared.Links.the-variants as Links
 use Rattle.table.specs.declared.Fields.{Fields}
 use Rattle.table.specs.Parts.{named, link-list, list-of}
+use Rattle.table.specs.Verdicts.{verdict-of}
 use Rattle.table.specs.Seen.{Shows}
 use Rattle.table.specs.Faults.{Sized, Tested}
-
--- 01's number and row of what the code answers
-abbrev pub reading : Answer → Verdict
-reading Answer.Accepted = accepted
-reading (Answer.Refused n r) = refused n (r .0)
 
 -- ---- a loop over the rows below n, at row i
 
@@ -52,10 +48,12 @@ either-false : (b : Bool) (v w : Verdict) → b ≡ false → elim b [ true ↦ 
 either-false b v w e = rw e
 
 pub reached-more : {fault : ℕ → ℕ} {n i : ℕ} → Reached fault n i → i < n → fault i ≡ 0 → Reached fault n (i + 1)
-reached-more {fault} {n} {i} r h e = record {
-  within = omega linear;
-  rest = ap (lowest fault (n - (i + 1))) (add-one i) ∙ (sym (lowest-at fault n i (n - (i + 1)) (omega linear) ∙ either-true (eqb (fault i) 0) _ _ (eq-eqb (fault i) 0 e)) ∙ r .rest);
-}
+reached-more {fault} {n} {i} r h e =
+    let step = lowest-at fault n i (n - (i + 1)) (omega linear) in
+    record {
+      within = omega linear;
+      rest = ap (lowest fault (n - (i + 1))) (add-one i) ∙ (sym (step ∙ either-true (eqb (fault i) 0) _ _ (eq-eqb (fault i) 0 e)) ∙ r .rest);
+    }
 
 pub reached-fault : {fault : ℕ → ℕ} {n i : ℕ} → Reached fault n i → i < n → fault i ≢ 0 → refused (fault i) i ≡ lowest fault n 0
 reached-fault {fault} {n} {i} r h e =
@@ -82,8 +80,8 @@ pub record Rows-at (t : List ℤ) (i : ℕ) (s : List Bool) : Type 0 where
   pub shown : Shows s (linked t i)
 
 pub record Rows-tested (t : List ℤ) (v : Answer) (s : List Bool) : Type 0 where
-  pub is : reading v ≡ row-test t
-  pub shown : reading v ≡ accepted → Shows s (linked t (rows t))
+  pub is : verdict-of v ≡ row-test t
+  pub shown : verdict-of v ≡ accepted → Shows s (linked t (rows t))
 
 clash : {X : Type 0} {n r : ℕ} → refused n r ≡ accepted → X
 clash e = absurd (let z : _≡_ {A = ℕ} 0 1 = cc in omega linear)

@@ -89,20 +89,36 @@ module _ {t : List ℤ} {r : ℕ} {code : Bool} {s : List Bool} {low : ℕ} wher
   pub two-read : {m m₁ : ℕ} {s₁ s₂ : List Bool} (c : Bool) (a b : RowNumber) → reads-of code (row t r) ≡ Reads.Two c a b
       → (a .0 < r) × (b .0 < r) → Misread t (a .0) c s low m₁ s₁ → Misread t (b .0) c s₁ m₁ m s₂
       → Misread t r code s low m s₂
-  two-read c a b e h d₁ d₂ = by-node (d₂ .kept ∙ d₁ .kept) (λ inside sh n l. rw (e, least-append (misread t n c inside (a .0)), ← d₁ .at inside sh n (omega linear)) (d₂ .at inside (rw (d₁ .kept) sh) n (omega linear)))
+  two-read c a b e h d₁ d₂ =
+      by-node
+      (d₂ .kept ∙ d₁ .kept)
+      (λ inside sh n l.
+      rw (e, least-append (misread t n c inside (a .0)), ← d₁ .at inside sh n (omega linear))
+      (d₂ .at inside (rw (d₁ .kept) sh) n (omega linear)))
 
   pub three-read : {m m₁ m₂ : ℕ} {s₁ s₂ s₃ : List Bool} (c d : Bool) (f a b : RowNumber)
       → reads-of code (row t r) ≡ Reads.Three c d f a b → (f .0 < r) × ((a .0 < r) × (b .0 < r))
       → Misread t (f .0) c s low m₁ s₁ → Misread t (a .0) d s₁ m₁ m₂ s₂ → Misread t (b .0) d s₂ m₂ m s₃
       → Misread t r code s low m s₃
-  three-read c d f a b e h d₁ d₂ d₃ = by-node (d₃ .kept ∙ (d₂ .kept ∙ d₁ .kept)) (λ inside sh n l. rw (e, least-append (misread t n c inside (f .0)), ← d₁ .at inside sh n (omega linear), least-append (misread t n d inside (a .0)), ← d₂ .at inside (rw (d₁ .kept) sh) n (omega linear)) (d₃ .at inside (rw (d₂ .kept ∙ d₁ .kept) sh) n (omega linear)))
+  three-read c d f a b e h d₁ d₂ d₃ =
+      by-node
+      (d₃ .kept ∙ (d₂ .kept ∙ d₁ .kept))
+      (λ inside sh n l.
+      rw (e, least-append (misread t n c inside (f .0)), ← d₁ .at inside sh n (omega linear))
+      (rw (least-append (misread t n d inside (a .0)), ← d₂ .at inside (rw (d₁ .kept) sh) n (omega linear))
+      (d₃ .at inside (rw (d₂ .kept ∙ d₁ .kept) sh) n (omega linear))))
 
   -- the marks during the body, and after it
   pub loop-read : {m m₁ m₂ : ℕ} {s₁ s₂ s₃ : List Bool} (b i x : RowNumber) → r < 2048
       → reads-of code (row t r) ≡ Reads.Loop b i x → (b .0 < r) × ((i .0 < r) × (x .0 < r))
-      → Misread t (b .0) true s low m₁ s₁ → Misread t (i .0) false s₁ m₁ m₂ s₂ → Misread t (x .0) false (set s₂ r true) m₂ m s₃ → Misread t r code s low m (set s₃ r (getD s₂ r false))
+      → Misread t (b .0) true s low m₁ s₁
+      → Misread t (i .0) false s₁ m₁ m₂ s₂
+      → Misread t (x .0) false (set s₂ r true) m₂ m s₃ → Misread t r code s low m (set s₃ r (getD s₂ r false))
   loop-read {m} {m₁} {m₂} {s₁} {s₂} {s₃} b i x z e h d₁ d₂ d₃ =
       let same : s₂ ≡ s = d₂ .kept ∙ d₁ .kept in
       by-node
       (ap (λ (l : List Bool). set l r (getD s₂ r false)) (d₃ .kept) ∙ (set-set s₂ r true (getD s₂ r false) ∙ (set-getD s₂ r false ∙ same)))
-      (λ inside sh n l. rw (e, least-append (misread t n true inside (b .0)), ← d₁ .at inside sh n (omega linear), least-append (misread t n false inside (i .0)), ← d₂ .at inside (rw (d₁ .kept) sh) n (omega linear)) (d₃ .at (r ∷ inside) (shows-more s₂ inside r z (rw same sh)) n (omega linear)))
+      (λ inside sh n l.
+      rw (e, least-append (misread t n true inside (b .0)), ← d₁ .at inside sh n (omega linear))
+      (rw (least-append (misread t n false inside (i .0)), ← d₂ .at inside (rw (d₁ .kept) sh) n (omega linear))
+      (d₃ .at (r ∷ inside) (shows-more s₂ inside r z (rw same sh)) n (omega linear))))

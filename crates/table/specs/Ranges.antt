@@ -102,4 +102,5 @@ pub fields-in-range : (t : List ℤ) (r : ℕ) (f : Fields) {n l : ℕ} {p q z :
     → n ≡ length (named (f .name) []) → l ≡ length (link-list (f .links))
     → p ≡ name-in-range (rows t) (f .name) → q ≡ all-zero (drop (n + l) (a ∷ b ∷ c ∷ [])) → a ≡ word t r 1 → b ≡ word t r 2 → c ≡ word t r 3
     → z ≡ p && q → z ≡ in-range t (list-of f) && unused-zero t r (length (list-of f))
-fields-in-range t r f en el ep eq ea eb ec ez = rw (range-is t (f .name) (f .links), ← used-is (f .name) (link-list (f .links)), ez, ep, eq, en, el, ea, eb, ec)
+fields-in-range t r f en el ep eq ea eb ec ez =
+    rw (range-is t (f .name) (f .links), ← used-is (f .name) (link-list (f .links)), ez, ep, eq, en, el, ea, eb, ec)

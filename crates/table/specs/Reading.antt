@@ -34,7 +34,9 @@ or-right false b h = h
 least-below : (xs : List ℕ) (low k : ℕ) → member k xs ≡ true → least xs low ≤ k
 least-below [] low k h = absurd (let z : _≡_ {A = ℕ} 0 1 = cc in omega linear)
 least-below (x ∷ xs) low k h =
-    ⊎-elim (λ e. let a = eqb-true k x e in let b = least-low xs (min x low) in omega linear) (λ e. least-below xs (min x low) k e) (or-cases (eqb k x) (member k xs) h)
+    ⊎-elim (λ e. let a =
+    eqb-true k x e in let b = least-low xs (min x low) in omega linear) (λ e. least-below xs (min x low) k
+    e) (or-cases (eqb k x) (member k xs) h)
 
 least-in : (xs : List ℕ) (low : ℕ) → least xs low < low → member (least xs low) xs ≡ true
 least-in [] low h = absurd (omega linear)
@@ -51,7 +53,8 @@ least-in (x ∷ xs) low h = go (decLt (least xs (min x low)) (min x low)) (least
 
 reach : (fault : ℕ → ℕ) (n i : ℕ) → i ≤ n → ((k : ℕ) → k < i → fault k ≡ 0) → Reached fault n i
 reach fault n zero h f = reached-none
-reach fault n (suc i) h f = rw (add-one i) at (reached-more (reach fault n i (omega linear) (λ k l. f k (omega linear))) (omega linear) (f i (omega linear)))
+reach fault n (suc i) h f =
+    rw (add-one i) at (reached-more (reach fault n i (omega linear) (λ k l. f k (omega linear))) (omega linear) (f i (omega linear)))
 
 absent : (xs : List ℕ) (low k : ℕ) → k < least xs low → _≡_ {A = ℕ} (cond (member k xs) 9 0) 0
 absent xs low k h = go (member k xs) refl

@@ -53,7 +53,15 @@ after-false a false c h e = refl
 -- the first is new: the rest decides
 pub mark-then : {s s′ s″ : List Bool} {q r : Bool} (p : Part) (ps : List Part) → q ≡ true → Marks s (p ∷ []) q s′
     → Marks s′ ps r s″ → Marks s (p ∷ ps) r s″
-mark-then {q} p ps e m n = record { at = λ ws xs sh. let a = m .at ws xs sh in let b = n .at ws (p .at ∷ xs) (a .1 e) in (b .0 ∙ after-true q (not (member (p .at) xs)) (all-new ws (p .at ∷ xs) ps) (a .0) e, b .1) }
+mark-then {q} p ps e m n = record {
+  at = λ ws xs sh.
+      let a = m .at ws xs sh in
+      let b = n .at ws (p .at ∷ xs) (a .1 e) in
+      (b .0 ∙ after-true q (not (member (p .at) xs)) (all-new ws (p .at ∷ xs) ps) (a .0) e, b .1);
+}
 
 pub mark-stop : {s s′ : List Bool} {q : Bool} (p : Part) (ps : List Part) → q ≡ false → Marks s (p ∷ []) q s′ → Marks s (p ∷ ps) false s′
-mark-stop {q} p ps e m = record { at = λ ws xs sh. (after-false q (not (member (p .at) xs)) (all-new ws (p .at ∷ xs) ps) (m .at ws xs sh .0) e, λ f. absurd (let z : _≡_ {A = ℕ} 0 1 = cc in omega linear)) }
+mark-stop {q} p ps e m = record {
+  at = λ ws xs sh.
+      (after-false q (not (member (p .at) xs)) (all-new ws (p .at ∷ xs) ps) (m .at ws xs sh .0) e, λ f. absurd (let z : _≡_ {A = ℕ} 0 1 = cc in omega linear));
+}

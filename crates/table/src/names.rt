@@ -16,7 +16,7 @@ ghost use mathlib.Core.List.{[], _∷_};
 ghost use Prim.Native.Nat.{ℕ, _<_};
 ghost use Rattle.script.specs.Rows.{rows};
 ghost use Rattle.script.specs.Refusals.{reading-test};
-ghost use Rattle.table.specs.Lowest.{reading};
+ghost use Rattle.table.specs.Verdicts.{verdict-of};
 ghost use Rattle.table.specs.Reads.{expression-reads, formula-reads, reads-of, statement-reads};
 ghost use Rattle.table.specs.Misread.{Misread, Sound, least};
 
@@ -136,7 +136,7 @@ fn lowest_misread(
 // 9: each frozen name and each mark stands where it may.
 pub fn check_names(table: &[i32]) -> Verdict
     requires { ⌜ Sound (now table) ⌝ }
-    ensures { λ v. ⌜ reading v ≡ reading-test (now (table .entry)) ⌝ }
+    ensures { λ v. ⌜ verdict-of v ≡ reading-test (now (table .entry)) ⌝ }
 {
     let mut around = [false; 2048];
     let rows = table.len() / 4;

@@ -11,7 +11,7 @@ ghost use Rattle.script.specs.Rows.{rows};
 ghost use Rattle.script.specs.Trees.{tree};
 ghost use Rattle.script.specs.Trees.{nesting as Trees·nesting};
 ghost use Rattle.script.specs.Refusals.{accepted, nesting-test, script-test};
-ghost use Rattle.table.specs.Lowest.{reading};
+ghost use Rattle.table.specs.Verdicts.{verdict-of};
 ghost use Rattle.table.specs.Misread.{Sound};
 ghost use Rattle.table.specs.Nesting.{Nested, inner-of, statement-inner, body-of};
 
@@ -88,7 +88,7 @@ pub fn script_nesting(table: &[i32]) -> usize
 // 10: the nesting is at most 8.
 pub fn check_nesting(table: &[i32]) -> Verdict
     requires { ⌜ Sound (now table) × (script-test (now table) ≡ accepted) ⌝ }
-    ensures { λ v. ⌜ reading v ≡ nesting-test (now (table .entry)) ⌝ }
+    ensures { λ v. ⌜ verdict-of v ≡ nesting-test (now (table .entry)) ⌝ }
 {
     if script_nesting(table) <= 8 {
         Verdict::Accepted

@@ -15,7 +15,8 @@ ghost use Rattle.script.specs.Rows.{rows};
 ghost use Rattle.script.specs.Refusals.{bad-length, frozen, linked, unlinked-test, script-test, target-test};
 ghost use Rattle.table.specs.Seen.{Shows};
 ghost use Rattle.table.specs.Faults.{Sized};
-ghost use Rattle.table.specs.Lowest.{Rows-tested, reading, name-frozen};
+ghost use Rattle.table.specs.Verdicts.{verdict-of};
+ghost use Rattle.table.specs.Lowest.{Rows-tested, name-frozen};
 
 // 1: no words, not four to a row, or over 2,048 rows.
 pub fn bad_length(n: usize) -> bool
@@ -50,7 +51,7 @@ pub fn check_rows(table: &[i32], seen: &mut [bool; 2048]) -> Verdict
 // 7: the last row is a script.
 pub fn check_script(table: &[i32]) -> Verdict
     requires { ⌜ Sized (now table) ⌝ }
-    ensures { λ v. ⌜ reading v ≡ script-test (now (table .entry)) ⌝ }
+    ensures { λ v. ⌜ verdict-of v ≡ script-test (now (table .entry)) ⌝ }
 {
     let last = table.len() / 4 - 1;
     if parts::has_sort(script::row_at(table, last), Sort::Script) {
@@ -63,7 +64,7 @@ pub fn check_script(table: &[i32]) -> Verdict
 // 7: each row but the last is linked.
 pub fn check_unlinked(table: &[i32], seen: &[bool; 2048]) -> Verdict
     requires { ⌜ Sized (now table) × Shows (now seen) (linked (now table) (rows (now table))) ⌝ }
-    ensures { λ v. ⌜ reading v ≡ unlinked-test (now (table .entry)) ⌝ }
+    ensures { λ v. ⌜ verdict-of v ≡ unlinked-test (now (table .entry)) ⌝ }
 {
     let last = table.len() / 4 - 1;
     let mut r: usize = 0;
@@ -99,7 +100,7 @@ fn name_frozen(name: Name) -> bool
 // 8: no assignment to a frozen name.
 pub fn check_targets(table: &[i32]) -> Verdict
     requires { ⌜ Sized (now table) ⌝ }
-    ensures { λ v. ⌜ reading v ≡ target-test (now (table .entry)) ⌝ }
+    ensures { λ v. ⌜ verdict-of v ≡ target-test (now (table .entry)) ⌝ }
 {
     let rows = table.len() / 4;
     let mut r: usize = 0;

@@ -61,6 +61,13 @@ fn push_not(t: &mut [i32; 8192], n: usize) -> usize {
     push(t, n, 22, word(n - 1), 0, 0)
 }
 
+fn push_negate(t: &mut [i32; 8192], n: usize) -> usize {
+    if n == 0 {
+        return n;
+    }
+    push(t, n, 8, word(n - 1), 0, 0)
+}
+
 // The verdict on the first rows.
 fn ask(t: &[i32; 8192], rows: usize, number: usize, row: usize) {
     run::same_rows(t, rows, number, row);
@@ -148,11 +155,28 @@ fn path(kind: i32, first: i32, number: usize) {
     ask(&t, end, number, 0);
 }
 
+// The longest path of an assigned expression: 2,042 times negate of a frozen name, at row 0.
+fn assigned() {
+    let mut t = [0i32; 8192];
+    let mut n = push(&mut t, 0, 2, 128, 0, 0);
+    let mut i: usize = 0;
+    while i < 2042 {
+        n = push_negate(&mut t, n);
+        i += 1;
+    }
+    let pre = push(&mut t, n, 33, 0, 2042, 0);
+    let post = push(&mut t, pre, 16, 0, 0, 0);
+    let script = push(&mut t, post, 16, 0, 0, 0);
+    let end = push(&mut t, script, 48, word(pre), word(n), word(post));
+    ask(&t, end, 9, 0);
+}
+
 pub fn deepest() {
     sequences();
     path(16, 0, 0);
     // the kind of the lowest row is not listed
     path(15, 0, 2);
+    assigned();
     nest(681, 0, 10);
     nest(0, 408, 10);
     nest(8, 403, 10);

@@ -2,23 +2,24 @@
 // that gives another number or row than 01 says adds a line.
 
 mod bases; // the tables that the cases edit
-mod cases; // numbers 1 to 9, by tables with one row edited
+mod rows; // numbers 1 to 6, by tables with one row edited
+mod whole; // numbers 7 to 9
 mod deep; // 10, and the deepest tables
 mod run; // one case
 
 fn main() {
-    cases::lengths();
-    cases::kinds();
-    cases::ranges();
-    cases::unused();
-    cases::links();
-    cases::sorts();
-    cases::shared();
-    cases::loose();
-    cases::targets();
-    cases::names();
-    cases::marks();
-    cases::lowest();
+    rows::lengths();
+    rows::kinds();
+    rows::ranges();
+    rows::unused();
+    rows::links();
+    rows::sorts();
+    rows::shared();
+    whole::loose();
+    whole::targets();
+    whole::names();
+    whole::marks();
+    whole::lowest();
     deep::nesting();
     deep::deepest();
 }

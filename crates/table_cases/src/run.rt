@@ -1,5 +1,6 @@
 // One case: a table, and the number and row that 01 says.
 
+use crate::bases;
 use table::Verdict;
 
 fn differs(number: usize, row: usize, n: usize, r: usize) {
@@ -15,7 +16,7 @@ fn differs(number: usize, row: usize, n: usize, r: usize) {
     io::print_decimal(1, r as u64);
 }
 
-// Writes a line where the verdict on the table is another than this number and row; number 0 is that it is accepted.
+// Writes lines where the verdict on the table is another than this number and row; number 0 is that it is accepted.
 pub fn same(words: &[i32], number: usize, row: usize) {
     let v = table::check(words);
     match v {
@@ -24,25 +25,7 @@ pub fn same(words: &[i32], number: usize, row: usize) {
     }
 }
 
-// The table with row r in place of its own.
-fn edited(base: &[i32], r: usize, kind: i32, a: i32, b: i32, c: i32, number: usize, row: usize) {
-    let mut t = [0i32; 256];
-    copy(&mut t, base);
-    if r < 64 {
-        let at = 4 * r;
-        t[at] = kind;
-        t[at + 1] = a;
-        t[at + 2] = b;
-        t[at + 3] = c;
-    }
-    ask(&t, base.len() / 4, number, row);
-}
-
-fn ask(t: &[i32; 256], rows: usize, number: usize, row: usize) {
-    same_rows(t, rows, number, row);
-}
-
-// The verdict on the first rows.
+// The same for the first rows.
 pub fn same_rows(words: &[i32], rows: usize, number: usize, row: usize) {
     if rows <= words.len() / 4 {
         let end = 4 * rows;
@@ -50,34 +33,21 @@ pub fn same_rows(words: &[i32], rows: usize, number: usize, row: usize) {
     }
 }
 
-fn copy(to: &mut [i32; 256], from: &[i32]) {
-    let mut i: usize = 0;
-    while i < from.len() {
-        if i < 256 {
-            to[i] = from[i];
-        }
-        i += 1;
-    }
+// The same for a table of that many rows.
+pub fn small(t: &[i32; 256], rows: usize, number: usize, row: usize) {
+    same_rows(t, rows, number, row);
 }
 
-// Each case has seven numbers: a row, its new kind and fields, and the number and the row of the verdict.
-pub fn edits(base: &[i32], cases: &[i32]) {
-    let mut i: usize = 0;
-    while i < cases.len() / 7 {
-        let at = 7 * i;
-        let r = script::field_number(cases[at]);
-        let number = script::field_number(cases[at + 5]);
-        let row = script::field_number(cases[at + 6]);
-        edited(
-            base,
-            r,
-            cases[at + 1],
-            cases[at + 2],
-            cases[at + 3],
-            cases[at + 4],
-            number,
-            row,
-        );
-        i += 1;
-    }
+// The same for example A with row r edited.
+pub fn in_a(r: usize, kind: i32, a: i32, b: i32, c: i32, number: usize, row: usize) {
+    let mut t = bases::example_a();
+    bases::row(&mut t, r, kind, a, b, c);
+    small(&t, 20, number, row);
+}
+
+// The same for the table with every kind, with row r edited.
+pub fn in_b(r: usize, kind: i32, a: i32, b: i32, c: i32, number: usize, row: usize) {
+    let mut t = bases::every_kind();
+    bases::row(&mut t, r, kind, a, b, c);
+    small(&t, 62, number, row);
 }

@@ -1,7 +1,6 @@
 -- `generate::generate` meets its contract: what the parts leave is the outcome, and demand 3 is a theorem of it. Assumes nothing.
-use mathlib.Core.Path.{sym, ap, _∙_}
 use lib.ListN.{length}
-use Rattle.table.specs.Lowest.{reading}
+use Rattle.table.specs.Verdicts.{passes, refuses}
 use Rattle.generate.specs.Whole.{zeros-of, refused-left, accepted-left}
 use borrow.Author.Needs.{needs}
 use Rattle.generate.proofs.generate.Statement.{statement}
@@ -23,7 +22,7 @@ plan-requires : tie.Need-plan-requires
 plan-requires c κs =
     let checked = c .before .before .before in
     let cleared = checked .before .before .before .before .before in
-    (sym (checked .check .ensures) ∙ ap reading (c .before .enum-told .given .1), zeros-of (length (cleared .before .before .args .list .now)) (cleared .clear .ensures))
+    (passes (checked .check .ensures) (c .before .enum-told .given .1), zeros-of (length (cleared .before .before .args .list .now)) (cleared .clear .ensures))
 
 enum-known-verdict : tie.Need-enum-known-verdict
 enum-known-verdict c = search needs
@@ -44,7 +43,7 @@ returns c =
     let cleared = cleared2 .before .before .before in
     let start = cleared .before .before in
     accepted-left (start .args .table .now) (length (start .args .list .now)) (length (start .args .scratch .now))
-    (sym (checked .check .ensures) ∙ ap reading (c .before .before .before .enum-told .given .1))
+    (passes (checked .check .ensures) (c .before .before .before .enum-told .given .1))
     (cleared .clear .ensures) (cleared2 .clear2 .ensures) (c .before .plan .ensures)
 
 same-length-3 : tie.Need-same-length-3
@@ -60,7 +59,7 @@ returns-2 c =
     let cleared = cleared2 .before .before .before in
     let start = cleared .before .before in
     refused-left (start .args .table .now) (length (start .args .list .now)) (length (start .args .scratch .now))
-    (sym (checked .check .ensures) ∙ ap reading (c .before .before .verdict .given .1))
+    (refuses (checked .check .ensures) (c .before .before .verdict .given .1))
     (c .refuse .ensures) (cleared .clear .ensures) (cleared2 .clear2 .ensures)
 
 pub generate-spec : {M : Type 1} → statement M

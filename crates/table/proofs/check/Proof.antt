@@ -1,17 +1,22 @@
 -- `table::check` meets its contract: each test's contract is its definition, and the tests stand in the order of `verdict`.
 -- Assumes nothing.
 use mathlib.Core.Path.{_≡_, ap, _∙_}
-use Rattle.script.specs.Refusals.{accepted, row-test, script-test, nesting-test, verdict}
+use mathlib.Core.List.{List}
+use lib.IntN.{ℤ}
+use Rattle.script.specs.Refusals.{Verdict, accepted, row-test, script-test, nesting-test, verdict}
 use Rattle.table.specs.Seen.{shows-none}
 use Rattle.table.specs.Faults.{Sized}
-use Rattle.table.specs.Lowest.{reading}
-use Rattle.table.specs.Check.{sized, sound, from-rows, from-script, from-unlinked, from-targets, from-names, short-refused, length-passed, passes, goes-on, decides}
+use Rattle.table.specs.Verdicts.{verdict-of, passes}
+use Rattle.table.specs.Check.{sized, sound, from-rows, from-script, from-unlinked, from-targets, from-names, short-refused, length-passed, goes-on, decides}
 use borrow.Author.Needs.{needs}
 use Rattle.table.proofs.check.Statement.{statement}
 use Rattle.table.proofs.check.Tie as tie
 
 size : (c : tie.Else1) → Sized (c .before .before .args .table .now)
 size c = sized _ (c .before .bad-length .ensures) (c .if1 .left)
+
+abbrev Rest : (List ℤ → Verdict) → tie.Start → Type 0
+Rest tests s = tests (s .args .table .now) ≡ verdict (s .args .table .now)
 
 -- what each test says where it accepts, and that the tests after it then give the verdict
 
@@ -22,28 +27,34 @@ script-pass : (c : tie.After-enum-told4)
     → script-test (c .before .before .before .before .before .before .before .before .before .args .table .now) ≡ accepted
 script-pass c = passes (c .before .before .check-script .ensures) (c .enum-told4 .given .1)
 
-rest-rows : (c : tie.Else1) → from-rows (c .before .before .args .table .now) ≡ verdict (c .before .before .args .table .now)
+rest-rows : (c : tie.Else1) → Rest from-rows (c .before .before)
 rest-rows c = length-passed _ (c .before .bad-length .ensures) (c .if1 .left)
 
 rest-script : (c : tie.After-enum-told2)
-    → from-script (c .before .before .before .before .before .before .args .table .now) ≡ verdict (c .before .before .before .before .before .before .args .table .now)
+    → Rest from-script (c .before .before .before .before .before .before)
 rest-script c = goes-on _ _ (rows-pass c) (rest-rows (c .before .before .before .before))
 
 rest-unlinked : (c : tie.After-enum-told4)
-    → from-unlinked (c .before .before .before .before .before .before .before .before .before .args .table .now) ≡ verdict (c .before .before .before .before .before .before .before .before .before .args .table .now)
+    → Rest from-unlinked (c .before .before .before .before .before .before .before .before .before)
 rest-unlinked c = goes-on _ _ (script-pass c) (rest-script (c .before .before .before))
 
 rest-targets : (c : tie.After-enum-told6)
-    → from-targets (c .before .before .before .before .before .before .before .before .before .before .before .before .before .args .table .now) ≡ verdict (c .before .before .before .before .before .before .before .before .before .before .before .before .before .args .table .now)
-rest-targets c = goes-on _ _ (passes (c .before .before .check-unlinked .ensures) (c .enum-told6 .given .1)) (rest-unlinked (c .before .before .before .before))
+    → Rest from-targets (c .before .before .before .before .before .before .before .before .before .before .before .before .before)
+rest-targets c =
+    goes-on _ _ (passes (c .before .before .check-unlinked .ensures) (c .enum-told6 .given .1))
+    (rest-unlinked (c .before .before .before .before))
 
 rest-names : (c : tie.After-enum-told8)
-    → from-names (c .before .before .before .before .before .before .before .before .before .before .before .before .before .before .before .before .args .table .now) ≡ verdict (c .before .before .before .before .before .before .before .before .before .before .before .before .before .before .before .before .args .table .now)
-rest-names c = goes-on _ _ (passes (c .before .before .check-targets .ensures) (c .enum-told8 .given .1)) (rest-targets (c .before .before .before))
+    → Rest from-names (c .before .before .before .before .before .before .before .before .before .before .before .before .before .before .before .before)
+rest-names c =
+    goes-on _ _ (passes (c .before .before .check-targets .ensures) (c .enum-told8 .given .1))
+    (rest-targets (c .before .before .before))
 
 rest-nesting : (c : tie.After-enum-told10)
-    → nesting-test (c .before .before .before .before .before .before .before .before .before .before .before .before .before .before .before .before .before .before .before .args .table .now) ≡ verdict (c .before .before .before .before .before .before .before .before .before .before .before .before .before .before .before .before .before .before .before .args .table .now)
-rest-nesting c = goes-on _ _ (passes (c .before .before .check-names .ensures) (c .enum-told10 .given .1)) (rest-names (c .before .before .before))
+    → Rest nesting-test (c .before .before .before .before .before .before .before .before .before .before .before .before .before .before .before .before .before .before .before)
+rest-nesting c =
+    goes-on _ _ (passes (c .before .before .check-names .ensures) (c .enum-told10 .given .1))
+    (rest-names (c .before .before .before))
 
 bad-length-requires : tie.Need-bad-length-requires
 bad-length-requires c κs = search needs
@@ -58,7 +69,9 @@ enum-told : tie.Need-enum-told
 enum-told c = search needs
 
 returns-2 : tie.Need-returns-2
-returns-2 c = decides _ _ (c .before .before .check-rows .ensures .is) (c .enum-told .given .1) (rest-rows (c .before .before .before .before))
+returns-2 c =
+    decides _ _ (c .before .before .check-rows .ensures .is) (c .enum-told .given .1)
+    (rest-rows (c .before .before .before .before))
 
 enum-told-2 : tie.Need-enum-told-2
 enum-told-2 c = search needs
@@ -76,13 +89,17 @@ enum-told-4 : tie.Need-enum-told-4
 enum-told-4 c = search needs
 
 check-unlinked-requires : tie.Need-check-unlinked-requires
-check-unlinked-requires c κs = (size (c .before .before .before .before .before .before .before .before), c .before .before .before .before .before .before .check-rows .ensures .shown (ap reading (c .before .before .before .before .enum-told2 .given .1)))
+check-unlinked-requires c κs =
+    let r = c .before .before .before .before in
+    (size (r .before .before .before .before), r .before .before .check-rows .ensures .shown (ap verdict-of (r .enum-told2 .given .1)))
 
 enum-told-5 : tie.Need-enum-told-5
 enum-told-5 c = search needs
 
 returns-4 : tie.Need-returns-4
-returns-4 c = decides _ _ (c .before .before .check-unlinked .ensures) (c .enum-told5 .given .1) (rest-unlinked (c .before .before .before .before))
+returns-4 c =
+    decides _ _ (c .before .before .check-unlinked .ensures) (c .enum-told5 .given .1)
+    (rest-unlinked (c .before .before .before .before))
 
 enum-told-6 : tie.Need-enum-told-6
 enum-told-6 c = search needs
@@ -100,7 +117,9 @@ enum-told-8 : tie.Need-enum-told-8
 enum-told-8 c = search needs
 
 check-names-requires : tie.Need-check-names-requires
-check-names-requires c κs = sound (size (c .before .before .before .before .before .before .before .before .before .before .before .before .before .before)) (rows-pass (c .before .before .before .before .before .before .before .before .before .before))
+check-names-requires c κs =
+    let r = c .before .before .before .before .before .before .before .before .before .before in
+    sound (size (r .before .before .before .before)) (rows-pass r)
 
 enum-told-9 : tie.Need-enum-told-9
 enum-told-9 c = search needs
@@ -112,7 +131,10 @@ enum-told-10 : tie.Need-enum-told-10
 enum-told-10 c = search needs
 
 check-nesting-requires : tie.Need-check-nesting-requires
-check-nesting-requires c κs = (sound (size (c .before .before .before .before .before .before .before .before .before .before .before .before .before .before .before .before .before)) (rows-pass (c .before .before .before .before .before .before .before .before .before .before .before .before .before)), script-pass (c .before .before .before .before .before .before .before .before .before .before))
+check-nesting-requires c κs =
+    let s = c .before .before .before .before .before .before .before .before .before .before in
+    let r = s .before .before .before in
+    (sound (size (r .before .before .before .before)) (rows-pass r), script-pass s)
 
 returns-7 : tie.Need-returns-7
 returns-7 c = c .check-nesting .ensures ∙ rest-nesting (c .before)

@@ -41,7 +41,8 @@ calls t =
     self.Pre
 
 abbrev claims : ℕ → lts.Claims
-claims t = (row-at-reads.Asked, row-at-reads.Learnt, reads-reads.Asked, reads-reads.Learnt, is-frozen-reads.Asked, is-frozen-reads.Learnt, both-reads.Asked, both-reads.Learnt, lower-reads.Asked, lower-reads.Learnt, mark-misplaced-reads.Asked, mark-misplaced-reads.Learnt, calls t, self.Post)
+claims t =
+    (row-at-reads.Asked, row-at-reads.Learnt, reads-reads.Asked, reads-reads.Learnt, is-frozen-reads.Asked, is-frozen-reads.Learnt, both-reads.Asked, both-reads.Learnt, lower-reads.Asked, lower-reads.Learnt, mark-misplaced-reads.Asked, mark-misplaced-reads.Learnt, calls t, self.Post)
 
 -- the way that the row is read on, that its links are lower, and what a call on a lower row asks
 
@@ -91,7 +92,8 @@ enum-known-next-3 t c = search needs
 lowest-misread-requires : (t : ℕ) → lts.Need-lowest-misread-requires (claims t) (here t) self.Post
 lowest-misread-requires t c κs =
     let n = c .before .before in
-    step (n .before .before .before .before .pre .1) (n .before .before .before .before .pre .0) (low-at t (n .before .before) (n .next3 .given .1))
+    step (n .before .before .before .before .pre .1) (n .before .before .before .before .pre .0)
+    (low-at t (n .before .before) (n .next3 .given .1))
 
 enum-known-next-4 : (t : ℕ) → lts.Need-enum-known-next-4 (claims t) (here t) self.Post
 enum-known-next-4 t c = search needs
@@ -99,12 +101,14 @@ enum-known-next-4 t c = search needs
 lowest-misread-requires-2 : (t : ℕ) → lts.Need-lowest-misread-requires-2 (claims t) (here t) self.Post
 lowest-misread-requires-2 t c κs =
     let n = c .before .before in
-    step (n .before .before .before .before .pre .1) (n .before .before .before .before .pre .0) (low-at t (n .before .before) (n .next4 .given .1) .0)
+    step (n .before .before .before .before .pre .1) (n .before .before .before .before .pre .0)
+    (low-at t (n .before .before) (n .next4 .given .1) .0)
 
 lowest-misread-requires-3 : (t : ℕ) → lts.Need-lowest-misread-requires-3 (claims t) (here t) self.Post
 lowest-misread-requires-3 t c κs =
     let n = c .before .before .before .before in
-    step (n .before .before .before .before .pre .1) (n .before .before .before .before .pre .0) (low-at t (n .before .before) (n .next4 .given .1) .1)
+    step (n .before .before .before .before .pre .1) (n .before .before .before .before .pre .0)
+    (low-at t (n .before .before) (n .next4 .given .1) .1)
 
 enum-known-next-5 : (t : ℕ) → lts.Need-enum-known-next-5 (claims t) (here t) self.Post
 enum-known-next-5 t c = search needs
@@ -112,17 +116,20 @@ enum-known-next-5 t c = search needs
 lowest-misread-requires-4 : (t : ℕ) → lts.Need-lowest-misread-requires-4 (claims t) (here t) self.Post
 lowest-misread-requires-4 t c κs =
     let n = c .before .before in
-    step (n .before .before .before .before .pre .1) (n .before .before .before .before .pre .0) (low-at t (n .before .before) (n .next5 .given .1) .0)
+    step (n .before .before .before .before .pre .1) (n .before .before .before .before .pre .0)
+    (low-at t (n .before .before) (n .next5 .given .1) .0)
 
 lowest-misread-requires-5 : (t : ℕ) → lts.Need-lowest-misread-requires-5 (claims t) (here t) self.Post
 lowest-misread-requires-5 t c κs =
     let n = c .before .before .before .before in
-    step (n .before .before .before .before .pre .1) (n .before .before .before .before .pre .0) (low-at t (n .before .before) (n .next5 .given .1) .1 .0)
+    step (n .before .before .before .before .pre .1) (n .before .before .before .before .pre .0)
+    (low-at t (n .before .before) (n .next5 .given .1) .1 .0)
 
 lowest-misread-requires-6 : (t : ℕ) → lts.Need-lowest-misread-requires-6 (claims t) (here t) self.Post
 lowest-misread-requires-6 t c κs =
     let n = c .before .before .before .before .before .before in
-    step (n .before .before .before .before .pre .1) (n .before .before .before .before .pre .0) (low-at t (n .before .before) (n .next5 .given .1) .1 .1)
+    step (n .before .before .before .before .pre .1) (n .before .before .before .before .pre .0)
+    (low-at t (n .before .before) (n .next5 .given .1) .1 .1)
 
 enum-known-next-6 : (t : ℕ) → lts.Need-enum-known-next-6 (claims t) (here t) self.Post
 enum-known-next-6 t c = search needs
@@ -130,12 +137,14 @@ enum-known-next-6 t c = search needs
 lowest-misread-requires-7 : (t : ℕ) → lts.Need-lowest-misread-requires-7 (claims t) (here t) self.Post
 lowest-misread-requires-7 t c κs =
     let n = c .before .before in
-    step (n .before .before .before .before .pre .1) (n .before .before .before .before .pre .0) (low-at t (n .before .before) (n .next6 .given .1) .0)
+    step (n .before .before .before .before .pre .1) (n .before .before .before .before .pre .0)
+    (low-at t (n .before .before) (n .next6 .given .1) .0)
 
 lowest-misread-requires-8 : (t : ℕ) → lts.Need-lowest-misread-requires-8 (claims t) (here t) self.Post
 lowest-misread-requires-8 t c κs =
     let n = c .before .before .before .before in
-    step (n .before .before .before .before .pre .1) (n .before .before .before .before .pre .0) (low-at t (n .before .before) (n .next6 .given .1) .1 .0)
+    step (n .before .before .before .before .pre .1) (n .before .before .before .before .pre .0)
+    (low-at t (n .before .before) (n .next6 .given .1) .1 .0)
 
 element-copy-out-was : (t : ℕ) → lts.Need-element-copy-out-was (claims t) (here t) self.Post
 element-copy-out-was t c = search needs
@@ -146,7 +155,8 @@ element-write-around t c = search needs
 lowest-misread-requires-9 : (t : ℕ) → lts.Need-lowest-misread-requires-9 (claims t) (here t) self.Post
 lowest-misread-requires-9 t c κs =
     let n = c .before .before .before .before .before .before .before in
-    step (n .before .before .before .before .pre .1) (n .before .before .before .before .pre .0) (low-at t (n .before .before) (n .next6 .given .1) .1 .1)
+    step (n .before .before .before .before .pre .1) (n .before .before .before .before .pre .0)
+    (low-at t (n .before .before) (n .next6 .given .1) .1 .1)
 
 element-write-around-2 : (t : ℕ) → lts.Need-element-write-around-2 (claims t) (here t) self.Post
 element-write-around-2 t c = search needs
@@ -157,32 +167,44 @@ returns t c = nothing-read (way-at t (c .before .before) (c .enum-told .given .1
 returns-2 : (t : ℕ) → lts.Need-returns-2 (claims t) (here t) self.Post
 returns-2 t c =
     let n = c .before .before .before .before in
-    variable-read _ (way-at t (n .before .before) (n .next .given .1)) (c .before .before .is-frozen .ensures) (c .before .both .ensures) (c .lower .ensures)
+    variable-read _ (way-at t (n .before .before) (n .next .given .1)) (c .before .before .is-frozen .ensures)
+    (c .before .both .ensures) (c .lower .ensures)
 
 returns-3 : (t : ℕ) → lts.Need-returns-3 (claims t) (here t) self.Post
 returns-3 t c =
     let n = c .before .before .before .before in
-    mark-read _ (mark-fits (n .before .before .before .before .pre .1 .0) (low-at t (n .before .before) (n .next2 .given .1))) (way-at t (n .before .before) (n .next2 .given .1)) (c .before .mark-misplaced .ensures) (c .lower2 .ensures)
+    mark-read _
+    (mark-fits (n .before .before .before .before .pre .1 .0) (low-at t (n .before .before) (n .next2 .given .1)))
+    (way-at t (n .before .before) (n .next2 .given .1)) (c .before .mark-misplaced .ensures) (c .lower2 .ensures)
 
 returns-4 : (t : ℕ) → lts.Need-returns-4 (claims t) (here t) self.Post
 returns-4 t c =
     let n = c .before .before .before in
-    one-read _ _ (way-at t (n .before .before) (n .next3 .given .1)) (low-at t (n .before .before) (n .next3 .given .1)) (c .lowest-misread .ensures)
+    one-read _ _ (way-at t (n .before .before) (n .next3 .given .1))
+    (low-at t (n .before .before) (n .next3 .given .1)) (c .lowest-misread .ensures)
 
 returns-5 : (t : ℕ) → lts.Need-returns-5 (claims t) (here t) self.Post
 returns-5 t c =
     let n = c .before .before .before .before .before in
-    two-read _ _ _ (way-at t (n .before .before) (n .next4 .given .1)) (low-at t (n .before .before) (n .next4 .given .1)) (c .before .before .lowest-misread2 .ensures) (c .lowest-misread3 .ensures)
+    two-read _ _ _ (way-at t (n .before .before) (n .next4 .given .1))
+    (low-at t (n .before .before) (n .next4 .given .1)) (c .before .before .lowest-misread2 .ensures)
+    (c .lowest-misread3 .ensures)
 
 returns-6 : (t : ℕ) → lts.Need-returns-6 (claims t) (here t) self.Post
 returns-6 t c =
     let n = c .before .before .before .before .before .before .before in
-    three-read _ _ _ _ _ (way-at t (n .before .before) (n .next5 .given .1)) (low-at t (n .before .before) (n .next5 .given .1)) (c .before .before .before .before .lowest-misread4 .ensures) (c .before .before .lowest-misread5 .ensures) (c .lowest-misread6 .ensures)
+    three-read _ _ _ _ _ (way-at t (n .before .before) (n .next5 .given .1))
+    (low-at t (n .before .before) (n .next5 .given .1)) (c .before .before .before .before .lowest-misread4 .ensures)
+    (c .before .before .lowest-misread5 .ensures) (c .lowest-misread6 .ensures)
 
 returns-7 : (t : ℕ) → lts.Need-returns-7 (claims t) (here t) self.Post
 returns-7 t c =
     let n = c .before .before .before .before .before .before .before .before in
-    loop-read _ _ _ (mark-fits (n .before .before .before .before .pre .1 .0) (n .before .before .before .before .pre .1 .1)) (way-at t (n .before .before) (n .next6 .given .1)) (low-at t (n .before .before) (n .next6 .given .1)) (c .before .before .before .before .before .lowest-misread7 .ensures) (c .before .before .before .lowest-misread8 .ensures) (c .lowest-misread9 .ensures)
+    loop-read _ _ _
+    (mark-fits (n .before .before .before .before .pre .1 .0) (n .before .before .before .before .pre .1 .1))
+    (way-at t (n .before .before) (n .next6 .given .1)) (low-at t (n .before .before) (n .next6 .given .1))
+    (c .before .before .before .before .before .lowest-misread7 .ensures)
+    (c .before .before .before .lowest-misread8 .ensures) (c .lowest-misread9 .ensures)
 
 pub +lowest-misread-spec : {M : Type 1} → statement M
 +lowest-misread-spec = close μ-lowest-misread λ t. lts.spec (claims t)

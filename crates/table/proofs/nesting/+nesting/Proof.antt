@@ -28,7 +28,8 @@ abbrev calls : ℕ → In 1 kinds.ps
 calls t = and 1 kinds.ps (falls 1 kinds.ps _<_ μ-nesting t) self.Pre
 
 abbrev claims : ℕ → lts.Claims
-claims t = (row-at-reads.Asked, row-at-reads.Learnt, inner-reads.Asked, inner-reads.Learnt, calls t, self.Post, larger-reads.Asked, larger-reads.Learnt)
+claims t =
+    (row-at-reads.Asked, row-at-reads.Learnt, inner-reads.Asked, inner-reads.Learnt, calls t, self.Post, larger-reads.Asked, larger-reads.Learnt)
 
 -- the way that the row is made of others, and that they are lower
 
@@ -41,16 +42,23 @@ low-at : (t : ℕ) (c : lts.After-inner (claims t) (here t) self.Post) {y : Inne
 low-at t c h = way-lower _ (c .before .before .pre .1 .0) (c .before .before .pre .1 .1) (way-at t c h)
 
 if-at : (t : ℕ) (c : lts.After-larger2 (claims t) (here t) self.Post)
-    → Nested (c .before .before .before .before .before .before .before .before .args .table .now) (c .before .before .before .before .before .before .before .before .args .r .0) (c .larger2 .result + 1)
+    → let s =
+    c .before .before .before .before .before .before .before .before in Nested (s .args .table .now)
+    (s .args .r .0) (c .larger2 .result + 1)
 if-at t c =
     let n = c .before .before .before .before in
-    if-nested (n .before .before .before .before .pre .1 .0) (n .before .before .before .before .pre .1 .1) _ _ (way-at t (n .before .before) (n .inside2 .given .1)) (low-at t (n .before .before) (n .inside2 .given .1)) (c .before .before .nesting3 .ensures) (c .before .nesting4 .ensures) (c .larger2 .ensures)
+    if-nested (n .before .before .before .before .pre .1 .0)
+    (n .before .before .before .before .pre .1 .1) _ _ (way-at t (n .before .before) (n .inside2 .given .1))
+    (low-at t (n .before .before) (n .inside2 .given .1)) (c .before .before .nesting3 .ensures)
+    (c .before .nesting4 .ensures) (c .larger2 .ensures)
 
 while-at : (t : ℕ) (c : lts.After-nesting5 (claims t) (here t) self.Post)
-    → Nested (c .before .before .before .before .before .before .args .table .now) (c .before .before .before .before .before .before .args .r .0) (c .nesting5 .result + 1)
+    → let s = c .before .before .before .before .before .before in Nested (s .args .table .now) (s .args .r .0) (c .nesting5 .result + 1)
 while-at t c =
     let n = c .before .before in
-    while-nested (n .before .before .before .before .pre .1 .0) (n .before .before .before .before .pre .1 .1) _ (way-at t (n .before .before) (n .inside3 .given .1)) (low-at t (n .before .before) (n .inside3 .given .1)) (c .nesting5 .ensures)
+    while-nested (n .before .before .before .before .pre .1 .0)
+    (n .before .before .before .before .pre .1 .1) _ (way-at t (n .before .before) (n .inside3 .given .1))
+    (low-at t (n .before .before) (n .inside3 .given .1)) (c .nesting5 .ensures)
 
 row-at-requires : (t : ℕ) → lts.Need-row-at-requires (claims t) (here t) self.Post
 row-at-requires t c κs = search needs
@@ -67,12 +75,14 @@ enum-known-inside t c = search needs
 nesting-requires : (t : ℕ) → lts.Need-nesting-requires (claims t) (here t) self.Post
 nesting-requires t c κs =
     let n = c .before in
-    step (n .before .before .before .before .pre .1) (n .before .before .before .before .pre .0) (low-at t (n .before .before) (n .inside .given .1) .0)
+    step (n .before .before .before .before .pre .1) (n .before .before .before .before .pre .0)
+    (low-at t (n .before .before) (n .inside .given .1) .0)
 
 nesting-requires-2 : (t : ℕ) → lts.Need-nesting-requires-2 (claims t) (here t) self.Post
 nesting-requires-2 t c κs =
     let n = c .before .before in
-    step (n .before .before .before .before .pre .1) (n .before .before .before .before .pre .0) (low-at t (n .before .before) (n .inside .given .1) .1)
+    step (n .before .before .before .before .pre .1) (n .before .before .before .before .pre .0)
+    (low-at t (n .before .before) (n .inside .given .1) .1)
 
 larger-requires : (t : ℕ) → lts.Need-larger-requires (claims t) (here t) self.Post
 larger-requires t c κs = search needs
@@ -83,18 +93,22 @@ enum-known-inside-2 t c = search needs
 nesting-requires-3 : (t : ℕ) → lts.Need-nesting-requires-3 (claims t) (here t) self.Post
 nesting-requires-3 t c κs =
     let n = c .before in
-    step (n .before .before .before .before .pre .1) (n .before .before .before .before .pre .0) (low-at t (n .before .before) (n .inside2 .given .1) .0)
+    step (n .before .before .before .before .pre .1) (n .before .before .before .before .pre .0)
+    (low-at t (n .before .before) (n .inside2 .given .1) .0)
 
 nesting-requires-4 : (t : ℕ) → lts.Need-nesting-requires-4 (claims t) (here t) self.Post
 nesting-requires-4 t c κs =
     let n = c .before .before in
-    step (n .before .before .before .before .pre .1) (n .before .before .before .before .pre .0) (low-at t (n .before .before) (n .inside2 .given .1) .1)
+    step (n .before .before .before .before .pre .1) (n .before .before .before .before .pre .0)
+    (low-at t (n .before .before) (n .inside2 .given .1) .1)
 
 larger-requires-2 : (t : ℕ) → lts.Need-larger-requires-2 (claims t) (here t) self.Post
 larger-requires-2 t c κs = search needs
 
 add-result : (t : ℕ) → lts.Need-add-result (claims t) (here t) self.Post
-add-result t c = nesting-fits (c .before .before .before .before .before .before .before .before .pre .1 .0) (c .before .before .before .before .before .before .before .before .pre .1 .1) (if-at t c)
+add-result t c =
+    nesting-fits (c .before .before .before .before .before .before .before .before .pre .1 .0)
+    (c .before .before .before .before .before .before .before .before .pre .1 .1) (if-at t c)
 
 enum-known-inside-3 : (t : ℕ) → lts.Need-enum-known-inside-3 (claims t) (here t) self.Post
 enum-known-inside-3 t c = search needs
@@ -102,18 +116,26 @@ enum-known-inside-3 t c = search needs
 nesting-requires-5 : (t : ℕ) → lts.Need-nesting-requires-5 (claims t) (here t) self.Post
 nesting-requires-5 t c κs =
     let n = c .before in
-    step (n .before .before .before .before .pre .1) (n .before .before .before .before .pre .0) (low-at t (n .before .before) (n .inside3 .given .1))
+    step (n .before .before .before .before .pre .1) (n .before .before .before .before .pre .0)
+    (low-at t (n .before .before) (n .inside3 .given .1))
 
 add-result-2 : (t : ℕ) → lts.Need-add-result-2 (claims t) (here t) self.Post
-add-result-2 t c = nesting-fits (c .before .before .before .before .before .before .pre .1 .0) (c .before .before .before .before .before .before .pre .1 .1) (while-at t c)
+add-result-2 t c =
+    nesting-fits (c .before .before .before .before .before .before .pre .1 .0)
+    (c .before .before .before .before .before .before .pre .1 .1) (while-at t c)
 
 returns : (t : ℕ) → lts.Need-returns (claims t) (here t) self.Post
-returns t c = nothing-nested (c .before .before .before .before .pre .1 .0) (c .before .before .before .before .pre .1 .1) (way-at t (c .before .before) (c .enum-told .given .1))
+returns t c =
+    nothing-nested (c .before .before .before .before .pre .1 .0) (c .before .before .before .before .pre .1 .1)
+    (way-at t (c .before .before) (c .enum-told .given .1))
 
 returns-2 : (t : ℕ) → lts.Need-returns-2 (claims t) (here t) self.Post
 returns-2 t c =
     let n = c .before .before .before .before in
-    sequence-nested (n .before .before .before .before .pre .1 .0) (n .before .before .before .before .pre .1 .1) _ _ (way-at t (n .before .before) (n .inside .given .1)) (low-at t (n .before .before) (n .inside .given .1)) (c .before .before .nesting .ensures) (c .before .nesting2 .ensures) (c .larger .ensures)
+    sequence-nested (n .before .before .before .before .pre .1 .0)
+    (n .before .before .before .before .pre .1 .1) _ _ (way-at t (n .before .before) (n .inside .given .1))
+    (low-at t (n .before .before) (n .inside .given .1)) (c .before .before .nesting .ensures)
+    (c .before .nesting2 .ensures) (c .larger .ensures)
 
 returns-3 : (t : ℕ) → lts.Need-returns-3 (claims t) (here t) self.Post
 returns-3 t c = if-at t c

@@ -33,7 +33,8 @@ both-requires-2 c κs = search needs
 returns : tie.Need-returns
 returns c =
     let d = c .before .before .before .before in
-    rw (c .match .keys1) (all₃ (a-blank (c .before .before)) (b-blank d) (c-blank (d .before)) (c .before .before .before .both .ensures) (c .before .both2 .ensures))
+    rw (c .match .keys1)
+    (all₃ (a-blank (c .before .before)) (b-blank d) (c-blank (d .before)) (c .before .before .before .both .ensures) (c .before .both2 .ensures))
 
 returns-2 : tie.Need-returns-2
 returns-2 c =

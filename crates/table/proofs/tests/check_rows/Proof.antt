@@ -18,7 +18,9 @@ row-fault-requires : tie.Need-row-fault-requires Inv-loop μ-loop
 row-fault-requires c κs = record { size = c .before .before .before .pre .0; inside = c .before .loop-test .taken; shown = c .before .before .loop .inv .shown }
 
 returns : tie.Need-returns Inv-loop μ-loop
-returns c = rows-refused (c .before .before .before .before .loop .inv) (c .before .before .before .loop-test .taken) (c .before .row-fault .ensures) (c .if1 .taken)
+returns c =
+    rows-refused (c .before .before .before .before .loop .inv) (c .before .before .before .loop-test .taken)
+    (c .before .row-fault .ensures) (c .if1 .taken)
 
 add-r : tie.Need-add-r Inv-loop μ-loop
 add-r c = search needs
@@ -27,7 +29,9 @@ loop-less : tie.Need-loop-less Inv-loop μ-loop
 loop-less c = search needs
 
 loop-again : tie.Need-loop-again Inv-loop μ-loop
-loop-again c = rows-more (c .before .before .before .before .loop .inv) (c .before .before .before .loop-test .taken) (c .before .row-fault .ensures) (c .if1 .left)
+loop-again c =
+    rows-more (c .before .before .before .before .loop .inv) (c .before .before .before .loop-test .taken)
+    (c .before .row-fault .ensures) (c .if1 .left)
 
 returns-2 : tie.Need-returns-2 Inv-loop μ-loop
 returns-2 c = rows-accepted (c .before .loop .inv) (c .loop-test .left)

@@ -29,7 +29,8 @@ returns : tie.Need-returns Inv-loop μ-loop
 returns c =
     let d = c .before .before in
     let l = d .before .before in
-    targets-refused _ (d .fields .result) (l .before .loop .inv) (l .loop-test .taken) (d .before .row-at .ensures) (d .fields .ensures) (c .before .name-frozen .ensures) (c .if1 .taken)
+    targets-refused _ (d .fields .result) (l .before .loop .inv) (l .loop-test .taken) (d .before .row-at .ensures)
+    (d .fields .ensures) (c .before .name-frozen .ensures) (c .if1 .taken)
 
 add-r : tie.Need-add-r Inv-loop μ-loop
 add-r c = search needs
@@ -41,7 +42,8 @@ loop-again : tie.Need-loop-again Inv-loop μ-loop
 loop-again c =
     let d = c .before .before in
     let l = d .before .before in
-    targets-more _ (d .fields .result) (l .before .loop .inv) (l .loop-test .taken) (d .before .row-at .ensures) (d .fields .ensures) (c .before .name-frozen .ensures) (c .if1 .left)
+    targets-more _ (d .fields .result) (l .before .loop .inv) (l .loop-test .taken) (d .before .row-at .ensures)
+    (d .fields .ensures) (c .before .name-frozen .ensures) (c .if1 .left)
 
 returns-2 : tie.Need-returns-2 Inv-loop μ-loop
 returns-2 c = targets-accepted _ (c .before .loop .inv) (c .loop-test .left)

@@ -24,7 +24,9 @@ element-copy-out-if1 : tie.Need-element-copy-out-if1 Inv-loop μ-loop
 element-copy-out-if1 c = omega (arith, c .before .before .pre .0 .short)
 
 returns : tie.Need-returns Inv-loop μ-loop
-returns c = unlinked-refused _ (c .before .before .before .before .pre .0) (c .before .before .before .before .pre .1) (c .before .before .before .loop .inv) (c .before .before .loop-test .taken) (not-true _ (c .if1 .taken))
+returns c =
+    unlinked-refused _ (c .before .before .before .before .pre .0) (c .before .before .before .before .pre .1)
+    (c .before .before .before .loop .inv) (c .before .before .loop-test .taken) (not-true _ (c .if1 .taken))
 
 add-r : tie.Need-add-r Inv-loop μ-loop
 add-r c = search needs
@@ -33,7 +35,9 @@ loop-less : tie.Need-loop-less Inv-loop μ-loop
 loop-less c = search needs
 
 loop-again : tie.Need-loop-again Inv-loop μ-loop
-loop-again c = unlinked-more _ (c .before .before .before .before .pre .0) (c .before .before .before .before .pre .1) (c .before .before .before .loop .inv) (c .before .before .loop-test .taken) (not-false _ (c .if1 .left))
+loop-again c =
+    unlinked-more _ (c .before .before .before .before .pre .0) (c .before .before .before .before .pre .1)
+    (c .before .before .before .loop .inv) (c .before .before .loop-test .taken) (not-false _ (c .if1 .left))
 
 returns-2 : tie.Need-returns-2 Inv-loop μ-loop
 returns-2 c = unlinked-accepted _ (c .before .loop .inv) (c .loop-test .left)

@@ -1,23 +1,14 @@
--- `table_cases::cases::unused` is safe and ends. Assumes nothing.
+-- `table_cases::rows::unused` is safe and ends. Assumes nothing.
 use borrow.Author.Needs.{needs}
 use Prim.Native.Nat.{_-_}
-use Rattle.table_cases.proofs.cases.unused.Statement.{statement}
-use Rattle.table_cases.proofs.cases.unused.Tie as tie
+use Rattle.table_cases.proofs.rows.unused.Statement.{statement}
+use Rattle.table_cases.proofs.rows.unused.Tie as tie
 
 abbrev Inv-loop : tie.InvT-loop
-Inv-loop r₀ t3 r = Unit {0}
+Inv-loop r₀ t2 r = Unit {0}
 
 abbrev μ-loop : tie.MeasureT-loop
-μ-loop r₀ t3 r = 62 - r
-
-every-kind-requires : tie.Need-every-kind-requires Inv-loop μ-loop
-every-kind-requires c κs = search needs
-
-slice-aggregate-same : tie.Need-slice-aggregate-same Inv-loop μ-loop
-slice-aggregate-same c = search needs
-
-same-requires : tie.Need-same-requires Inv-loop μ-loop
-same-requires c κs = search needs
+μ-loop r₀ t2 r = 62 - r
 
 loop-holds : tie.Need-loop-holds Inv-loop μ-loop
 loop-holds c = search needs
@@ -49,9 +40,6 @@ unused-spec =
     (tie.spec
     Inv-loop
     μ-loop
-    every-kind-requires
-    slice-aggregate-same
-    same-requires
     loop-holds
     unused-fields-requires
     add-r
