@@ -15,7 +15,7 @@ fn main() {
     rows::links();
     rows::sorts();
     rows::shared();
-    whole::loose();
+    whole::unlinked();
     whole::targets();
     whole::names();
     whole::marks();

@@ -5,10 +5,10 @@ use crate::bases;
 use crate::run;
 
 // 7: the last row is no script, or a row that nothing links to.
-pub fn loose() {
-    run::in_a(19, 16, 0, 0, 0, 7, 19); // the last row is no script, before any loose row
+pub fn unlinked() {
+    run::in_a(19, 16, 0, 0, 0, 7, 19); // the last row is no script, before any unlinked row
     run::in_a(19, 38, 18, 0, 0, 7, 19); // the last row is no script
-    run::in_a(18, 16, 0, 0, 0, 7, 16); // 16 and 17 are loose
+    run::in_a(18, 16, 0, 0, 0, 7, 16); // 16 and 17 are unlinked
     run::in_a(8, 16, 0, 0, 0, 7, 6); // 6 and 7
     run::in_a(13, 2, 0, 0, 0, 7, 11); // 11 and 12
     run::in_a(2, 16, 0, 0, 0, 7, 0); // 0 and 1
@@ -16,8 +16,8 @@ pub fn loose() {
     alone();
     no_script();
     script_in_the_middle();
-    two_loose();
-    io::write_all(1, b"7 loose\n");
+    two_unlinked();
+    io::write_all(1, b"7 unlinked\n");
 }
 
 fn least() {
@@ -46,7 +46,7 @@ fn no_script() {
 }
 
 fn script_in_the_middle() {
-    // row 3 is loose
+    // row 3 is unlinked
     let mut t = [0i32; 256];
     bases::row(&mut t, 0, 16, 0, 0, 0);
     bases::row(&mut t, 1, 32, 0, 0, 0);
@@ -59,8 +59,8 @@ fn script_in_the_middle() {
     run::small(&t, 8, 7, 3);
 }
 
-fn two_loose() {
-    // rows 1 and 4 are loose
+fn two_unlinked() {
+    // rows 1 and 4 are unlinked
     let mut t = [0i32; 256];
     bases::row(&mut t, 0, 16, 0, 0, 0);
     bases::row(&mut t, 1, 16, 0, 0, 0);

@@ -1,0 +1,79 @@
+// The entries for other languages: the check, the list reader and the generator, with their answers as numbers that the caller
+// lends. A slice is its place and its length.
+
+use table::Verdict;
+ghost use mathlib.Core.Path.{_≡_};
+ghost use lib.ListN.{length};
+ghost use Rattle.script.specs.Refusals.{verdict};
+ghost use Rattle.script.specs.Generated.{outcome};
+ghost use Rattle.script.specs.Listing.{line-at};
+ghost use Rattle.exports.specs.Verdicts.{number-of, row-of};
+
+// The verdict on a table: number and row, both 0 where it is accepted.
+#[no_mangle]
+pub extern "C" fn leqwarti_check(table: &[i32], number: &mut usize, row: &mut usize)
+    ensures number { λ _. ⌜ now (number .exit) ≡ number-of (verdict (now (table .entry))) ⌝ }
+    ensures row { λ _. ⌜ now (row .exit) ≡ row-of (verdict (now (table .entry))) ⌝ }
+{
+    let answer = table::check(table);
+    match answer {
+        Verdict::Accepted => {
+            *number = 0;
+            *row = 0;
+        }
+        Verdict::Refused(n, r) => {
+            *number = n;
+            *row = r.0;
+        }
+    }
+}
+
+// The line at an index of a list: number, kind and row, and where its formula starts and ends.
+#[no_mangle]
+pub extern "C" fn leqwarti_line(
+    words: &[i32],
+    index: i32,
+    number: &mut usize,
+    kind: &mut usize,
+    row: &mut usize,
+    start: &mut usize,
+    end: &mut usize,
+)
+    ensures number { λ _. ⌜ now (number .exit) ≡ line-at (now (words .entry)) index .number ⌝ }
+    ensures kind { λ _. ⌜ now (kind .exit) ≡ line-at (now (words .entry)) index .kind ⌝ }
+    ensures row { λ _. ⌜ now (row .exit) ≡ line-at (now (words .entry)) index .row ⌝ }
+    ensures start { λ _. ⌜ now (start .exit) ≡ line-at (now (words .entry)) index .start ⌝ }
+    ensures end { λ _. ⌜ now (end .exit) ≡ line-at (now (words .entry)) index .end ⌝ }
+{
+    let line = listing::line_at(words, index);
+    *number = line.number;
+    *kind = line.kind;
+    *row = line.row;
+    *start = line.start;
+    *end = line.end;
+}
+
+// Lists the conditions of the table's script: number and row, how many conditions, and the words used.
+#[no_mangle]
+pub extern "C" fn leqwarti_generate(
+    table: &[i32],
+    list: &mut [i32],
+    scratch: &mut [i32],
+    number: &mut usize,
+    row: &mut usize,
+    conditions: &mut usize,
+    words: &mut usize,
+)
+    ensures number { λ _. ⌜ now (number .exit) ≡ outcome (now (table .entry)) (length (now (list .entry))) (length (now (scratch .entry))) .answer .number ⌝ }
+    ensures row { λ _. ⌜ now (row .exit) ≡ outcome (now (table .entry)) (length (now (list .entry))) (length (now (scratch .entry))) .answer .row ⌝ }
+    ensures conditions { λ _. ⌜ now (conditions .exit) ≡ outcome (now (table .entry)) (length (now (list .entry))) (length (now (scratch .entry))) .answer .conditions ⌝ }
+    ensures words { λ _. ⌜ now (words .exit) ≡ outcome (now (table .entry)) (length (now (list .entry))) (length (now (scratch .entry))) .answer .words ⌝ }
+    ensures list { λ _. ⌜ now (list .exit) ≡ outcome (now (table .entry)) (length (now (list .entry))) (length (now (scratch .entry))) .list ⌝ }
+    ensures scratch { λ _. ⌜ now (scratch .exit) ≡ outcome (now (table .entry)) (length (now (list .entry))) (length (now (scratch .entry))) .scratch ⌝ }
+{
+    let answer = generate::generate(table, list, scratch);
+    *number = answer.number;
+    *row = answer.row;
+    *conditions = answer.conditions;
+    *words = answer.words;
+}
