@@ -1,0 +1,271 @@
+//! Runs against the claim: from a start where the precondition is true, and
+//! with every condition of the list true, a run ends, begins at most v + 1
+//! bodies per arrival (v the variant's value there), fails no assertion and
+//! meets the postcondition.
+
+use reference::{
+    check, formula_from_words, formula_is_true, lines, need, run_observed, script_of, Arrival, End,
+    Formula, Line, Row, Run, Script, State, Variable, Verdict,
+};
+
+use crate::prng::Prng;
+use crate::scripts::{script_words, Shape};
+use crate::subject::Subject;
+use crate::templates::{any_template, lay_out};
+
+/// What became of the runs of a comparison.
+#[derive(Clone, Copy, Debug, Default, PartialEq, Eq)]
+pub struct Fates {
+    pub runs: u64,
+    /// Bodies begun in all arrivals.
+    pub passes: u64,
+    /// Arrivals with v + 1 bodies begun, the most there may be.
+    pub arrivals_at_the_bound: u64,
+    /// Runs that kept the claim, and those of them in whose states every
+    /// condition was true.
+    pub kept: u64,
+    pub kept_with_all_true: u64,
+    /// Runs that broke the claim, a condition being false in one of their states.
+    pub broken: u64,
+    /// Runs that took too many steps or met too large a number.
+    pub broken_off: u64,
+}
+
+/// Runs templates whose conditions hold by construction. Every condition is
+/// to be true in every state tried, and every run is to keep the claim.
+pub fn run_templates(subject: &mut dyn Subject, seed: u64, cases: u64) -> Result<Fates, String> {
+    let mut fates = Fates::default();
+    for case in 0..cases {
+        let mut random = Prng::for_case(seed, case);
+        let template = any_template(&mut random);
+        let words = lay_out(&template.script, &mut random);
+        let context = format!("seed {seed}, case {case}, {}", template.name);
+        let conditions = spelled_conditions(subject, &words);
+        let conditions = conditions.ok_or(format!("{context}: no conditions for {words:?}"))?;
+        for _ in 0..40 {
+            let start = small_state(&mut random, &words);
+            let context = format!("{context} from {start:?}: {words:?}");
+            all_true(&conditions, &start, &context)?;
+            let Some(trial) = try_run(&words, &conditions, &start, 20_000) else {
+                continue;
+            };
+            let kept = trial.broken.is_none() && trial.run.end == End::Done;
+            if !kept || trial.conditions_true != Some(true) {
+                return Err(format!("{context}: {trial:?}"));
+            }
+            fates.count(&trial);
+        }
+    }
+    Ok(fates)
+}
+
+fn all_true(conditions: &[Formula], state: &State, context: &str) -> Result<(), String> {
+    let is_false = |condition: &Formula| formula_is_true(condition, state) == Ok(false);
+    match conditions.iter().position(is_false) {
+        None => Ok(()),
+        Some(place) => Err(format!("{context}: condition {place} is false")),
+    }
+}
+
+/// Runs scripts whose conditions need not hold: templates with a changed
+/// meaning and random scripts in turn. A broken claim is to show in a condition
+/// that is false in some state of the run.
+pub fn run_any(subject: &mut dyn Subject, seed: u64, cases: u64) -> Result<Fates, String> {
+    let mut fates = Fates::default();
+    for case in 0..cases {
+        let mut random = Prng::for_case(seed, case);
+        let words = if case % 2 == 0 {
+            let template = any_template(&mut random);
+            let words = lay_out(&template.script, &mut random);
+            changed_meaning(&words, &mut random)
+        } else {
+            let rows = 4 + random.below(50);
+            let shape = Shape {
+                rows,
+                variables: 3,
+                ..Shape::any(&mut random)
+            };
+            script_words(&mut random, shape)
+        };
+        let Some(conditions) = spelled_conditions(subject, &words) else {
+            continue;
+        };
+        for _ in 0..10 {
+            let start = small_state(&mut random, &words);
+            let Some(trial) = try_run(&words, &conditions, &start, 2_000) else {
+                continue;
+            };
+            if trial.refutes_the_list() {
+                return Err(format!(
+                    "seed {seed}, case {case}, {start:?}: {words:?}: {trial:?}"
+                ));
+            }
+            fates.count(&trial);
+        }
+    }
+    Ok(fates)
+}
+
+impl Fates {
+    fn count(&mut self, trial: &Trial) {
+        self.runs += 1;
+        for arrival in &trial.run.arrivals {
+            self.passes += arrival.bodies_begun;
+            let bound = arrival.variant.map(|variant| variant.saturating_add(1));
+            self.arrivals_at_the_bound += u64::from(bound == Some(arrival.bodies_begun.into()));
+        }
+        let ended = matches!(trial.run.end, End::Done | End::Failed(_));
+        match (&trial.broken, ended) {
+            (Some(_), _) => self.broken += 1,
+            (None, false) => self.broken_off += 1,
+            (None, true) => {
+                self.kept += 1;
+                self.kept_with_all_true += u64::from(trial.conditions_true == Some(true));
+            }
+        }
+    }
+}
+
+/// What one run showed.
+#[derive(Clone, Debug)]
+pub struct Trial {
+    pub run: Run,
+    /// How the run breaks the claim, where it does.
+    pub broken: Option<String>,
+    /// Whether every condition was true in every state of the run; nothing
+    /// where a value was too large to tell.
+    pub conditions_true: Option<bool>,
+}
+
+impl Trial {
+    /// The run broke the claim although no condition was false in any of its
+    /// states: then the list does not say what it must.
+    ///
+    /// (The claim's proof uses each condition only in states of the run: main
+    /// at the start, exit and floor where a guard is tested, step where a body
+    /// begins.)
+    pub fn refutes_the_list(&self) -> bool {
+        self.broken.is_some() && self.conditions_true == Some(true)
+    }
+}
+
+/// The conditions of an accepted table as the words of the subject's list
+/// spell them; nothing where the subject does not plan it.
+pub fn spelled_conditions(subject: &mut dyn Subject, words: &[i32]) -> Option<Vec<Formula>> {
+    let need = need(words)?;
+    let mut list = vec![0; need.words?];
+    let mut scratch = vec![0; need.scratch(list.len())];
+    let answer = subject.generate(words, &mut list, &mut scratch);
+    if answer.number != 0 {
+        return None;
+    }
+    let list = &list[..answer.words];
+    let formula = |line: &Line| formula_from_words(&list[line.start..line.end]);
+    lines(list)?.iter().map(formula).collect()
+}
+
+/// Runs an accepted table from a start; nothing where the precondition is not
+/// true there.
+pub fn try_run(
+    words: &[i32],
+    conditions: &[Formula],
+    start: &State,
+    max_steps: u64,
+) -> Option<Trial> {
+    let script = script_of(words);
+    if formula_is_true(&script.precondition, start) != Ok(true) {
+        return None;
+    }
+    let mut conditions_true = Some(true);
+    let mut observe = |state: &State| {
+        for condition in conditions {
+            conditions_true = match (conditions_true, formula_is_true(condition, state)) {
+                (Some(false), _) | (_, Ok(false)) => Some(false),
+                (_, Err(_)) => None,
+                (so_far, Ok(true)) => so_far,
+            };
+        }
+    };
+    let run = run_observed(words, start, max_steps, &mut observe).expect("an accepted table");
+    let broken = broken_claim(&script, &run);
+    Some(Trial {
+        run,
+        broken,
+        conditions_true,
+    })
+}
+
+/// How a run breaks the claim. A run that was broken off is judged by its
+/// passes alone.
+fn broken_claim(script: &Script, run: &Run) -> Option<String> {
+    if let Some(arrival) = run
+        .arrivals
+        .iter()
+        .find(|arrival| has_too_many_passes(arrival))
+    {
+        return Some(format!("too many passes: {arrival:?}"));
+    }
+    match run.end {
+        End::Failed(row) => Some(format!("the assertion of row {} failed", row.0)),
+        End::Done if formula_is_true(&script.postcondition, &run.state) == Ok(false) => {
+            Some("the postcondition is false".to_string())
+        }
+        End::Done | End::OutOfSteps | End::TooLarge => None,
+    }
+}
+
+/// More bodies begun than v + 1, or any where that is negative.
+pub fn has_too_many_passes(arrival: &Arrival) -> bool {
+    let Some(variant) = arrival.variant else {
+        return false;
+    };
+    i128::from(arrival.bodies_begun) > variant.saturating_add(1).max(0)
+}
+
+/// A state with small values; frozen names often equal their variables.
+pub fn small_state(random: &mut Prng, words: &[i32]) -> State {
+    let mut state = State::default();
+    for number in 0..8 {
+        let value = i128::from(random.between(-4, 25));
+        state.set_variable(Variable(number), value);
+        let frozen = if random.once_in(4) {
+            random.between(-4, 25).into()
+        } else {
+            value
+        };
+        state.set_variable(Variable(128 + number), frozen);
+    }
+    let whiles = (0..words.len() / 4).filter(|row| words[4 * row] == 36);
+    for row in whiles {
+        state.set_mark(Row(row), random.between(-4, 25).into());
+    }
+    state
+}
+
+/// An accepted table made from an accepted one by a small change of its
+/// meaning: another constant, variable or operation.
+pub fn changed_meaning(words: &[i32], random: &mut Prng) -> Vec<i32> {
+    loop {
+        let mut changed = words.to_vec();
+        change_meaning_once(&mut changed, random);
+        let accepted = check(&changed) == Verdict::Accepted;
+        if accepted && changed != words {
+            return changed;
+        }
+    }
+}
+
+fn change_meaning_once(words: &mut [i32], random: &mut Prng) {
+    let row = 4 * random.below(words.len() / 4);
+    match words[row] {
+        1 => words[row + 1] = words[row + 1].wrapping_add(random.pick(&[-2, -1, 1, 2])),
+        2 | 33 => words[row + 1] = random.between(0, 3),
+        3..=7 => words[row] = random.between(3, 7),
+        16 | 17 => words[row] = random.between(16, 17),
+        18..=21 => words[row] = random.between(18, 21),
+        23..=25 => words[row] = random.between(23, 25),
+        34 => words.swap(row + 1, row + 2),
+        35 => words.swap(row + 2, row + 3),
+        _ => (),
+    }
+}

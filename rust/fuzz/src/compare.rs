@@ -1,0 +1,260 @@
+//! Runs inputs through a subject and the reference.
+
+use std::collections::BTreeMap;
+use std::fmt;
+use std::path::PathBuf;
+
+use reference::Line;
+
+use crate::inputs::Input;
+use crate::prng::Prng;
+use crate::subject::{Answer, Reference, Subject};
+
+/// With this environment variable set, every case is named before it is tried:
+/// for a subject that ends the whole process.
+pub const TRACE_VARIABLE: &str = "VCGEN_TRACE";
+
+/// The first difference found, with the whole input in a file.
+#[derive(Clone, Debug)]
+pub struct Difference {
+    pub seed: u64,
+    pub case: u64,
+    /// Which function differed, and in what.
+    pub what: String,
+    pub input: Input,
+    pub file: PathBuf,
+}
+
+impl fmt::Display for Difference {
+    fn fmt(&self, f: &mut fmt::Formatter) -> fmt::Result {
+        let Difference {
+            seed,
+            case,
+            what,
+            file,
+            ..
+        } = self;
+        write!(
+            f,
+            "seed {seed}, case {case}: {what}; the input is in {}",
+            file.display()
+        )
+    }
+}
+
+/// How often the reference gave each number, so that a test can tell whether
+/// its inputs reach them all.
+#[derive(Clone, Debug, Default)]
+pub struct Tally {
+    pub check: BTreeMap<u8, u64>,
+    pub generate: BTreeMap<u8, u64>,
+    pub line_at: BTreeMap<u8, u64>,
+    pub walk: BTreeMap<u8, u64>,
+}
+
+fn count(numbers: &mut BTreeMap<u8, u64>, number: u8) {
+    *numbers.entry(number).or_default() += 1;
+}
+
+/// Compares the subject with the reference on `cases` inputs.
+pub fn compare(subject: &mut dyn Subject, seed: u64, cases: u64) -> Result<(), Difference> {
+    compare_counting(subject, seed, cases, &mut Tally::default())
+}
+
+/// `compare`, counting the numbers that the reference gave.
+pub fn compare_counting(
+    subject: &mut dyn Subject,
+    seed: u64,
+    cases: u64,
+    tally: &mut Tally,
+) -> Result<(), Difference> {
+    (0..cases).try_for_each(|case| compare_case(subject, seed, case, tally))
+}
+
+/// One case of `compare`, to be repeated alone.
+pub fn compare_case(
+    subject: &mut dyn Subject,
+    seed: u64,
+    case: u64,
+    tally: &mut Tally,
+) -> Result<(), Difference> {
+    if std::env::var_os(TRACE_VARIABLE).is_some() {
+        println!("seed {seed}, case {case}");
+    }
+    let input = Input::any(&mut Prng::for_case(seed, case));
+    compare_input(subject, &input, tally).map_err(|what| {
+        let file = write_input(seed, case, &what, &input);
+        let difference = Difference {
+            seed,
+            case,
+            what,
+            input,
+            file,
+        };
+        println!("difference: {difference}");
+        difference
+    })
+}
+
+fn write_input(seed: u64, case: u64, what: &str, input: &Input) -> PathBuf {
+    let directory = concat!(env!("CARGO_MANIFEST_DIR"), "/../target/differences");
+    std::fs::create_dir_all(directory).expect("a directory for differences");
+    let file = PathBuf::from(directory).join(format!("seed-{seed}-case-{case}.txt"));
+    let text = format!("{what}\n{}", input.text());
+    std::fs::write(&file, text).expect("a file for the difference");
+    file
+}
+
+/// Compares on one input; what differs, in words, where something does.
+pub fn compare_input(
+    subject: &mut dyn Subject,
+    input: &Input,
+    tally: &mut Tally,
+) -> Result<(), String> {
+    match input {
+        Input::Table {
+            words,
+            list_len,
+            scratch_len,
+        } => compare_table(subject, words, *list_len, *scratch_len, tally),
+        Input::List(list) => compare_list(subject, list, tally),
+        Input::Bytes(bytes) => compare_program(subject, bytes),
+    }
+}
+
+fn same<T: PartialEq + fmt::Debug>(name: &str, expected: T, found: T) -> Result<(), String> {
+    if expected == found {
+        Ok(())
+    } else {
+        Err(format!("{name}: expected {expected:?}, found {found:?}"))
+    }
+}
+
+fn same_words(name: &str, expected: &[i32], found: &[i32]) -> Result<(), String> {
+    same(&format!("{name}, length"), expected.len(), found.len())?;
+    // The place is looked for only where there is one: equal slices are the rule.
+    if expected == found {
+        return Ok(());
+    }
+    let pairs = expected.iter().zip(found);
+    let place = pairs
+        .into_iter()
+        .position(|(expected, found)| expected != found);
+    let place = place.expect("a place where they differ");
+    same(
+        &format!("{name}, word {place}"),
+        expected[place],
+        found[place],
+    )
+}
+
+fn compare_table(
+    subject: &mut dyn Subject,
+    words: &[i32],
+    list_len: usize,
+    scratch_len: usize,
+    tally: &mut Tally,
+) -> Result<(), String> {
+    let expected = Reference.check(words);
+    count(&mut tally.check, number_of(expected));
+    same("check", expected, subject.check(words))?;
+
+    let outcome = reference::generate(words, list_len, scratch_len);
+    count(&mut tally.generate, outcome.number);
+    let expected = Answer {
+        number: outcome.number,
+        row: outcome.row,
+        conditions: outcome.conditions,
+        words: outcome.words,
+    };
+    let (mut list, mut scratch) = (junk(list_len), junk(scratch_len));
+    let found = subject.generate(words, &mut list, &mut scratch);
+    same("generate", expected, found)?;
+    same_words("generate, list", &outcome.list, &list)?;
+    same_words("generate, scratch", &outcome.scratch, &scratch)?;
+
+    let (records, rest) = words.as_chunks::<4>();
+    if rest.is_empty() {
+        let (mut list, mut scratch) = (junk(list_len), junk(scratch_len));
+        let found = subject.generate_from_records(records, &mut list, &mut scratch);
+        if let Some(found) = found {
+            same("generate from records", expected, found)?;
+            same_words("generate from records, list", &outcome.list, &list)?;
+            same_words("generate from records, scratch", &outcome.scratch, &scratch)?;
+        }
+    }
+    if outcome.number == 0 {
+        compare_list(subject, &outcome.list[..outcome.words], tally)?;
+    }
+    Ok(())
+}
+
+fn number_of(verdict: reference::Verdict) -> u8 {
+    match verdict {
+        reference::Verdict::Accepted => 0,
+        reference::Verdict::Refused { number, .. } => number,
+    }
+}
+
+/// What stands in a buffer before a call: no zeros.
+fn junk(length: usize) -> Vec<i32> {
+    (0..length as i32)
+        .map(|place| place.wrapping_mul(0x2545_F491) | 1)
+        .collect()
+}
+
+fn compare_list(subject: &mut dyn Subject, list: &[i32], tally: &mut Tally) -> Result<(), String> {
+    let lines = reference::lines(list);
+    let steps = lines.as_ref().map_or(2, |lines| lines.len() + 2);
+    let walked = Reference.walk(list, steps);
+    walked
+        .iter()
+        .for_each(|line| count(&mut tally.walk, line.number));
+    same_lines("walk", &walked, &subject.walk(list, steps))?;
+    for index in indexes(list, steps) {
+        let expected = reference::line_at(list, index);
+        count(&mut tally.line_at, expected.number);
+        same(
+            &format!("line at {index}"),
+            expected,
+            subject.line_at(list, index),
+        )?;
+    }
+    Ok(())
+}
+
+fn same_lines(name: &str, expected: &[Line], found: &[Line]) -> Result<(), String> {
+    same(&format!("{name}, steps"), expected.len(), found.len())?;
+    for (step, (expected, found)) in expected.iter().zip(found).enumerate() {
+        same(&format!("{name}, step {step}"), expected, found)?;
+    }
+    Ok(())
+}
+
+/// Indexes inside, at the edges of, and outside a list with `steps` less 2 lines.
+fn indexes(list: &[i32], steps: usize) -> Vec<i64> {
+    let lines = steps as i64 - 2;
+    let last_word = i64::from(list.last().copied().unwrap_or(0));
+    let mut indexes = vec![-1, 0, 1, lines / 2, lines - 1, lines, lines + 1, last_word];
+    let least = i64::from(i32::MIN);
+    indexes.extend([least.max(last_word - 1), least, i64::from(i32::MAX)]);
+    indexes.sort_unstable();
+    indexes.dedup();
+    indexes
+}
+
+fn compare_program(subject: &mut dyn Subject, bytes: &[u8]) -> Result<(), String> {
+    let Some(found) = subject.program_output(bytes) else {
+        return Ok(());
+    };
+    let expected = reference::program_output(bytes);
+    if expected == found {
+        return Ok(());
+    }
+    let text = |bytes: Vec<u8>| String::from_utf8_lossy(&bytes).into_owned();
+    Err(format!(
+        "program: expected {:?}, found {:?}",
+        text(expected),
+        text(found)
+    ))
+}

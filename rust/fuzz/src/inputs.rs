@@ -1,0 +1,183 @@
+//! One input of a comparison, chosen by chance.
+
+use std::fmt::Write;
+
+use reference::{conditions, list_words, need, script_of, LONGEST_LIST};
+
+use crate::limits::{limit_words, list_of_length};
+use crate::mutate::{change_words, list_with_length, made_up_list, random_words, tear, tiny_list};
+use crate::prng::Prng;
+use crate::scripts::{script_words, Shape};
+
+/// What a subject and the reference are both given.
+#[derive(Clone, Debug, PartialEq, Eq)]
+pub enum Input {
+    /// A table with the lengths of both buffers.
+    Table {
+        words: Vec<i32>,
+        list_len: usize,
+        scratch_len: usize,
+    },
+    /// A list to be read.
+    List(Vec<i32>),
+    /// The standard input of the program.
+    Bytes(Vec<u8>),
+}
+
+impl Input {
+    pub fn any(random: &mut Prng) -> Input {
+        match random.below(32) {
+            0..=20 => any_table(random),
+            21..=29 => Input::List(any_list(random)),
+            _ => Input::Bytes(any_bytes(random)),
+        }
+    }
+
+    /// The whole input as text, for the file of a difference.
+    pub fn text(&self) -> String {
+        match self {
+            Input::Table {
+                words,
+                list_len,
+                scratch_len,
+            } => {
+                let mut text =
+                    format!("table, list length {list_len}, scratch length {scratch_len}\n");
+                for row in words.chunks(4) {
+                    text += &spaced(row);
+                }
+                text
+            }
+            Input::List(words) => format!("list\n{}", spaced(words)),
+            Input::Bytes(bytes) => format!("bytes of standard input\n{}", spaced(bytes)),
+        }
+    }
+}
+
+fn spaced<T: std::fmt::Display>(numbers: &[T]) -> String {
+    let mut line = String::new();
+    for (place, number) in numbers.iter().enumerate() {
+        let space = if place == 0 { "" } else { " " };
+        write!(line, "{space}{number}").expect("a string takes all");
+    }
+    line + "\n"
+}
+
+fn any_table(random: &mut Prng) -> Input {
+    let words = any_words(random);
+    let (list_len, scratch_len) = any_lengths(&words, random);
+    Input::Table {
+        words,
+        list_len,
+        scratch_len,
+    }
+}
+
+/// Valid scripts, changed ones, faulty ones, random words, limits.
+fn any_words(random: &mut Prng) -> Vec<i32> {
+    match random.below(24) {
+        0..=9 => {
+            let shape = Shape::any(random);
+            script_words(random, shape)
+        }
+        10..=15 => {
+            let shape = Shape::any(random);
+            let mut words = script_words(random, shape);
+            change_words(&mut words, random);
+            words
+        }
+        16..=18 => {
+            let shape = Shape::any_faulty(random);
+            script_words(random, shape)
+        }
+        19..=21 => random_words(random),
+        22 => limit_words(random),
+        _ => {
+            let mut words = limit_words(random);
+            change_words(&mut words, random);
+            words
+        }
+    }
+}
+
+/// Rooms and scratches at, below and above the need.
+fn any_lengths(words: &[i32], random: &mut Prng) -> (usize, usize) {
+    let Some(need) = need(words) else {
+        return (random.pick(&[0, 1, 7, 94, 512]), random.below(2_000));
+    };
+    let wanted = need.words.unwrap_or(LONGEST_LIST);
+    let list_len = match random.below(32) {
+        0..=9 => wanted,
+        10..=15 => wanted - 1,
+        16..=20 => wanted + 1,
+        21..=24 => wanted + random.below(100),
+        25..=28 => random.below(wanted + 1),
+        29 => random.pick(&[0, 1, 6, 7]),
+        _ => random.pick(&[LONGEST_LIST - 1, LONGEST_LIST, LONGEST_LIST + 1, 20_000]),
+    };
+    let enough = need.scratch(list_len.min(LONGEST_LIST));
+    let scratch_len = match random.below(16) {
+        0..=6 => enough,
+        7..=9 => enough.saturating_sub(1),
+        10..=11 => enough + 1,
+        12..=13 => enough + random.below(100),
+        14 => random.below(enough + 1),
+        _ => 0,
+    };
+    (list_len, scratch_len)
+}
+
+/// Lists of the generator and made-up ones, whole and torn.
+fn any_list(random: &mut Prng) -> Vec<i32> {
+    let mut list = match random.below(13) {
+        12 => return tiny_list(random),
+        0..=6 => list_of_generator(random),
+        7..=9 => made_up_list(random, 0),
+        10 => made_up_list(random, 20),
+        _ => any_long_list(random),
+    };
+    let tears = random.pick(&[0, 1, 1, 1, 1, 2]);
+    for _ in 0..tears {
+        tear(&mut list, random);
+    }
+    list
+}
+
+fn any_long_list(random: &mut Prng) -> Vec<i32> {
+    let any = 5 + random.below(LONGEST_LIST);
+    let edge = random.pick(&[LONGEST_LIST - 1, LONGEST_LIST, LONGEST_LIST + 1]);
+    let length = random.pick(&[any, edge, 5, 6, 9]);
+    list_with_length(random, length)
+}
+
+fn list_of_generator(random: &mut Prng) -> Vec<i32> {
+    let shape = Shape {
+        rows: 4 + random.below(60),
+        ..Shape::any(random)
+    };
+    let words = script_words(random, shape);
+    let listed = conditions(&script_of(&words), LONGEST_LIST);
+    listed.map_or(Vec::new(), |conditions| list_words(&conditions))
+}
+
+fn any_bytes(random: &mut Prng) -> Vec<u8> {
+    let words = match random.below(5) {
+        0 => {
+            let length = random.pick(&[511, 512, 513]);
+            list_of_length(random, length)
+        }
+        1 | 2 => {
+            let shape = Shape {
+                rows: 4 + random.below(60),
+                ..Shape::any(random)
+            };
+            script_words(random, shape)
+        }
+        _ => any_words(random),
+    };
+    let mut bytes: Vec<u8> = words.iter().flat_map(|word| word.to_le_bytes()).collect();
+    if random.once_in(4) {
+        bytes.resize(bytes.len() + random.below(5), 0);
+    }
+    bytes
+}

@@ -1,0 +1,22 @@
+//! Seeded inputs that run a subject beside the reference.
+//!
+//! [`compare`] gives the same inputs to both and reports the first difference,
+//! with the whole input written to a file. [`claims`] runs scripts against the
+//! claim that the conditions make: an end, at most v + 1 passes per arrival,
+//! and the postcondition.
+
+pub mod arena;
+pub mod claims;
+pub mod compare;
+pub mod inputs;
+pub mod limits;
+pub mod mutate;
+pub mod prng;
+pub mod scripts;
+pub mod subject;
+pub mod templates;
+
+pub use compare::{compare, compare_case, compare_counting, compare_input, Difference, Tally};
+pub use inputs::Input;
+pub use prng::{seed_from_environment, Prng};
+pub use subject::{Answer, Reference, Subject};

@@ -1,0 +1,207 @@
+//! Scripts at the limits of document 01: lengths of tables, nesting, deep
+//! chains, lists just as long as the room.
+
+use crate::arena::{Arena, Node, Order};
+use crate::prng::Prng;
+use crate::scripts::{script_words, Shape};
+
+/// The words of a table at some limit.
+pub fn limit_words(random: &mut Prng) -> Vec<i32> {
+    match random.below(9) {
+        0 => odd_length(random),
+        1 => {
+            let rows = random.pick(&[2_046, 2_047, 2_048, 2_049, 2_050]);
+            with_rows(random, rows)
+        }
+        2 | 3 => {
+            let nesting = random.pick(&[7, 8, 9, 10]);
+            nested(random, nesting)
+        }
+        4 => {
+            let length = random.pick(&[16_382, 16_383, 16_384, 16_385, 16_386, 20_000]);
+            list_of_length(random, length)
+        }
+        5 => deep_expression(random),
+        6 => chain_of_assignments(random),
+        7 => chain_of_branches(random),
+        _ => chain_of_loops(random),
+    }
+}
+
+/// A short or a cut table: no words, 1 to 5, or some words less or more.
+fn odd_length(random: &mut Prng) -> Vec<i32> {
+    let shape = Shape::any(random);
+    let mut words = match random.below(4) {
+        0 => vec![0; 8_192],
+        1 => vec![16; 8_200],
+        _ => script_words(random, shape),
+    };
+    let length = match random.below(4) {
+        0 => random.below(6),
+        1 => random.pick(&[8_188, 8_191, 8_192, 8_193, 8_195, 8_196]),
+        2 => words.len() + random.below(5),
+        _ => words.len() - random.below(5),
+    };
+    words.resize(length, 0);
+    words
+}
+
+fn finish(mut arena: Arena, pre: Node, statement: Node, post: Node, random: &mut Prng) -> Vec<i32> {
+    arena.three(48, pre, statement, post);
+    let order = Order::any(random);
+    arena.words(order, random)
+}
+
+/// `count` nots around `formula`.
+fn nots(arena: &mut Arena, formula: Node, count: usize) -> Node {
+    (0..count).fold(formula, |inner, _| arena.one(22, inner))
+}
+
+/// A script with exactly so many rows, at least 4.
+pub fn with_rows(random: &mut Prng, rows: usize) -> Vec<i32> {
+    let mut arena = Arena::default();
+    let statement = arena.leaf(32);
+    let (pre, post) = (arena.leaf(16), arena.leaf(17));
+    let padding = rows - 4;
+    let before = random.below(padding + 1);
+    let pre = nots(&mut arena, pre, before);
+    let post = nots(&mut arena, post, padding - before);
+    finish(arena, pre, statement, post, random)
+}
+
+/// Ifs and whiles one in the other, `nesting` deep on one path.
+pub fn nested(random: &mut Prng, nesting: usize) -> Vec<i32> {
+    let mut arena = Arena::default();
+    let mut statement = arena.leaf(32);
+    for _ in 0..nesting {
+        let guard = arena.leaf(16);
+        let other = arena.leaf(32);
+        statement = match random.below(4) {
+            0 => arena.three(35, guard, statement, other),
+            1 => arena.three(35, guard, other, statement),
+            _ => {
+                let statement = arena.two(34, other, statement);
+                let (invariant, variant) = (arena.leaf(16), arena.variable(0));
+                let note = arena.two(37, invariant, variant);
+                arena.three(36, guard, note, statement)
+            }
+        };
+    }
+    let (pre, post) = (arena.leaf(16), arena.leaf(16));
+    finish(arena, pre, statement, post, random)
+}
+
+/// A script whose list has exactly `length` words (from 112 on): four ifs on
+/// end, each making Q into 2Q + 6 words.
+pub fn list_of_length(random: &mut Prng, length: usize) -> Vec<i32> {
+    let mut arena = Arena::default();
+    let mut statement = None;
+    for _ in 0..4 {
+        let guard = arena.leaf(16);
+        let (then, otherwise) = (arena.leaf(32), arena.leaf(32));
+        let branch = arena.three(35, guard, then, otherwise);
+        statement = Some(match statement {
+            None => branch,
+            Some(before) => arena.two(34, before, branch),
+        });
+    }
+    let (pre, post) = (arena.leaf(16), arena.leaf(17));
+    let pre = nots(&mut arena, pre, (length - 112) % 16);
+    let post = nots(&mut arena, post, (length - 112) / 16);
+    finish(arena, pre, statement.expect("four ifs"), post, random)
+}
+
+/// An assigned expression or a postcondition as deep as the rows allow.
+fn deep_expression(random: &mut Prng) -> Vec<i32> {
+    let mut arena = Arena::default();
+    let depth = random.pick(&[500, 1_000, 2_030]);
+    let mut deep = arena.variable(0);
+    while arena.len() < depth {
+        deep = match random.below(4) {
+            0 => {
+                let other = arena.variable(0);
+                arena.two(3, other, deep)
+            }
+            _ => arena.one(8, deep),
+        };
+    }
+    let assign = arena.assign(0, deep);
+    let (left, right) = (arena.variable(0), arena.variable(1));
+    let post = arena.two(20, left, right);
+    let pre = arena.leaf(16);
+    finish(arena, pre, assign, post, random)
+}
+
+/// Sequences leaning left or right.
+fn sequence(arena: &mut Arena, statements: Vec<Node>, leaning_left: bool) -> Node {
+    let mut statements = statements;
+    if leaning_left {
+        let first = statements.remove(0);
+        statements
+            .into_iter()
+            .fold(first, |before, next| arena.two(34, before, next))
+    } else {
+        let last = statements.pop().expect("a statement");
+        statements
+            .into_iter()
+            .rev()
+            .fold(last, |after, next| arena.two(34, next, after))
+    }
+}
+
+/// x := x + 1, or x := x + x, again and again.
+fn chain_of_assignments(random: &mut Prng) -> Vec<i32> {
+    let mut arena = Arena::default();
+    let doubling_once_in = random.pick(&[1, 30, 1_000]);
+    let count = random.pick(&[5, 13, 14, 300]);
+    let mut statements = Vec::new();
+    for _ in 0..count {
+        let left = arena.variable(0);
+        let doubles = random.once_in(doubling_once_in);
+        let right = if doubles {
+            arena.variable(0)
+        } else {
+            arena.constant(1)
+        };
+        let sum = arena.two(3, left, right);
+        statements.push(arena.assign(0, sum));
+    }
+    let leaning_left = random.once_in(2);
+    let statement = sequence(&mut arena, statements, leaning_left);
+    let (left, right) = (arena.variable(0), arena.constant(0));
+    let post = arena.two(20, left, right);
+    let pre = arena.leaf(16);
+    finish(arena, pre, statement, post, random)
+}
+
+/// Ifs on end: the list doubles with each.
+fn chain_of_branches(random: &mut Prng) -> Vec<i32> {
+    let mut arena = Arena::default();
+    let mut statements = Vec::new();
+    for _ in 0..random.pick(&[2, 9, 10, 11, 12, 200]) {
+        let guard = arena.leaf(16);
+        let (then, otherwise) = (arena.leaf(32), arena.leaf(32));
+        statements.push(arena.three(35, guard, then, otherwise));
+    }
+    let leaning_left = random.once_in(2);
+    let statement = sequence(&mut arena, statements, leaning_left);
+    let (pre, post) = (arena.leaf(16), arena.leaf(17));
+    finish(arena, pre, statement, post, random)
+}
+
+/// Loops on end, up to as many as the rows allow.
+fn chain_of_loops(random: &mut Prng) -> Vec<i32> {
+    let mut arena = Arena::default();
+    let mut statements = Vec::new();
+    for _ in 0..random.pick(&[3, 50, 250]) {
+        let guard = arena.leaf(17);
+        let (invariant, variant) = (arena.leaf(16), arena.variable(3));
+        let note = arena.two(37, invariant, variant);
+        let body = arena.leaf(32);
+        statements.push(arena.three(36, guard, note, body));
+    }
+    let leaning_left = random.once_in(2);
+    let statement = sequence(&mut arena, statements, leaning_left);
+    let (pre, post) = (arena.leaf(16), arena.leaf(17));
+    finish(arena, pre, statement, post, random)
+}

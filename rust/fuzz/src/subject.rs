@@ -1,0 +1,89 @@
+//! What is compared with the reference.
+
+use reference::{Line, Verdict};
+
+/// "An answer holds: number, row, conditions, words used."
+#[derive(Clone, Copy, Debug, PartialEq, Eq)]
+pub struct Answer {
+    pub number: u8,
+    pub row: usize,
+    pub conditions: usize,
+    pub words: usize,
+}
+
+/// An implementation of document 01 as its callers see it.
+pub trait Subject {
+    /// The check of a table, numbers 1 to 10.
+    fn check(&mut self, words: &[i32]) -> Verdict;
+
+    /// The generator. Both buffers hold anything before the call.
+    fn generate(&mut self, words: &[i32], list: &mut [i32], scratch: &mut [i32]) -> Answer;
+
+    /// The list reader at an index from the front. (The indexes tried all fit
+    /// in 32 bits.)
+    fn line_at(&mut self, list: &[i32], index: i64) -> Line;
+
+    /// The answers of the first `steps` steps of a reader over the list.
+    fn walk(&mut self, list: &[i32], steps: usize) -> Vec<Line>;
+
+    /// "The editor's entry takes the table as a lent run of row records"; a
+    /// subject without it answers nothing.
+    fn generate_from_records(
+        &mut self,
+        _records: &[[i32; 4]],
+        _list: &mut [i32],
+        _scratch: &mut [i32],
+    ) -> Option<Answer> {
+        None
+    }
+
+    /// The program's standard output for this input; a subject without a
+    /// program answers nothing.
+    fn program_output(&mut self, _bytes: &[u8]) -> Option<Vec<u8>> {
+        None
+    }
+}
+
+/// The reference as a subject.
+#[derive(Clone, Copy, Debug, Default)]
+pub struct Reference;
+
+impl Subject for Reference {
+    fn check(&mut self, words: &[i32]) -> Verdict {
+        reference::check(words)
+    }
+
+    fn generate(&mut self, words: &[i32], list: &mut [i32], scratch: &mut [i32]) -> Answer {
+        let outcome = reference::generate(words, list.len(), scratch.len());
+        list.copy_from_slice(&outcome.list);
+        scratch.copy_from_slice(&outcome.scratch);
+        Answer {
+            number: outcome.number,
+            row: outcome.row,
+            conditions: outcome.conditions,
+            words: outcome.words,
+        }
+    }
+
+    fn line_at(&mut self, list: &[i32], index: i64) -> Line {
+        reference::line_at(list, index)
+    }
+
+    fn walk(&mut self, list: &[i32], steps: usize) -> Vec<Line> {
+        let mut reader = reference::ListReader::new(list);
+        (0..steps).map(|_| reader.step()).collect()
+    }
+
+    fn generate_from_records(
+        &mut self,
+        records: &[[i32; 4]],
+        list: &mut [i32],
+        scratch: &mut [i32],
+    ) -> Option<Answer> {
+        Some(self.generate(&records.concat(), list, scratch))
+    }
+
+    fn program_output(&mut self, bytes: &[u8]) -> Option<Vec<u8>> {
+        Some(reference::program_output(bytes))
+    }
+}

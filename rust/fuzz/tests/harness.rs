@@ -1,0 +1,323 @@
+//! The harness tried on the reference itself and on broken subjects.
+
+use fuzz::mutate::{list_with_length, made_up_list};
+use fuzz::scripts::{script_words, Shape};
+use fuzz::{compare, compare_counting, limits, seed_from_environment};
+use fuzz::{Answer, Prng, Reference, Subject, Tally};
+use reference::{check, lines, need, Line, Verdict};
+
+const CASES: u64 = 20_000;
+
+#[test]
+fn the_reference_agrees_with_itself_and_every_number_occurs() {
+    let seed = seed_from_environment();
+    let mut tally = Tally::default();
+    let begun = std::time::Instant::now();
+    let result = compare_counting(&mut Reference, seed, CASES, &mut tally);
+    let seconds = begun.elapsed().as_secs_f64();
+    println!("{:.0} cases per second; {tally:?}", CASES as f64 / seconds);
+    assert!(result.is_ok(), "{}", result.unwrap_err());
+
+    let numbers = |of: &std::collections::BTreeMap<u8, u64>| of.keys().copied().collect::<Vec<_>>();
+    assert_eq!(numbers(&tally.check), (0..=10).collect::<Vec<_>>());
+    assert_eq!(numbers(&tally.generate), (0..=12).collect::<Vec<_>>());
+    assert_eq!(numbers(&tally.line_at), [0, 20, 21]);
+    assert_eq!(numbers(&tally.walk), [0, 20, 21]);
+}
+
+#[test]
+fn valid_scripts_are_accepted() {
+    let seed = seed_from_environment();
+    for case in 0..2_000 {
+        let mut random = Prng::for_case(seed, case);
+        let shape = Shape::any(&mut random);
+        let words = script_words(&mut random, shape);
+        assert_eq!(check(&words), Verdict::Accepted, "case {case}: {words:?}");
+    }
+}
+
+#[test]
+fn limits_are_where_they_are_said_to_be() {
+    let mut random = Prng::new(seed_from_environment());
+    for _ in 0..50 {
+        for length in [112, 500, 16_383, 16_384] {
+            let words = limits::list_of_length(&mut random, length);
+            assert_eq!(need(&words).unwrap().words, Some(length));
+        }
+        let words = limits::list_of_length(&mut random, 16_385);
+        assert_eq!(need(&words).unwrap().words, None);
+        for nesting in 0..=8 {
+            let words = limits::nested(&mut random, nesting);
+            assert_eq!(need(&words).unwrap().nesting, nesting);
+        }
+        let too_deep = limits::nested(&mut random, 9);
+        assert_eq!(check(&too_deep), Verdict::Refused { number: 10, row: 0 });
+        assert_eq!(
+            check(&limits::with_rows(&mut random, 2_048)),
+            Verdict::Accepted
+        );
+        let too_long = limits::with_rows(&mut random, 2_049);
+        assert_eq!(check(&too_long), Verdict::Refused { number: 1, row: 0 });
+    }
+}
+
+#[test]
+fn made_up_lists_are_well_formed() {
+    let mut random = Prng::new(seed_from_environment());
+    for length in [5, 6, 9, 100, 16_383, 16_384] {
+        assert!(lines(&list_with_length(&mut random, length)).is_some());
+    }
+    assert!(lines(&list_with_length(&mut random, 16_385)).is_none());
+    for _ in 0..1_000 {
+        assert!(lines(&made_up_list(&mut random, 0)).is_some());
+    }
+}
+
+/// One way in which a subject may be broken.
+#[derive(Clone, Copy, Debug, PartialEq)]
+enum Fault {
+    NumberOneForgotten,
+    RowOfPart,
+    FrozenBeforeLoose,
+    HighestPeekingRow,
+    MarkInPreconditionAllowed,
+    NestingNine,
+    RowOfTooDeep,
+    RoomNotCapped,
+    ScratchOneShort,
+    ScratchLeftDirty,
+    ListEndLeftDirty,
+    ListLeftAfterRefusal,
+    CountsAfterRefusal,
+    FloorBeforeExit,
+    ElseBeforeThen,
+    WordTooMany,
+    IndexBeforeTorn,
+    FrontLeftOver,
+    LongListRead,
+    KindAfterRefusal,
+    ExpressionAsFormula,
+    VariableOffTheScale,
+    WalksForward,
+    WalkEndsWithTwenty,
+    RecordsCutShort,
+    LineFeedMissing,
+    OddBytesDropped,
+}
+
+const FAULTS: [Fault; 27] = [
+    Fault::NumberOneForgotten,
+    Fault::RowOfPart,
+    Fault::FrozenBeforeLoose,
+    Fault::HighestPeekingRow,
+    Fault::MarkInPreconditionAllowed,
+    Fault::NestingNine,
+    Fault::RowOfTooDeep,
+    Fault::RoomNotCapped,
+    Fault::ScratchOneShort,
+    Fault::ScratchLeftDirty,
+    Fault::ListEndLeftDirty,
+    Fault::ListLeftAfterRefusal,
+    Fault::CountsAfterRefusal,
+    Fault::FloorBeforeExit,
+    Fault::ElseBeforeThen,
+    Fault::WordTooMany,
+    Fault::IndexBeforeTorn,
+    Fault::FrontLeftOver,
+    Fault::LongListRead,
+    Fault::KindAfterRefusal,
+    Fault::ExpressionAsFormula,
+    Fault::VariableOffTheScale,
+    Fault::WalksForward,
+    Fault::WalkEndsWithTwenty,
+    Fault::RecordsCutShort,
+    Fault::LineFeedMissing,
+    Fault::OddBytesDropped,
+];
+
+/// The reference with one fault.
+struct Broken(Fault);
+
+impl Broken {
+    fn is(&self, fault: Fault) -> bool {
+        self.0 == fault
+    }
+
+    fn verdict(&self, words: &[i32]) -> Verdict {
+        let verdict = check(words);
+        let Verdict::Refused { number, row } = verdict else {
+            return verdict;
+        };
+        let refused = |number, row| Verdict::Refused { number, row };
+        match (self.0, number) {
+            (Fault::NumberOneForgotten, 1) if words.len() > 8_192 => Verdict::Accepted,
+            (Fault::RowOfPart, 5) => refused(5, words[4 * row + 1] as usize),
+            (Fault::FrozenBeforeLoose, 7) => match sealed(words) {
+                Some(row) => refused(8, row),
+                None => verdict,
+            },
+            (Fault::HighestPeekingRow, 9) => {
+                let frozen = |row: &usize| words[4 * row] == 2 && words[4 * row + 1] > 127;
+                refused(9, (0..words.len() / 4).rev().find(frozen).unwrap_or(row))
+            }
+            (Fault::MarkInPreconditionAllowed, 9) if words[4 * row] == 9 => Verdict::Accepted,
+            (Fault::NestingNine, 10) => Verdict::Accepted,
+            (Fault::RowOfTooDeep, 10) => refused(10, words.len() / 4 - 1),
+            _ => verdict,
+        }
+    }
+}
+
+fn sealed(words: &[i32]) -> Option<usize> {
+    words.chunks(4).position(|row| row[0] == 33 && row[1] > 127)
+}
+
+/// The conditions of a list with those at two places exchanged.
+fn exchanged(list: &[i32], first: usize, second: usize) -> Vec<i32> {
+    let lines = lines(list).expect("a list of the generator");
+    let mut order: Vec<usize> = (0..lines.len()).collect();
+    order.swap(first, second);
+    let mut words = Vec::new();
+    for place in order {
+        words.extend(&list[lines[place].start..lines[place].end + 3]);
+    }
+    words.push(lines.len() as i32);
+    words
+}
+
+/// Where the last condition is an implication of a conjunction of implications
+/// (an if), that with both sides of the conjunction exchanged.
+fn else_first(list: &[i32]) -> Vec<i32> {
+    let lines = lines(list).expect("a list of the generator");
+    let main = lines[lines.len() - 1];
+    let part_end = |start: usize| {
+        let whole = |end: &usize| reference::is_whole_formula(&list[start..*end]);
+        (start + 1..=main.end).find(whole).expect("a part")
+    };
+    let mut words = list.to_vec();
+    let after = part_end(main.start + 1);
+    if list[after] == 23 {
+        let between = part_end(after + 1);
+        words[after + 1..main.end].rotate_left(between - after - 1);
+    }
+    words
+}
+
+impl Subject for Broken {
+    fn check(&mut self, words: &[i32]) -> Verdict {
+        self.verdict(words)
+    }
+
+    fn generate(&mut self, words: &[i32], list: &mut [i32], scratch: &mut [i32]) -> Answer {
+        let mut answer = Reference.generate(words, list, scratch);
+        let used = answer.words;
+        match self.0 {
+            Fault::RoomNotCapped if answer.number == 0 && list.len() > 16_384 => answer.number = 11,
+            Fault::ScratchOneShort if answer.number == 11 => {
+                let mut more = vec![0; scratch.len() + 1];
+                return Reference.generate(words, list, &mut more);
+            }
+            Fault::ScratchLeftDirty => {
+                if let Some(last) = scratch.last_mut() {
+                    *last = 1;
+                }
+            }
+            Fault::ListEndLeftDirty if list.len() > used && answer.number == 0 => {
+                list[used] = 7;
+            }
+            Fault::ListLeftAfterRefusal if answer.number == 12 && !list.is_empty() => {
+                list[0] = 25;
+            }
+            Fault::CountsAfterRefusal if answer.number == 12 => answer.conditions = 1,
+            Fault::FloorBeforeExit if answer.number == 0 && answer.conditions > 2 => {
+                let changed = exchanged(&list[..used], 0, 1);
+                list[..used].copy_from_slice(&changed);
+            }
+            Fault::ElseBeforeThen if answer.number == 0 => {
+                let changed = else_first(&list[..used]);
+                list[..used].copy_from_slice(&changed);
+            }
+            Fault::WordTooMany if answer.number == 0 => answer.words += 1,
+            _ => (),
+        }
+        answer
+    }
+
+    fn line_at(&mut self, list: &[i32], index: i64) -> Line {
+        let line = reference::line_at(list, index);
+        let torn = line.number == 20;
+        match self.0 {
+            Fault::IndexBeforeTorn if index < 0 => Line { number: 21, ..line },
+            Fault::FrontLeftOver if torn && list.len() > 1 => {
+                let shorter = reference::line_at(&list[1..], index);
+                if shorter.number == 0 {
+                    Line {
+                        start: shorter.start + 1,
+                        end: shorter.end + 1,
+                        ..shorter
+                    }
+                } else {
+                    line
+                }
+            }
+            Fault::LongListRead if torn && list.len() > 16_384 => Line { number: 21, ..line },
+            Fault::KindAfterRefusal if line.number == 21 => Line { kind: 1, ..line },
+            Fault::ExpressionAsFormula if torn && list.len() == 5 => Line { number: 0, ..line },
+            Fault::VariableOffTheScale if torn => {
+                let mended: Vec<i32> = list
+                    .iter()
+                    .map(|&w| if w == 256 { 255 } else { w })
+                    .collect();
+                reference::line_at(&mended, index)
+            }
+            _ => line,
+        }
+    }
+
+    fn walk(&mut self, list: &[i32], steps: usize) -> Vec<Line> {
+        let mut walked = Reference.walk(list, steps);
+        if self.is(Fault::WalksForward) && walked[0].number == 0 {
+            walked[..steps - 2].reverse();
+        }
+        if self.is(Fault::WalkEndsWithTwenty) {
+            walked[steps - 1].number = 20;
+        }
+        walked
+    }
+
+    fn generate_from_records(
+        &mut self,
+        records: &[[i32; 4]],
+        list: &mut [i32],
+        scratch: &mut [i32],
+    ) -> Option<Answer> {
+        let cut = usize::from(self.is(Fault::RecordsCutShort) && !records.is_empty());
+        Reference.generate_from_records(&records[cut..], list, scratch)
+    }
+
+    fn program_output(&mut self, bytes: &[u8]) -> Option<Vec<u8>> {
+        let kept = if self.is(Fault::OddBytesDropped) {
+            bytes.len() / 4 * 4
+        } else {
+            bytes.len()
+        };
+        let mut output = reference::program_output(&bytes[..kept]);
+        if self.is(Fault::LineFeedMissing) {
+            output.pop();
+        }
+        Some(output)
+    }
+}
+
+#[test]
+fn every_broken_subject_is_found() {
+    let seed = seed_from_environment();
+    for fault in FAULTS {
+        let difference = compare(&mut Broken(fault), seed, CASES);
+        let difference = difference.expect_err(&format!("{fault:?} was not found"));
+        println!("{fault:?}: {difference}");
+        let text = std::fs::read_to_string(&difference.file).expect("the file of the difference");
+        assert!(text.ends_with(&difference.input.text()));
+        std::fs::remove_file(&difference.file).expect("the file can be removed");
+    }
+}

@@ -1,0 +1,236 @@
+//! "Conditions": weakest preconditions and the verification conditions listed
+//! on the way.
+
+use crate::table::{Row, Variable};
+use crate::tree::{Comparison, Connective, Expression, Formula, Loop, Script, Statement};
+
+/// "condition kind (1 exit, 2 floor, 3 step, 4 main)".
+#[derive(Clone, Copy, Debug, PartialEq, Eq)]
+pub enum ConditionKind {
+    Exit = 1,
+    Floor = 2,
+    Step = 3,
+    Main = 4,
+}
+
+/// A verification condition with the row of its while, or of the script.
+#[derive(Clone, Debug, PartialEq, Eq)]
+pub struct Condition {
+    pub kind: ConditionKind,
+    pub row: Row,
+    pub formula: Formula,
+}
+
+/// The list would be longer than the limit given.
+#[derive(Clone, Copy, Debug, PartialEq, Eq)]
+pub struct TooLong;
+
+/// All verification conditions of a script, in the order of the list, unless
+/// their list is longer than `limit` words.
+pub fn conditions(script: &Script, limit: usize) -> Result<Vec<Condition>, TooLong> {
+    let mut walk = Walk {
+        limit,
+        length: 1,
+        conditions: Vec::new(),
+    };
+    let before = walk.weakest_precondition(&script.statement, script.postcondition.clone())?;
+    // "Last comes main: P implies W(S, Q)."
+    let main = implies(script.precondition.clone(), before);
+    walk.list(ConditionKind::Main, script.row, main)?;
+    Ok(walk.conditions)
+}
+
+/// The words of the list: each formula with its trailer, then the count.
+pub fn list_words(conditions: &[Condition]) -> Vec<i32> {
+    let mut words = Vec::new();
+    for condition in conditions {
+        let start = words.len();
+        condition.formula.write(&mut words);
+        let length = (words.len() - start) as i32;
+        words.extend([condition.kind as i32, condition.row.0 as i32, length]);
+    }
+    words.push(conditions.len() as i32);
+    words
+}
+
+/// The walk over the statements, with the conditions listed so far.
+struct Walk {
+    limit: usize,
+    /// How many words the list has so far, its count included.
+    length: usize,
+    conditions: Vec<Condition>,
+}
+
+impl Walk {
+    /// W(S, Q), "the formula to hold before S"; on the way it lists the
+    /// conditions of the loops in S.
+    ///
+    /// Every formula made here is a part of a condition listed later (no rule
+    /// shortens Q, and a while puts Q in its exit condition), so a formula
+    /// longer than the limit means that the list is, too.
+    fn weakest_precondition(
+        &mut self,
+        statement: &Statement,
+        after: Formula,
+    ) -> Result<Formula, TooLong> {
+        let before = match statement {
+            Statement::Skip => after,
+            Statement::Assign(variable, assigned) => {
+                self.fits(length_substituted(&after, *variable, assigned))?;
+                substitute(after, *variable, assigned)
+            }
+            Statement::Sequence(first, second) => {
+                let between = self.weakest_precondition(second, after)?;
+                self.weakest_precondition(first, between)?
+            }
+            Statement::If(guard, then, otherwise) => {
+                let before_then = self.weakest_precondition(then, after.clone())?;
+                let before_else = self.weakest_precondition(otherwise, after)?;
+                let then_side = implies(guard.clone(), before_then);
+                let else_side = implies(not(guard.clone()), before_else);
+                and(then_side, else_side)
+            }
+            Statement::Assert(_, assertion) => and(assertion.clone(), after),
+            Statement::While(the_loop) => {
+                self.list_loop(the_loop, after)?;
+                the_loop.invariant.clone()
+            }
+        };
+        self.fits(before.length())?;
+        Ok(before)
+    }
+
+    /// "Each loop with guard B, note I, V and mark m, met with Q after it,
+    /// lists": exit, floor, all conditions of its body, step.
+    fn list_loop(&mut self, the_loop: &Loop, after: Formula) -> Result<(), TooLong> {
+        let guard = || the_loop.guard.clone();
+        let invariant = || the_loop.invariant.clone();
+        let variant = || the_loop.variant.clone();
+        let mark = || Expression::Mark(the_loop.row);
+
+        // exit: (I and (not B)) implies Q
+        let exit = implies(and(invariant(), not(guard())), after);
+        self.list(ConditionKind::Exit, the_loop.row, exit)?;
+
+        // floor: (I and B) implies (0 at most V)
+        let zero = Expression::Constant(0);
+        let not_below = compare(Comparison::AtMost, zero, variant());
+        let floor = implies(and(invariant(), guard()), not_below);
+        self.list(ConditionKind::Floor, the_loop.row, floor)?;
+
+        // all conditions of its body, walked with (I and (V less m))
+        let less = compare(Comparison::Less, variant(), mark());
+        let before = self.weakest_precondition(&the_loop.body, and(invariant(), less))?;
+
+        // step: ((I and B) and (V equal m)) implies W(body, I and (V less m))
+        let begun = compare(Comparison::Equal, variant(), mark());
+        let step = implies(and(and(invariant(), guard()), begun), before);
+        self.list(ConditionKind::Step, the_loop.row, step)
+    }
+
+    fn list(&mut self, kind: ConditionKind, row: Row, formula: Formula) -> Result<(), TooLong> {
+        self.length += formula.length() + 3;
+        self.fits(self.length)?;
+        self.conditions.push(Condition { kind, row, formula });
+        Ok(())
+    }
+
+    fn fits(&self, length: usize) -> Result<(), TooLong> {
+        if length > self.limit {
+            Err(TooLong)
+        } else {
+            Ok(())
+        }
+    }
+}
+
+fn not(part: Formula) -> Formula {
+    Formula::Not(Box::new(part))
+}
+
+fn and(left: Formula, right: Formula) -> Formula {
+    Formula::Connect(Connective::And, Box::new(left), Box::new(right))
+}
+
+fn implies(left: Formula, right: Formula) -> Formula {
+    Formula::Connect(Connective::Implies, Box::new(left), Box::new(right))
+}
+
+fn compare(comparison: Comparison, left: Expression, right: Expression) -> Formula {
+    Formula::Compare(comparison, Box::new(left), Box::new(right))
+}
+
+/// "Q with each variable v replaced by E, all at once": E is put in as it
+/// stands and not looked at again.
+fn substitute(formula: Formula, variable: Variable, by: &Expression) -> Formula {
+    match formula {
+        Formula::True | Formula::False => formula,
+        Formula::Compare(comparison, left, right) => compare(
+            comparison,
+            substitute_in_expression(*left, variable, by),
+            substitute_in_expression(*right, variable, by),
+        ),
+        Formula::Not(part) => not(substitute(*part, variable, by)),
+        Formula::Connect(connective, left, right) => Formula::Connect(
+            connective,
+            Box::new(substitute(*left, variable, by)),
+            Box::new(substitute(*right, variable, by)),
+        ),
+    }
+}
+
+fn substitute_in_expression(
+    expression: Expression,
+    variable: Variable,
+    by: &Expression,
+) -> Expression {
+    let inside = |part: Expression| Box::new(substitute_in_expression(part, variable, by));
+    match expression {
+        Expression::Variable(name) if name == variable => by.clone(),
+        Expression::Constant(_) | Expression::Variable(_) | Expression::Mark(_) => expression,
+        Expression::Arithmetic(operation, left, right) => {
+            Expression::Arithmetic(operation, inside(*left), inside(*right))
+        }
+        Expression::Negate(part) => Expression::Negate(inside(*part)),
+        Expression::Choose(chooser, first, second) => Expression::Choose(
+            Box::new(substitute(*chooser, variable, by)),
+            inside(*first),
+            inside(*second),
+        ),
+    }
+}
+
+/// The length of what `substitute` would give, known before it is built.
+fn length_substituted(formula: &Formula, variable: Variable, by: &Expression) -> usize {
+    let grown = by.length() - 2;
+    formula.length() + occurrences(formula, variable).saturating_mul(grown)
+}
+
+fn occurrences(formula: &Formula, variable: Variable) -> usize {
+    match formula {
+        Formula::True | Formula::False => 0,
+        Formula::Compare(_, left, right) => {
+            occurrences_in_expression(left, variable) + occurrences_in_expression(right, variable)
+        }
+        Formula::Not(part) => occurrences(part, variable),
+        Formula::Connect(_, left, right) => {
+            occurrences(left, variable) + occurrences(right, variable)
+        }
+    }
+}
+
+fn occurrences_in_expression(expression: &Expression, variable: Variable) -> usize {
+    match expression {
+        Expression::Variable(name) => usize::from(*name == variable),
+        Expression::Constant(_) | Expression::Mark(_) => 0,
+        Expression::Arithmetic(_, left, right) => {
+            occurrences_in_expression(left, variable) + occurrences_in_expression(right, variable)
+        }
+        Expression::Negate(part) => occurrences_in_expression(part, variable),
+        Expression::Choose(chooser, first, second) => {
+            occurrences(chooser, variable)
+                + occurrences_in_expression(first, variable)
+                + occurrences_in_expression(second, variable)
+        }
+    }
+}

@@ -1,0 +1,34 @@
+//! Document 01 a second time, written from the document alone: trees, `Vec`
+//! and `Box`, clear rather than fast.
+//!
+//! Whole numbers of runs are kept as `i128`. Where a value would leave that
+//! range the evaluation answers [`TooLarge`] instead of a wrong number; the
+//! check, the generator and the list reader do no arithmetic on values at all.
+//!
+//! Trees are walked by recursion, at most about as deep as a table has rows;
+//! a thread with a very small stack is not enough for the deepest scripts.
+
+mod check;
+mod conditions;
+mod evaluate;
+mod generate;
+mod kinds;
+mod list;
+mod program;
+mod run;
+mod table;
+mod tree;
+
+pub use check::{check, Verdict};
+pub use conditions::{conditions, list_words, Condition, ConditionKind, TooLong};
+pub use evaluate::{
+    div, formula_is_true, modulo, spelled_formula_is_true, value_of, State, TooLarge,
+};
+pub use generate::{generate, need, Need, Outcome, LONGEST_LIST};
+pub use kinds::{shape, Role, Shape, Sort};
+pub use list::{is_whole_formula, line_at, lines, Line, ListReader};
+pub use program::program_output;
+pub use run::{run, run_observed, Arrival, End, Run};
+pub use table::{Row, Variable};
+pub use tree::{formula_from_words, script_of};
+pub use tree::{Arithmetic, Comparison, Connective, Expression, Formula, Loop, Script, Statement};

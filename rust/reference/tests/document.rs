@@ -1,0 +1,415 @@
+//! Every trial row of document 01, example A to the byte, and the five wrong
+//! turns.
+
+use reference::*;
+
+/// A row as the document writes it.
+type Words4 = [i32; 4];
+
+const EXAMPLE_A: [Words4; 20] = [
+    [1, 0, 0, 0],
+    [2, 0, 0, 0],
+    [19, 0, 1, 0],
+    [1, 0, 0, 0],
+    [2, 0, 0, 0],
+    [18, 3, 4, 0],
+    [1, 0, 0, 0],
+    [2, 0, 0, 0],
+    [19, 6, 7, 0],
+    [2, 0, 0, 0],
+    [37, 8, 9, 0],
+    [2, 0, 0, 0],
+    [1, 1, 0, 0],
+    [4, 11, 12, 0],
+    [33, 0, 13, 0],
+    [36, 5, 10, 14],
+    [2, 0, 0, 0],
+    [1, 0, 0, 0],
+    [20, 16, 17, 0],
+    [48, 2, 15, 18],
+];
+
+const EXAMPLE_A_OUTPUT: &str = "\
+planned 4 94
+exit 15 25 23 19 1 0 2 0 22 18 1 0 2 0 20 2 0 1 0
+floor 15 25 23 19 1 0 2 0 18 1 0 2 0 19 1 0 2 0
+step 15 25 23 23 19 1 0 2 0 18 1 0 2 0 20 2 0 9 15 23 19 1 0 4 2 0 1 1 18 4 2 0 1 1 9 15
+main 19 25 19 1 0 2 0 19 1 0 2 0
+";
+
+const SKIP_SCRIPT: [Words4; 4] = [[16, 0, 0, 0], [32, 0, 0, 0], [16, 0, 0, 0], [48, 0, 1, 2]];
+
+fn words(rows: &[Words4]) -> Vec<i32> {
+    rows.concat()
+}
+
+/// Example A with one row put in place of another.
+fn example_a_with(row: usize, replacement: Words4) -> Vec<i32> {
+    let mut rows = EXAMPLE_A;
+    rows[row] = replacement;
+    words(&rows)
+}
+
+fn bytes(words: &[i32]) -> Vec<u8> {
+    words.iter().flat_map(|word| word.to_le_bytes()).collect()
+}
+
+fn refusal(number: u8, row: usize) -> Verdict {
+    Verdict::Refused { number, row }
+}
+
+fn state(x: i128) -> State {
+    let mut state = State::default();
+    state.set_variable(Variable(0), x);
+    state
+}
+
+/// Number, row, conditions and words; asserts what holds of the buffers.
+fn answer(words: &[i32], list_len: usize, scratch_len: usize) -> (u8, usize, usize, usize) {
+    let outcome = generate(words, list_len, scratch_len);
+    assert_eq!(outcome.list.len(), list_len);
+    assert_eq!(outcome.scratch, vec![0; scratch_len]);
+    assert!(outcome.list[outcome.words..].iter().all(|&word| word == 0));
+    (
+        outcome.number,
+        outcome.row,
+        outcome.conditions,
+        outcome.words,
+    )
+}
+
+#[test]
+fn example_a_is_printed_to_the_byte() {
+    let output = program_output(&bytes(&words(&EXAMPLE_A)));
+    assert_eq!(String::from_utf8(output).unwrap(), EXAMPLE_A_OUTPUT);
+}
+
+#[test]
+fn the_program_refuses() {
+    assert_eq!(program_output(&[]), b"refused 1 0\n");
+    assert_eq!(program_output(&[0, 0, 0]), b"refused 1 0\n");
+    assert_eq!(program_output(&[0, 0, 0, 0, 0]), b"refused 1 0\n");
+    assert_eq!(
+        program_output(&bytes(&example_a_with(9, [9, 15, 0, 0]))),
+        b"refused 9 9\n"
+    );
+    let mut one_byte_more = bytes(&words(&EXAMPLE_A));
+    one_byte_more.push(0);
+    assert_eq!(program_output(&one_byte_more), b"refused 1 0\n");
+}
+
+#[test]
+fn example_a_at_the_edges_of_room_and_scratch() {
+    let table = words(&EXAMPLE_A);
+    assert_eq!(answer(&table, 94, 100_000), (0, 0, 4, 94));
+    assert_eq!(answer(&table, 93, 100_000), (12, 0, 0, 0));
+    assert_eq!(answer(&table, 94, 281), (11, 0, 0, 0));
+    assert_eq!(answer(&table, 94, 282), (0, 0, 4, 94));
+    assert_eq!(answer(&table, 20_000, 3 * 16_384), (0, 0, 4, 94));
+    assert_eq!(answer(&table, 20_000, 3 * 16_384 - 1), (11, 0, 0, 0));
+    assert_eq!(answer(&table, 0, 0), (12, 0, 0, 0));
+}
+
+#[test]
+fn the_skip_script() {
+    let table = words(&SKIP_SCRIPT);
+    assert_eq!(generate(&table, 7, 14).list, [25, 16, 16, 4, 3, 3, 1]);
+    assert_eq!(answer(&table, 7, 14), (0, 0, 1, 7));
+    assert_eq!(answer(&table, 6, 12), (12, 0, 0, 0));
+    assert_eq!(answer(&table, 7, 13), (11, 0, 0, 0));
+}
+
+#[test]
+fn lengths_of_tables() {
+    assert_eq!(check(&[]), refusal(1, 0));
+    assert_eq!(check(&[16]), refusal(1, 0));
+    assert_eq!(check(&[16, 0, 0]), refusal(1, 0));
+    assert_eq!(check(&[16, 0, 0, 0]), refusal(7, 0));
+    assert_eq!(check(&[0; 8_192]), refusal(2, 0));
+    assert_eq!(check(&[0; 8_196]), refusal(1, 0));
+    assert_eq!(check(&[0; 8_191]), refusal(1, 0));
+}
+
+#[test]
+fn div_and_mod_are_those_of_smt_lib() {
+    assert_eq!((div(-7, 2), modulo(-7, 2)), (Ok(-4), 1));
+    assert_eq!((div(7, -2), modulo(7, -2)), (Ok(-3), 1));
+    assert_eq!((div(-7, -2), modulo(-7, -2)), (Ok(4), 1));
+    assert_eq!((div(5, 0), modulo(5, 0)), (Ok(0), 5));
+}
+
+#[test]
+fn refusals_of_changed_examples() {
+    assert_eq!(check(&example_a_with(14, [33, 128, 13, 0])), refusal(8, 14));
+    assert_eq!(check(&example_a_with(14, [33, 256, 13, 0])), refusal(3, 14));
+    assert_eq!(check(&example_a_with(9, [9, 15, 0, 0])), refusal(9, 9));
+    assert_eq!(check(&example_a_with(13, [4, 11, 11, 0])), refusal(6, 13));
+    assert_eq!(check(&example_a_with(13, [4, 11, 13, 0])), refusal(4, 13));
+}
+
+#[test]
+fn one_refusal_of_each_other_number() {
+    assert_eq!(check(&example_a_with(4, [11, 0, 0, 0])), refusal(2, 4));
+    assert_eq!(check(&example_a_with(4, [2, 0, 1, 0])), refusal(3, 4));
+    assert_eq!(check(&example_a_with(4, [9, 20, 0, 0])), refusal(3, 4));
+    assert_eq!(check(&example_a_with(5, [18, -1, 4, 0])), refusal(4, 5));
+    assert_eq!(check(&example_a_with(5, [18, 2, 4, 0])), refusal(5, 5));
+    assert_eq!(check(&example_a_with(19, [16, 0, 0, 0])), refusal(7, 19));
+    assert_eq!(check(&example_a_with(18, [16, 0, 0, 0])), refusal(7, 16));
+    assert_eq!(check(&example_a_with(4, [2, 128, 0, 0])), refusal(9, 4));
+    assert_eq!(check(&example_a_with(11, [2, 255, 0, 0])), refusal(9, 11));
+    assert_eq!(check(&example_a_with(12, [9, 15, 0, 0])), refusal(9, 12));
+    assert_eq!(check(&example_a_with(1, [9, 15, 0, 0])), refusal(9, 1));
+    assert_eq!(check(&example_a_with(1, [2, 200, 0, 0])), Verdict::Accepted);
+    assert_eq!(check(&example_a_with(7, [2, 200, 0, 0])), Verdict::Accepted);
+}
+
+/// Whiles and ifs in turn, one in the other, `nesting` deep.
+fn nested(nesting: usize) -> Vec<i32> {
+    let mut rows = vec![[32, 0, 0, 0]];
+    for level in 0..nesting {
+        let inner = rows.len() as i32 - 1;
+        let next = rows.len() as i32;
+        if level % 2 == 0 {
+            rows.extend([
+                [16, 0, 0, 0],
+                [16, 0, 0, 0],
+                [1, 0, 0, 0],
+                [37, next + 1, next + 2, 0],
+            ]);
+            rows.push([36, next, next + 3, inner]);
+        } else {
+            rows.extend([[16, 0, 0, 0], [32, 0, 0, 0], [35, next, next + 1, inner]]);
+        }
+    }
+    let statement = rows.len() as i32 - 1;
+    rows.extend([[16, 0, 0, 0], [16, 0, 0, 0]]);
+    rows.push([48, statement + 1, statement, statement + 2]);
+    words(&rows)
+}
+
+#[test]
+fn nesting_eight_passes_and_nine_is_too_deep() {
+    assert_eq!(check(&nested(8)), Verdict::Accepted);
+    assert_eq!(check(&nested(9)), refusal(10, 0));
+    assert_eq!(need(&nested(8)).unwrap().nesting, 8);
+}
+
+/// Wrong turn 1: "Listing no conditions for a loop inside a branch or another loop."
+#[test]
+fn loops_inside_branches_and_loops_list_conditions() {
+    let table = nested(3);
+    let listed = conditions(&script_of(&table), LONGEST_LIST).unwrap();
+    let kinds: Vec<ConditionKind> = listed.iter().map(|condition| condition.kind).collect();
+    use ConditionKind::{Exit, Floor, Main, Step};
+    assert_eq!(kinds, [Exit, Floor, Exit, Floor, Step, Step, Main]);
+    let rows: Vec<usize> = listed.iter().map(|condition| condition.row.0).collect();
+    assert_eq!(rows, [13, 13, 5, 5, 5, 13, 16]);
+}
+
+/// Wrong turn 2: "Replacing v in E again after E was put in."
+#[test]
+fn substitution_is_all_at_once() {
+    let table = words(&[
+        [16, 0, 0, 0],
+        [2, 0, 0, 0],
+        [1, 1, 0, 0],
+        [3, 1, 2, 0],
+        [33, 0, 3, 0],
+        [2, 0, 0, 0],
+        [2, 1, 0, 0],
+        [20, 5, 6, 0],
+        [48, 0, 4, 7],
+    ]);
+    let outcome = generate(&table, 100, 1_000);
+    let list = &outcome.list[..outcome.words];
+    assert_eq!(list, [25, 16, 20, 3, 2, 0, 1, 1, 2, 1, 4, 8, 10, 1]);
+}
+
+/// Wrong turn 3: "Bounding the passes by v. With guard 0 ≤ x, variant x and
+/// body x := x − 1, a start at 0 makes one pass."
+#[test]
+fn a_start_at_zero_makes_one_pass() {
+    let table = example_a_with(5, [19, 3, 4, 0]);
+    let run = run(&table, &state(0), 100).unwrap();
+    assert_eq!(run.end, End::Done);
+    assert_eq!(run.state.variable(Variable(0)), -1);
+    assert_eq!(
+        run.arrivals,
+        [Arrival {
+            row: Row(15),
+            variant: Some(0),
+            bodies_begun: 1
+        }]
+    );
+}
+
+/// Wrong turn 4: "Letting a loop's invariant read its own mark."
+#[test]
+fn an_invariant_may_not_read_its_own_mark() {
+    assert_eq!(check(&example_a_with(7, [9, 15, 0, 0])), refusal(9, 7));
+    assert_eq!(check(&example_a_with(9, [9, 15, 0, 0])), refusal(9, 9));
+}
+
+/// A mark may stand in an assertion in its loop's body and in the note of a
+/// loop in there.
+#[test]
+fn marks_stand_in_annotations_inside_the_body() {
+    let assertion = [9, 15, 0, 0];
+    let mut rows = EXAMPLE_A.to_vec();
+    rows[11] = assertion;
+    rows[12] = [1, 1, 0, 0];
+    rows[13] = [20, 11, 12, 0];
+    rows[14] = [38, 13, 0, 0];
+    assert_eq!(check(&words(&rows)), Verdict::Accepted);
+}
+
+/// Wrong turn 5: "Taking the remainder's sign from the dividend."
+#[test]
+fn the_remainder_is_never_negative() {
+    for n in -20..=20 {
+        for d in (-6..=6).filter(|&d| d != 0) {
+            let (q, r) = (div(n, d).unwrap(), modulo(n, d));
+            assert_eq!(n, d * q + r);
+            assert!(0 <= r && r < i128::abs(d));
+        }
+    }
+}
+
+#[test]
+fn runs_of_example_a() {
+    let table = words(&EXAMPLE_A);
+    let run = run(&table, &state(7), 1_000).unwrap();
+    assert_eq!(run.end, End::Done);
+    assert_eq!(run.state.variable(Variable(0)), 0);
+    assert_eq!(run.state.mark(Row(15)), 1);
+    assert_eq!(
+        run.arrivals,
+        [Arrival {
+            row: Row(15),
+            variant: Some(7),
+            bodies_begun: 7
+        }]
+    );
+    assert_eq!(
+        reference::run(&table, &state(7), 5).unwrap().end,
+        End::OutOfSteps
+    );
+}
+
+#[test]
+fn a_false_assertion_fails_the_run() {
+    let table = words(&[
+        [16, 0, 0, 0],
+        [17, 0, 0, 0],
+        [38, 1, 0, 0],
+        [16, 0, 0, 0],
+        [48, 0, 2, 3],
+    ]);
+    assert_eq!(run(&table, &state(0), 10).unwrap().end, End::Failed(Row(2)));
+}
+
+#[test]
+fn reading_the_list_of_example_a() {
+    let outcome = generate(&words(&EXAMPLE_A), 94, 282);
+    let list = &outcome.list;
+    let first = Line {
+        number: 0,
+        kind: 1,
+        row: 15,
+        start: 0,
+        end: 18,
+    };
+    let main = Line {
+        number: 0,
+        kind: 4,
+        row: 19,
+        start: 79,
+        end: 90,
+    };
+    assert_eq!(line_at(list, 0), first);
+    assert_eq!(line_at(list, 3), main);
+    let none = Line {
+        number: 21,
+        kind: 0,
+        row: 0,
+        start: 0,
+        end: 0,
+    };
+    assert_eq!(line_at(list, 4), none);
+    assert_eq!(line_at(list, -1), none);
+
+    let mut reader = ListReader::new(list);
+    assert_eq!(reader.step(), main);
+    assert_eq!([reader.step().kind, reader.step().kind], [3, 2]);
+    assert_eq!(
+        [reader.step(), reader.step(), reader.step()],
+        [first, none, none]
+    );
+}
+
+#[test]
+fn torn_lists() {
+    let torn = Line {
+        number: 20,
+        kind: 0,
+        row: 0,
+        start: 0,
+        end: 0,
+    };
+    let skip = [25, 16, 16, 4, 3, 3, 1];
+    assert_eq!(line_at(&skip, 0).number, 0);
+    for list in [
+        &[][..],
+        &[0],
+        &[1],
+        &[25, 16, 16, 4, 3, 3, 0],
+        &[25, 16, 16, 4, 3, 3, 2],
+        &[25, 16, 16, 4, 3, 2, 1],
+        &[16, 25, 16, 16, 4, 3, 3, 1],
+        &[25, 16, 16, 5, 3, 3, 1],
+        &[25, 16, 16, 4, 2_048, 3, 1],
+        &[20, 2, 256, 1, 0, 4, 3, 5, 1],
+        &[20, 9, 2_048, 1, 0, 4, 3, 5, 1],
+        &[1, 5, 4, 3, 2, 1],
+    ] {
+        assert_eq!(line_at(list, 0), torn, "{list:?}");
+        assert_eq!(line_at(list, -1), torn);
+        let mut reader = ListReader::new(list);
+        assert_eq!([reader.step(), reader.step()], [torn, torn]);
+    }
+}
+
+#[test]
+fn formulas_are_read_back_as_they_were_written() {
+    let listed = conditions(&script_of(&words(&EXAMPLE_A)), LONGEST_LIST).unwrap();
+    for condition in listed {
+        let mut spelled = Vec::new();
+        condition.formula.write(&mut spelled);
+        assert_eq!(spelled.len(), condition.formula.length());
+        assert_eq!(formula_from_words(&spelled), Some(condition.formula));
+    }
+}
+
+/// `count` times x := x + x, then x = 0 to hold: the list doubles each time.
+fn doubling(count: usize) -> Vec<i32> {
+    let mut rows = vec![[32, 0, 0, 0]];
+    for _ in 0..count {
+        let next = rows.len() as i32;
+        rows.extend([[2, 0, 0, 0], [2, 0, 0, 0], [3, next, next + 1, 0]]);
+        rows.extend([[33, 0, next + 2, 0], [34, next - 1, next + 3, 0]]);
+    }
+    let statement = rows.len() as i32 - 1;
+    rows.extend([[16, 0, 0, 0], [2, 0, 0, 0], [1, 0, 0, 0]]);
+    rows.push([20, statement + 2, statement + 3, 0]);
+    rows.push([48, statement + 1, statement, statement + 4]);
+    words(&rows)
+}
+
+#[test]
+fn exponentially_long_lists_are_refused_at_once() {
+    assert_eq!(answer(&doubling(400), 16_384, 2 * 16_384), (12, 0, 0, 0));
+    let length = 2 + 1 + (3 * (1 << 12) - 1) + 2 + 4;
+    assert_eq!(answer(&doubling(12), 16_384, 2 * 16_384), (0, 0, 1, length));
+    assert_eq!(need(&doubling(13)).unwrap().words, None);
+}
