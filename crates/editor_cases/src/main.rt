@@ -54,13 +54,13 @@ fn four_rows() {
     let mut scratch = [0i32; 14];
     let answer = editor::of_four(rows, &mut list, &mut scratch);
     say_answer(answer, &list);
-    let loose = [
+    let self_linked = [
         row(16, 0, 0, 0),
         row(32, 0, 0, 0),
         row(16, 0, 0, 0),
         row(48, 0, 1, 3),
     ];
-    let answer = editor::of_four(loose, &mut list, &mut scratch);
+    let answer = editor::of_four(self_linked, &mut list, &mut scratch);
     say_answer(answer, &list);
 }
 
