@@ -6,7 +6,7 @@ ghost use mathlib.Core.Path.{_≡_};
 ghost use lib.ListN.{length};
 ghost use Rattle.script.specs.Refusals.{verdict};
 ghost use Rattle.script.specs.Generated.{outcome};
-ghost use Rattle.script.specs.Listing.{line-at};
+ghost use Rattle.script.specs.Listing.{line-at, first-place, step-back, next-place};
 ghost use Rattle.exports.specs.Verdicts.{number-of, row-of};
 
 // The verdict on a table: number and row, both 0 where it is accepted.
@@ -46,6 +46,42 @@ pub extern "C" fn leqwarti_line(
     ensures end { λ _. ⌜ now (end .exit) ≡ line-at (now (words .entry)) index .end ⌝ }
 {
     let line = listing::line_at(words, index);
+    *number = line.number;
+    *kind = line.kind;
+    *row = line.row;
+    *start = line.start;
+    *end = line.end;
+}
+
+// Where a reader of the words stands first.
+#[no_mangle]
+pub extern "C" fn leqwarti_first_place(words: &[i32], place: &mut usize)
+    ensures place { λ _. ⌜ now (place .exit) ≡ first-place (now (words .entry)) ⌝ }
+{
+    *place = reader::start(words);
+}
+
+// A reader's step: the line that ends at its place, and the place moved back before it.
+#[no_mangle]
+pub extern "C" fn leqwarti_step(
+    words: &[i32],
+    place: &mut usize,
+    number: &mut usize,
+    kind: &mut usize,
+    row: &mut usize,
+    start: &mut usize,
+    end: &mut usize,
+)
+    ensures place { λ _. ⌜ now (place .exit) ≡ next-place (now (words .entry)) (now (place .entry)) ⌝ }
+    ensures number { λ _. ⌜ now (number .exit) ≡ step-back (now (words .entry)) (now (place .entry)) .number ⌝ }
+    ensures kind { λ _. ⌜ now (kind .exit) ≡ step-back (now (words .entry)) (now (place .entry)) .kind ⌝ }
+    ensures row { λ _. ⌜ now (row .exit) ≡ step-back (now (words .entry)) (now (place .entry)) .row ⌝ }
+    ensures start { λ _. ⌜ now (start .exit) ≡ step-back (now (words .entry)) (now (place .entry)) .start ⌝ }
+    ensures end { λ _. ⌜ now (end .exit) ≡ step-back (now (words .entry)) (now (place .entry)) .end ⌝ }
+{
+    let walked = reader::step_from(words, *place);
+    let line = walked.line;
+    *place = walked.end;
     *number = line.number;
     *kind = line.kind;
     *row = line.row;

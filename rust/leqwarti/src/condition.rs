@@ -1,0 +1,150 @@
+//! A finished list and its conditions.
+
+use crate::entries::{self, Line};
+use crate::{Formula, Refusal};
+
+/// Which condition of Hoare's rules it is.
+#[derive(Clone, Copy, Debug, PartialEq, Eq, Hash)]
+#[repr(u8)]
+pub enum ConditionKind {
+    /// The invariant and the guard's opposite imply what must hold after the loop.
+    Exit = 1,
+    /// The invariant and the guard imply that the variant is not negative.
+    Floor = 2,
+    /// A pass of the body keeps the invariant and lowers the variant.
+    Step = 3,
+    /// The precondition implies what must hold before the script's statement.
+    Main = 4,
+}
+
+impl ConditionKind {
+    /// The name in the program's output.
+    pub fn name(self) -> &'static str {
+        match self {
+            ConditionKind::Exit => "exit",
+            ConditionKind::Floor => "floor",
+            ConditionKind::Step => "step",
+            ConditionKind::Main => "main",
+        }
+    }
+
+    fn of(kind: usize) -> ConditionKind {
+        match kind {
+            1 => ConditionKind::Exit,
+            2 => ConditionKind::Floor,
+            3 => ConditionKind::Step,
+            _ => ConditionKind::Main,
+        }
+    }
+}
+
+/// A condition to be proved: its kind, the row of its loop (of the script for
+/// main), and the formula that must be true in every state.
+#[derive(Clone, Copy, Debug, PartialEq, Eq)]
+pub struct Condition<'a> {
+    pub kind: ConditionKind,
+    pub row: usize,
+    pub formula: Formula<'a>,
+}
+
+impl<'a> Condition<'a> {
+    /// The condition of a line that is not refused.
+    pub(crate) fn of(list: &'a [i32], line: &Line) -> Condition<'a> {
+        Condition {
+            kind: ConditionKind::of(line.kind),
+            row: line.row,
+            formula: Formula::new(&list[line.start..line.end]),
+        }
+    }
+}
+
+/// A finished list, and where its conditions stand.
+#[derive(Clone, Debug, PartialEq, Eq)]
+pub struct Plan {
+    words: Vec<i32>,
+    /// From the front.
+    lines: Vec<Line>,
+}
+
+impl Plan {
+    /// Reads a finished list, as one that was saved; refused where it is torn.
+    ///
+    /// ```
+    /// use leqwarti::{Plan, Reason};
+    ///
+    /// assert_eq!(Plan::read(vec![25, 16, 16, 4, 3, 3, 1])?.conditions().len(), 1);
+    /// assert_eq!(Plan::read(vec![16, 4, 3, 3, 1]).unwrap_err().reason, Reason::TornList);
+    /// # Ok::<(), leqwarti::Refusal>(())
+    /// ```
+    pub fn read(words: Vec<i32>) -> Result<Plan, Refusal> {
+        let mut place = entries::first_place(&words);
+        let mut lines = Vec::new();
+        while lines.is_empty() || place > 0 {
+            let line = entries::step(&words, &mut place);
+            Refusal::unless_zero(line.number, line.row)?;
+            lines.push(line);
+        }
+        lines.reverse();
+        Ok(Plan { words, lines })
+    }
+
+    /// The words of the list, with the trailers and the count.
+    pub fn words(&self) -> &[i32] {
+        &self.words
+    }
+
+    /// The conditions in the list's order.
+    pub fn conditions(&self) -> Conditions<'_> {
+        Conditions {
+            words: &self.words,
+            lines: self.lines.iter(),
+        }
+    }
+}
+
+impl<'a> IntoIterator for &'a Plan {
+    type Item = Condition<'a>;
+    type IntoIter = Conditions<'a>;
+
+    fn into_iter(self) -> Conditions<'a> {
+        self.conditions()
+    }
+}
+
+/// The conditions of a [`Plan`], from either end.
+///
+/// ```
+/// use leqwarti::{ConditionKind, Plan};
+///
+/// let plan = Plan::read(vec![16, 1, 5, 1, 17, 4, 9, 1, 2])?;
+/// let kinds: Vec<_> = plan.conditions().rev().map(|condition| condition.kind).collect();
+/// assert_eq!(kinds, [ConditionKind::Main, ConditionKind::Exit]);
+/// # Ok::<(), leqwarti::Refusal>(())
+/// ```
+#[derive(Clone, Debug)]
+pub struct Conditions<'a> {
+    words: &'a [i32],
+    lines: std::slice::Iter<'a, Line>,
+}
+
+impl<'a> Iterator for Conditions<'a> {
+    type Item = Condition<'a>;
+
+    fn next(&mut self) -> Option<Condition<'a>> {
+        let line = self.lines.next()?;
+        Some(Condition::of(self.words, line))
+    }
+
+    fn size_hint(&self) -> (usize, Option<usize>) {
+        self.lines.size_hint()
+    }
+}
+
+impl DoubleEndedIterator for Conditions<'_> {
+    fn next_back(&mut self) -> Option<Self::Item> {
+        let line = self.lines.next_back()?;
+        Some(Condition::of(self.words, line))
+    }
+}
+
+impl ExactSizeIterator for Conditions<'_> {}

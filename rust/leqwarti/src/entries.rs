@@ -1,0 +1,161 @@
+//! The functions of the static library. A slice crosses as its place and its
+//! length, and the answers are numbers that the caller lends.
+
+use std::ptr::from_mut;
+
+mod exported {
+    extern "C" {
+        pub fn leqwarti_check(
+            table: *const i32,
+            table_length: usize,
+            number: *mut usize,
+            row: *mut usize,
+        );
+        pub fn leqwarti_generate(
+            table: *const i32,
+            table_length: usize,
+            list: *mut i32,
+            list_length: usize,
+            scratch: *mut i32,
+            scratch_length: usize,
+            number: *mut usize,
+            row: *mut usize,
+            conditions: *mut usize,
+            words: *mut usize,
+        );
+        pub fn leqwarti_line(
+            words: *const i32,
+            words_length: usize,
+            index: i32,
+            number: *mut usize,
+            kind: *mut usize,
+            row: *mut usize,
+            start: *mut usize,
+            end: *mut usize,
+        );
+        pub fn leqwarti_first_place(words: *const i32, words_length: usize, place: *mut usize);
+        pub fn leqwarti_step(
+            words: *const i32,
+            words_length: usize,
+            place: *mut usize,
+            number: *mut usize,
+            kind: *mut usize,
+            row: *mut usize,
+            start: *mut usize,
+            end: *mut usize,
+        );
+    }
+}
+
+/// Number and row, both 0 for an accepted table.
+#[derive(Clone, Copy, Debug, Default, PartialEq, Eq)]
+pub struct Verdict {
+    pub number: usize,
+    pub row: usize,
+}
+
+/// What the generator answers beside its buffers.
+#[derive(Clone, Copy, Debug, Default, PartialEq, Eq)]
+pub struct Answer {
+    pub number: usize,
+    pub row: usize,
+    pub conditions: usize,
+    pub words: usize,
+}
+
+/// What the list reader answers: the formula stands from `start` up to `end`.
+#[derive(Clone, Copy, Debug, Default, PartialEq, Eq)]
+pub struct Line {
+    pub number: usize,
+    pub kind: usize,
+    pub row: usize,
+    pub start: usize,
+    pub end: usize,
+}
+
+/// The check of a table.
+pub fn check(table: &[i32]) -> Verdict {
+    let mut answer = Verdict::default();
+    // SAFETY: the entry is proved safe for every table; the pointers are those
+    // of live borrows for the whole call, and the lengths are theirs.
+    unsafe {
+        exported::leqwarti_check(
+            table.as_ptr(),
+            table.len(),
+            from_mut(&mut answer.number),
+            from_mut(&mut answer.row),
+        );
+    }
+    answer
+}
+
+/// The generator. Whatever both buffers held before the call, after it the
+/// list is followed by zeros and the scratch is all zeros.
+pub fn generate(table: &[i32], list: &mut [i32], scratch: &mut [i32]) -> Answer {
+    let mut answer = Answer::default();
+    // SAFETY: as in `check`, for every table and every length of the buffers.
+    unsafe {
+        exported::leqwarti_generate(
+            table.as_ptr(),
+            table.len(),
+            list.as_mut_ptr(),
+            list.len(),
+            scratch.as_mut_ptr(),
+            scratch.len(),
+            from_mut(&mut answer.number),
+            from_mut(&mut answer.row),
+            from_mut(&mut answer.conditions),
+            from_mut(&mut answer.words),
+        );
+    }
+    answer
+}
+
+/// The list reader at an index from the front.
+pub fn line_at(words: &[i32], index: i32) -> Line {
+    let mut line = Line::default();
+    // SAFETY: as in `check`, for all words and every index.
+    unsafe {
+        exported::leqwarti_line(
+            words.as_ptr(),
+            words.len(),
+            index,
+            from_mut(&mut line.number),
+            from_mut(&mut line.kind),
+            from_mut(&mut line.row),
+            from_mut(&mut line.start),
+            from_mut(&mut line.end),
+        );
+    }
+    line
+}
+
+/// Where a reader of the words stands first. It reads the whole list once.
+pub fn first_place(words: &[i32]) -> usize {
+    let mut place = 0;
+    // SAFETY: as in `check`, for all words.
+    unsafe {
+        exported::leqwarti_first_place(words.as_ptr(), words.len(), from_mut(&mut place));
+    }
+    place
+}
+
+/// A reader's step: the line that ends at the place, which is moved back
+/// before it. It reads the words of that line alone.
+pub fn step(words: &[i32], place: &mut usize) -> Line {
+    let mut line = Line::default();
+    // SAFETY: as in `check`, for all words and every place.
+    unsafe {
+        exported::leqwarti_step(
+            words.as_ptr(),
+            words.len(),
+            from_mut(place),
+            from_mut(&mut line.number),
+            from_mut(&mut line.kind),
+            from_mut(&mut line.row),
+            from_mut(&mut line.start),
+            from_mut(&mut line.end),
+        );
+    }
+    line
+}

@@ -1,0 +1,153 @@
+//! The words of a formula, and how a person reads them.
+
+use std::fmt::{self, Write};
+
+/// The formula of a condition: the words of the list where it stands, kind
+/// before its parts. Its `Display` writes it the usual way, with brackets
+/// around every part that has parts of its own:
+///
+/// ```
+/// use leqwarti::Formula;
+///
+/// let formula = Formula::new(&[25, 19, 1, 0, 2, 0, 22, 20, 2, 0, 9, 15]);
+/// assert_eq!(formula.to_string(), "(0 <= v0) implies (not (v0 = m15))");
+/// ```
+///
+/// A variable is `v` and its number, the mark of a loop `m` and the loop's row.
+#[derive(Clone, Copy, Debug, PartialEq, Eq)]
+pub struct Formula<'a> {
+    words: &'a [i32],
+}
+
+impl<'a> Formula<'a> {
+    /// Words as a formula. Those of a [`Condition`](crate::Condition) spell
+    /// one; others are written as far as they do.
+    pub fn new(words: &'a [i32]) -> Formula<'a> {
+        Formula { words }
+    }
+
+    pub fn words(self) -> &'a [i32] {
+        self.words
+    }
+}
+
+/// What is still to be written. (Formulas may nest deeper than a thread's
+/// stack allows calls.)
+enum Next {
+    Text(&'static str),
+    /// The whole formula, or a part between brackets of its own.
+    Whole,
+    /// A part that takes brackets where it has parts.
+    Part,
+}
+
+/// How a kind with parts is written.
+fn layout(kind: i32) -> Option<&'static [Next]> {
+    use Next::{Part, Text, Whole};
+    Some(match kind {
+        3 => &[Part, Text(" + "), Part],
+        4 => &[Part, Text(" - "), Part],
+        5 => &[Part, Text(" * "), Part],
+        6 => &[Part, Text(" div "), Part],
+        7 => &[Part, Text(" mod "), Part],
+        8 => &[Text("-("), Whole, Text(")")],
+        10 => &[Text("if "), Part, Text(" then "), Part, Text(" else "), Part],
+        18 => &[Part, Text(" < "), Part],
+        19 => &[Part, Text(" <= "), Part],
+        20 => &[Part, Text(" = "), Part],
+        21 => &[Part, Text(" != "), Part],
+        22 => &[Text("not "), Part],
+        23 => &[Part, Text(" and "), Part],
+        24 => &[Part, Text(" or "), Part],
+        25 => &[Part, Text(" implies "), Part],
+        _ => return None,
+    })
+}
+
+impl fmt::Display for Formula<'_> {
+    fn fmt(&self, f: &mut fmt::Formatter) -> fmt::Result {
+        let mut words = self.words.iter();
+        let mut awaited = vec![&Next::Whole];
+        while let Some(next) = awaited.pop() {
+            if let Next::Text(text) = next {
+                f.write_str(text)?;
+                continue;
+            }
+            let Some(&kind) = words.next() else {
+                return Ok(());
+            };
+            let Some(layout) = layout(kind) else {
+                write_leaf(f, kind, &mut words)?;
+                continue;
+            };
+            if matches!(next, Next::Part) {
+                f.write_char('(')?;
+                awaited.push(&Next::Text(")"));
+            }
+            awaited.extend(layout.iter().rev());
+        }
+        Ok(())
+    }
+}
+
+/// A kind without parts; constant, variable and mark have a number.
+fn write_leaf(
+    f: &mut fmt::Formatter,
+    kind: i32,
+    words: &mut std::slice::Iter<i32>,
+) -> fmt::Result {
+    let prefix = match kind {
+        16 => return f.write_str("true"),
+        17 => return f.write_str("false"),
+        1 => "",
+        2 => "v",
+        9 => "m",
+        _ => return f.write_char('?'),
+    };
+    match words.next() {
+        Some(number) => write!(f, "{prefix}{number}"),
+        None => Ok(()),
+    }
+}
+
+#[cfg(test)]
+mod tests {
+    use super::*;
+
+    fn written(words: &[i32]) -> String {
+        Formula::new(words).to_string()
+    }
+
+    #[test]
+    fn every_kind_has_its_own_look() {
+        let sum = [3, 4, 5, 6, 7, 1, 1, 2, 2, 2, 3, 2, 4, 2, 5, 2, 6];
+        let words = [&[18][..], &sum, &[8, 1, -5]].concat();
+        assert_eq!(
+            written(&words),
+            "(((((1 mod v2) div v3) * v4) - v5) + v6) < (-(-5))"
+        );
+        let chosen = [20, 10, 24, 16, 17, 2, 0, 9, 7, 1, 0];
+        assert_eq!(
+            written(&chosen),
+            "(if (true or false) then v0 else m7) = 0"
+        );
+        assert_eq!(
+            written(&[25, 22, 21, 2, 0, 1, 1, 23, 16, 19, 1, 0, 2, 255]),
+            "(not (v0 != 1)) implies (true and (0 <= v255))"
+        );
+    }
+
+    #[test]
+    fn words_that_spell_nothing_end_early() {
+        assert_eq!(written(&[]), "");
+        assert_eq!(written(&[25, 16]), "true implies ");
+        assert_eq!(written(&[22, 99]), "not ?");
+    }
+
+    #[test]
+    fn the_deepest_formula_is_written() {
+        let mut words = vec![22; 16_379];
+        words.push(16);
+        assert_eq!(written(&words).len(), "true".len() + 16_379 * 6 - 2);
+    }
+}

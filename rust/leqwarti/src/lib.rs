@@ -1,0 +1,136 @@
+//! The proved verification-condition generator, for Rust callers.
+//!
+//! A script comes as a table of rows, four words to a row. [`plan`] lists the
+//! conditions to be proved of it. If all of them are true in every state, then
+//! every run from a start that meets the script's precondition ends, fails no
+//! assertion and meets the postcondition, and a loop begins its body at most
+//! v + 1 times on each arrival with variant v.
+//!
+//! ```
+//! use leqwarti::ConditionKind;
+//!
+//! // From 0 <= v0: while 0 < v0, invariant 0 <= v0, variant v0, do v0 := v0 - 1; then v0 = 0.
+//! let table = [
+//!     1, 0, 0, 0, /**/ 2, 0, 0, 0, /**/ 19, 0, 1, 0, // 2: precondition
+//!     1, 0, 0, 0, /**/ 2, 0, 0, 0, /**/ 18, 3, 4, 0, // 5: guard
+//!     1, 0, 0, 0, /**/ 2, 0, 0, 0, /**/ 19, 6, 7, 0, // 8: invariant
+//!     2, 0, 0, 0, /**/ 37, 8, 9, 0, // 10: note
+//!     2, 0, 0, 0, /**/ 1, 1, 0, 0, /**/ 4, 11, 12, 0, /**/ 33, 0, 13, 0, // 14: body
+//!     36, 5, 10, 14, // 15: while
+//!     2, 0, 0, 0, /**/ 1, 0, 0, 0, /**/ 20, 16, 17, 0, // 18: postcondition
+//!     48, 2, 15, 18, // 19: script
+//! ];
+//! let plan = leqwarti::plan(&table)?;
+//! assert_eq!(plan.conditions().len(), 4);
+//!
+//! let exit = plan.conditions().next().unwrap();
+//! assert_eq!((exit.kind, exit.row), (ConditionKind::Exit, 15));
+//! assert_eq!(
+//!     exit.formula.to_string(),
+//!     "((0 <= v0) and (not (0 < v0))) implies (v0 = 0)"
+//! );
+//! # Ok::<(), leqwarti::Refusal>(())
+//! ```
+//!
+//! Every other table is refused, with the reason and the row:
+//!
+//! ```
+//! use leqwarti::Reason;
+//!
+//! let refusal = leqwarti::plan(&[16, 0, 0, 0, 99, 0, 0, 0]).unwrap_err();
+//! assert_eq!((refusal.reason, refusal.row), (Reason::UnknownKind, 1));
+//! ```
+//!
+//! The check, the generator and the list reader are functions of a static
+//! library whose contracts are proved; this crate adds types, and the text of
+//! formulas and refusals, which are not. The functions call themselves as deep
+//! as formulas nest: the deepest lists (16,384 words, each a part of the word
+//! before) take a stack of 8 MiB, as a main thread has by default.
+
+mod condition;
+pub mod entries;
+mod formula;
+mod refusal;
+
+pub use condition::{Condition, ConditionKind, Conditions, Plan};
+pub use formula::Formula;
+pub use refusal::{Reason, Refusal};
+
+/// The most words that a list has.
+pub const LONGEST_LIST: usize = 16_384;
+
+/// The scratch that suffices for every script with the longest list:
+/// (nesting + 2) times its words, nesting being 8 at most.
+pub const LARGEST_SCRATCH: usize = 10 * LONGEST_LIST;
+
+/// Checks a table without listing anything.
+///
+/// ```
+/// assert!(leqwarti::check(&[16, 0, 0, 0, 32, 0, 0, 0, 16, 0, 0, 0, 48, 0, 1, 2]).is_ok());
+/// assert!(leqwarti::check(&[]).is_err());
+/// ```
+pub fn check(table: &[i32]) -> Result<(), Refusal> {
+    let verdict = entries::check(table);
+    Refusal::unless_zero(verdict.number, verdict.row)
+}
+
+/// Lists the conditions of a table's script, with room for the longest list.
+pub fn plan(table: &[i32]) -> Result<Plan, Refusal> {
+    let mut list = vec![0; LONGEST_LIST];
+    let answer = entries::generate(table, &mut list, &mut vec![0; LARGEST_SCRATCH]);
+    Refusal::unless_zero(answer.number, answer.row)?;
+    list.truncate(answer.words);
+    Plan::read(list)
+}
+
+/// Lists the conditions into buffers of the caller's, and allocates nothing:
+/// the words of the list, at the front of `list`.
+///
+/// The room is the length of `list`, or 16,384 where it is longer; `scratch`
+/// must hold (nesting + 2) times as many words. Whatever they held, afterwards
+/// zeros follow the list, and the scratch is all zeros; after a refusal both are.
+///
+/// ```
+/// use leqwarti::Reason;
+///
+/// let skip = [16, 0, 0, 0, 32, 0, 0, 0, 16, 0, 0, 0, 48, 0, 1, 2];
+/// let (mut list, mut scratch) = ([7; 10], [7; 20]);
+/// let words = leqwarti::plan_into(&skip, &mut list, &mut scratch)?;
+/// assert_eq!(words, [25, 16, 16, 4, 3, 3, 1]);
+///
+/// let refusal = leqwarti::plan_into(&skip, &mut list, &mut scratch[..19]).unwrap_err();
+/// assert_eq!(refusal.reason, Reason::ScratchTooShort);
+/// assert_eq!(list, [0; 10]);
+/// # Ok::<(), leqwarti::Refusal>(())
+/// ```
+pub fn plan_into<'a>(
+    table: &[i32],
+    list: &'a mut [i32],
+    scratch: &mut [i32],
+) -> Result<&'a [i32], Refusal> {
+    let answer = entries::generate(table, list, scratch);
+    Refusal::unless_zero(answer.number, answer.row)?;
+    Ok(&list[..answer.words])
+}
+
+/// The condition at an index of a finished list, from the front. It reads the
+/// whole list; [`Plan::read`] and its iterator read it once for all conditions.
+///
+/// ```
+/// use leqwarti::{ConditionKind, Reason};
+///
+/// let list = [25, 16, 16, 4, 3, 3, 1];
+/// let main = leqwarti::condition_at(&list, 0)?;
+/// assert_eq!((main.kind, main.row), (ConditionKind::Main, 3));
+/// assert_eq!(main.formula.words(), [25, 16, 16]);
+/// assert_eq!(leqwarti::condition_at(&list, 1).unwrap_err().reason, Reason::NoSuchLine);
+/// assert_eq!(leqwarti::condition_at(&list[1..], 0).unwrap_err().reason, Reason::TornList);
+/// # Ok::<(), leqwarti::Refusal>(())
+/// ```
+pub fn condition_at(list: &[i32], index: usize) -> Result<Condition<'_>, Refusal> {
+    // No list has as many conditions as the largest index.
+    let index = i32::try_from(index).unwrap_or(i32::MAX);
+    let line = entries::line_at(list, index);
+    Refusal::unless_zero(line.number, line.row)?;
+    Ok(Condition::of(list, &line))
+}

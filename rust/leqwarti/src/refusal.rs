@@ -1,0 +1,135 @@
+//! Why there is no plan, or no condition.
+
+use std::error::Error;
+use std::fmt;
+
+/// What is wrong, in the order in which a table is tested.
+///
+/// The discriminants are document 01's numbers; each variant has its word there.
+#[derive(Clone, Copy, Debug, PartialEq, Eq, Hash)]
+#[repr(u8)]
+pub enum Reason {
+    /// "short sheet": no words, not four to a row, or over 2,048 rows.
+    TableLength = 1,
+    /// "unknown job": the row's kind is none of the listed ones.
+    UnknownKind = 2,
+    /// "off the scale": a variable number not 0 to 255, a mark of a row that
+    /// the table lacks, or an unused field that is not 0.
+    FieldOutOfRange = 3,
+    /// "bad link": a link not to a lower row.
+    BadLink = 4,
+    /// "wrong part": a linked row has the wrong sort, as a formula where an
+    /// expression belongs.
+    WrongSort = 5,
+    /// "shared part": a linked row is linked already.
+    SharedRow = 6,
+    /// "loose part": the last row is no script, or nothing links to the row.
+    LooseRow = 7,
+    /// "sealed point": an assignment to a frozen name, 128 to 255.
+    FrozenAssigned = 8,
+    /// "peeking": a frozen name in a guard or an assigned expression, or a
+    /// mark outside the annotations in its loop's body.
+    OutOfPlace = 9,
+    /// "nested too deep": more than eight ifs and whiles in one another.
+    NestedTooDeep = 10,
+    /// "short bench": the scratch buffer is too short.
+    ScratchTooShort = 11,
+    /// "full sheet": the list is longer than its buffer or 16,384 words.
+    ListTooLong = 12,
+    /// "torn list": the words are no well-formed list.
+    TornList = 20,
+    /// "no such line": the list has no condition at that index.
+    NoSuchLine = 21,
+}
+
+impl Reason {
+    /// All reasons, by number.
+    pub const ALL: [Reason; 14] = [
+        Reason::TableLength,
+        Reason::UnknownKind,
+        Reason::FieldOutOfRange,
+        Reason::BadLink,
+        Reason::WrongSort,
+        Reason::SharedRow,
+        Reason::LooseRow,
+        Reason::FrozenAssigned,
+        Reason::OutOfPlace,
+        Reason::NestedTooDeep,
+        Reason::ScratchTooShort,
+        Reason::ListTooLong,
+        Reason::TornList,
+        Reason::NoSuchLine,
+    ];
+
+    /// Document 01's number.
+    pub fn number(self) -> u8 {
+        self as u8
+    }
+
+    /// Whether a refusal for this reason points at a row of the table.
+    pub fn has_row(self) -> bool {
+        (2..=9).contains(&self.number())
+    }
+
+    /// What is wrong, in plain words.
+    pub fn words(self) -> &'static str {
+        match self {
+            Reason::TableLength => "a table has 1 to 2,048 rows of four words",
+            Reason::UnknownKind => "the row has a kind that does not exist",
+            Reason::FieldOutOfRange => {
+                "the row has a variable number not from 0 to 255, a mark of a row that the table lacks, \
+                 or an unused field that is not 0"
+            }
+            Reason::BadLink => "the row links to a row that is not above it in the table",
+            Reason::WrongSort => {
+                "the row links to a row of the wrong sort, as a formula where an expression belongs"
+            }
+            Reason::SharedRow => "the row links to a row that is linked already; each row is used once",
+            Reason::LooseRow => "nothing links to the row, or it is the last one and no script",
+            Reason::FrozenAssigned => "the row assigns to a frozen name (128 to 255)",
+            Reason::OutOfPlace => {
+                "the row reads a frozen name in a guard or an assigned expression, \
+                 or a mark outside the annotations in its loop's body"
+            }
+            Reason::NestedTooDeep => "more than eight ifs and whiles stand in one another",
+            Reason::ScratchTooShort => "the scratch buffer is too short for the list's room",
+            Reason::ListTooLong => "the list is longer than its buffer, or than 16,384 words",
+            Reason::TornList => "the words are no well-formed list",
+            Reason::NoSuchLine => "the list has no condition at that index",
+        }
+    }
+}
+
+/// A refusal: its reason, and the row that it points at (0 where
+/// [`Reason::has_row`] says there is none).
+#[derive(Clone, Copy, Debug, PartialEq, Eq, Hash)]
+pub struct Refusal {
+    pub reason: Reason,
+    pub row: usize,
+}
+
+impl Refusal {
+    /// An answer's number as a result: 0 is no refusal.
+    pub(crate) fn unless_zero(number: usize, row: usize) -> Result<(), Refusal> {
+        let is_it = |reason: &Reason| usize::from(reason.number()) == number;
+        match Reason::ALL.into_iter().find(is_it) {
+            Some(reason) => Err(Refusal { reason, row }),
+            None => {
+                assert_eq!(number, 0, "a number that no entry answers");
+                Ok(())
+            }
+        }
+    }
+}
+
+impl fmt::Display for Refusal {
+    fn fmt(&self, f: &mut fmt::Formatter) -> fmt::Result {
+        write!(f, "refused with {}", self.reason.number())?;
+        if self.reason.has_row() {
+            write!(f, " at row {}", self.row)?;
+        }
+        write!(f, ": {}", self.reason.words())
+    }
+}
+
+impl Error for Refusal {}
