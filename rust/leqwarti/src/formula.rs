@@ -51,7 +51,14 @@ fn layout(kind: i32) -> Option<&'static [Next]> {
         6 => &[Part, Text(" div "), Part],
         7 => &[Part, Text(" mod "), Part],
         8 => &[Text("-("), Whole, Text(")")],
-        10 => &[Text("if "), Part, Text(" then "), Part, Text(" else "), Part],
+        10 => &[
+            Text("if "),
+            Part,
+            Text(" then "),
+            Part,
+            Text(" else "),
+            Part,
+        ],
         18 => &[Part, Text(" < "), Part],
         19 => &[Part, Text(" <= "), Part],
         20 => &[Part, Text(" = "), Part],
@@ -91,11 +98,7 @@ impl fmt::Display for Formula<'_> {
 }
 
 /// A kind without parts; constant, variable and mark have a number.
-fn write_leaf(
-    f: &mut fmt::Formatter,
-    kind: i32,
-    words: &mut std::slice::Iter<i32>,
-) -> fmt::Result {
+fn write_leaf(f: &mut fmt::Formatter, kind: i32, words: &mut std::slice::Iter<i32>) -> fmt::Result {
     let prefix = match kind {
         16 => return f.write_str("true"),
         17 => return f.write_str("false"),
@@ -127,10 +130,7 @@ mod tests {
             "(((((1 mod v2) div v3) * v4) - v5) + v6) < (-(-5))"
         );
         let chosen = [20, 10, 24, 16, 17, 2, 0, 9, 7, 1, 0];
-        assert_eq!(
-            written(&chosen),
-            "(if (true or false) then v0 else m7) = 0"
-        );
+        assert_eq!(written(&chosen), "(if (true or false) then v0 else m7) = 0");
         assert_eq!(
             written(&[25, 22, 21, 2, 0, 1, 1, 23, 16, 19, 1, 0, 2, 255]),
             "(not (v0 != 1)) implies (true and (0 <= v255))"

@@ -1,0 +1,99 @@
+//! The scripts that are timed.
+
+use fuzz::arena::{Arena, Node, Order};
+use fuzz::limits::list_of_length;
+use fuzz::Prng;
+
+/// Document 01's example A.
+pub const EXAMPLE_A: [i32; 80] = [
+    1, 0, 0, 0, 2, 0, 0, 0, 19, 0, 1, 0, 1, 0, 0, 0, 2, 0, 0, 0, 18, 3, 4, 0, 1, 0, 0, 0, 2, 0, 0,
+    0, 19, 6, 7, 0, 2, 0, 0, 0, 37, 8, 9, 0, 2, 0, 0, 0, 1, 1, 0, 0, 4, 11, 12, 0, 33, 0, 13, 0,
+    36, 5, 10, 14, 2, 0, 0, 0, 1, 0, 0, 0, 20, 16, 17, 0, 48, 2, 15, 18,
+];
+
+fn comparison(arena: &mut Arena, kind: i32, value: i32, variable: i32) -> Node {
+    let (left, right) = (arena.constant(value), arena.variable(variable));
+    arena.two(kind, left, right)
+}
+
+/// variable := variable + step
+fn add(arena: &mut Arena, variable: i32, step: i32) -> Node {
+    let (left, right) = (arena.variable(variable), arena.constant(step));
+    let sum = arena.two(3, left, right);
+    arena.assign(variable, sum)
+}
+
+fn in_sequence(arena: &mut Arena, statements: Vec<Node>) -> Node {
+    let together = |first, second| arena.two(34, first, second);
+    statements
+        .into_iter()
+        .reduce(together)
+        .expect("a statement at least")
+}
+
+fn laid_out(mut arena: Arena, statement: Node) -> Vec<i32> {
+    let precondition = comparison(&mut arena, 19, 0, 0);
+    let postcondition = comparison(&mut arena, 20, 0, 0);
+    arena.three(48, precondition, statement, postcondition);
+    arena.words(Order::Newest, &mut Prng::new(1))
+}
+
+fn countdown(arena: &mut Arena, variable: i32) -> Node {
+    let guard = comparison(arena, 18, 0, variable);
+    let invariant = comparison(arena, 19, 0, variable);
+    let variant = arena.variable(variable);
+    let note = arena.two(37, invariant, variant);
+    let body = add(arena, variable, -1);
+    arena.three(36, guard, note, body)
+}
+
+/// Loops like example A's, one after the other.
+pub fn loops(count: i32) -> Vec<i32> {
+    let mut arena = Arena::default();
+    let loops = (0..count).map(|variable| countdown(&mut arena, variable));
+    let loops = loops.collect();
+    let statement = in_sequence(&mut arena, loops);
+    laid_out(arena, statement)
+}
+
+/// Branches one after the other; the postcondition stands twice after each.
+pub fn branches(count: i32) -> Vec<i32> {
+    let mut arena = Arena::default();
+    let mut statements = Vec::new();
+    for variable in 0..count {
+        let guard = comparison(&mut arena, 18, 0, variable);
+        let (then, otherwise) = (add(&mut arena, 0, 1), add(&mut arena, 0, 2));
+        statements.push(arena.three(35, guard, then, otherwise));
+    }
+    let statement = in_sequence(&mut arena, statements);
+    laid_out(arena, statement)
+}
+
+/// One assignment of an expression with so many sums, each a part of the next.
+pub fn deep_expression(sums: i32) -> Vec<i32> {
+    let mut arena = Arena::default();
+    let mut deep = arena.variable(0);
+    for _ in 0..sums {
+        let one = arena.constant(1);
+        deep = arena.two(3, deep, one);
+    }
+    let statement = arena.assign(0, deep);
+    laid_out(arena, statement)
+}
+
+/// A list of 16,384 words, mostly of one formula.
+pub fn full_list() -> Vec<i32> {
+    list_of_length(&mut Prng::new(1), leqwarti::LONGEST_LIST)
+}
+
+/// Assignments to other variables before the ones that the postcondition reads.
+pub fn assignments_passed(others: i32) -> Vec<i32> {
+    let mut arena = Arena::default();
+    let mut statements = Vec::new();
+    for other in 0..others {
+        statements.push(add(&mut arena, 1 + other % 100, 1));
+    }
+    statements.push(add(&mut arena, 0, 1));
+    let statement = in_sequence(&mut arena, statements);
+    laid_out(arena, statement)
+}

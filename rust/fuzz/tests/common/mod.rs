@@ -1,0 +1,71 @@
+//! The proved library, and the proved program, as a subject.
+
+use std::io::Write;
+use std::process::{Command, Stdio};
+
+use fuzz::{Answer, Subject};
+use leqwarti::entries;
+use reference::{Line, Verdict};
+
+const PROGRAM: &str = concat!(env!("CARGO_MANIFEST_DIR"), "/../../target/bin/vcgen");
+
+pub struct Proved;
+
+fn line(found: entries::Line) -> Line {
+    Line {
+        number: found.number as u8,
+        kind: found.kind as i32,
+        row: found.row as i32,
+        start: found.start,
+        end: found.end,
+    }
+}
+
+impl Subject for Proved {
+    fn check(&mut self, words: &[i32]) -> Verdict {
+        match entries::check(words) {
+            entries::Verdict { number: 0, row: 0 } => Verdict::Accepted,
+            entries::Verdict { number, row } => Verdict::Refused {
+                number: number as u8,
+                row,
+            },
+        }
+    }
+
+    fn generate(&mut self, words: &[i32], list: &mut [i32], scratch: &mut [i32]) -> Answer {
+        let answer = entries::generate(words, list, scratch);
+        Answer {
+            number: answer.number as u8,
+            row: answer.row,
+            conditions: answer.conditions,
+            words: answer.words,
+        }
+    }
+
+    fn line_at(&mut self, list: &[i32], index: i64) -> Line {
+        let index = i32::try_from(index).expect("an index of 32 bits");
+        line(entries::line_at(list, index))
+    }
+
+    fn walk(&mut self, list: &[i32], steps: usize) -> Vec<Line> {
+        let mut place = entries::first_place(list);
+        (0..steps)
+            .map(|_| line(entries::step(list, &mut place)))
+            .collect()
+    }
+
+    fn program_output(&mut self, bytes: &[u8]) -> Option<Vec<u8>> {
+        let program = Command::new(PROGRAM)
+            .stdin(Stdio::piped())
+            .stdout(Stdio::piped())
+            .spawn();
+        let mut program = program.unwrap_or_else(|error| panic!("{PROGRAM}: {error}"));
+        let mut input = program.stdin.take().expect("a pipe");
+        // The program may have enough, and end, before it has read all.
+        let _ = input.write_all(bytes);
+        drop(input);
+        let output = program.wait_with_output().expect("the program's output");
+        assert!(output.status.success(), "{:?}", output.status);
+        Some(output.stdout)
+    }
+}
