@@ -7,6 +7,7 @@ mod scripts;
 use std::hint::black_box;
 use std::time::{Duration, Instant};
 
+use fuzz::scripts::EXAMPLE_A;
 use leqwarti::{entries, LARGEST_SCRATCH, LONGEST_LIST};
 
 /// How often both are timed; the median counts.
@@ -138,42 +139,51 @@ fn list_of_short_conditions() -> Vec<i32> {
     list
 }
 
-fn main() {
-    println!(
-        "{:<48} {:>11} {:>11} {:>7}",
-        "", "proved us", "plain us", "ratio"
-    );
-    compare_generators("example A, room 512", &scripts::EXAMPLE_A, 512, 5_120);
-    compare_generators_at_the_need("example A, room 94", &scripts::EXAMPLE_A);
+fn compare_generating() {
+    compare_generators("example A, the program's room", &EXAMPLE_A, 512, 5_120);
+    compare_generators_at_the_need("example A", &EXAMPLE_A);
     compare_generators_at_the_need("50 loops", &scripts::loops(50));
     compare_generators_at_the_need("8 branches", &scripts::branches(8));
     compare_generators_at_the_need("12 branches", &scripts::branches(12));
     compare_generators_at_the_need("deep expression", &scripts::deep_expression(1_000));
     compare_generators_at_the_need("300 assignments", &scripts::assignments_passed(300));
     compare_generators_at_the_need("a full list", &scripts::full_list());
+}
 
-    let full_list = list_of(&scripts::full_list());
-    compare_walks("a full list walked back", &full_list);
-    compare_lines("a full list read at 0", &full_list, 0);
-    let short = list_of_short_conditions();
-    compare_walks("4,095 conditions walked back", &short);
-    compare_lines("4,095 conditions read at 0", &short, 0);
-    compare_lines("4,095 conditions read at 4,094", &short, 4_094);
-    let loops = list_of(&scripts::loops(50));
-    compare_walks("50 loops walked back", &loops);
+fn compare_reading() {
+    let lists = [
+        ("50 loops", list_of(&scripts::loops(50))),
+        ("one condition", list_of(&scripts::full_list())),
+        ("4,095 conditions", list_of_short_conditions()),
+    ];
+    for (name, list) in &lists {
+        let name = format!("{name} ({} words)", list.len());
+        compare_walks(&format!("read back: {name}"), list);
+        compare_lines(&format!("read at an index: {name}"), list, 0);
+    }
+}
 
+fn compare_refusing() {
     let huge = scripts::branches(150);
-    println!("{} rows", huge.len() / 4);
-    compare_generators("huge script", &huge, LONGEST_LIST, LARGEST_SCRATCH);
-    compare_generators("8,196 words", &[16; 8_196], LONGEST_LIST, LARGEST_SCRATCH);
-    compare_checks("check of the huge script", &huge);
-    let mut late_fault = huge.clone();
-    let last = late_fault.len() - 4;
-    late_fault[last] = 49;
-    compare_generators(
-        "huge script with a fault in its last row",
-        &late_fault,
-        LONGEST_LIST,
-        LARGEST_SCRATCH,
+    let mut faulty = huge.clone();
+    let last_row = faulty.len() - 4;
+    faulty[last_row] = 49;
+    let rows = huge.len() / 4;
+    let name = format!("{rows} rows");
+    compare_generators(&name, &huge, LONGEST_LIST, LARGEST_SCRATCH);
+    let name = format!("{rows} rows, the last one faulty");
+    compare_generators(&name, &faulty, LONGEST_LIST, LARGEST_SCRATCH);
+    compare_checks(&format!("{rows} rows checked"), &huge);
+    let too_long = [16; 8_196];
+    compare_generators("2,049 rows", &too_long, LONGEST_LIST, LARGEST_SCRATCH);
+}
+
+fn main() {
+    println!(
+        "{:<48} {:>11} {:>11} {:>7}",
+        "microseconds", "proved", "plain", "ratio"
     );
+    compare_generating();
+    compare_reading();
+    compare_refusing();
 }

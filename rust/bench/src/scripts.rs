@@ -4,13 +4,6 @@ use fuzz::arena::{Arena, Node, Order};
 use fuzz::limits::list_of_length;
 use fuzz::Prng;
 
-/// Document 01's example A.
-pub const EXAMPLE_A: [i32; 80] = [
-    1, 0, 0, 0, 2, 0, 0, 0, 19, 0, 1, 0, 1, 0, 0, 0, 2, 0, 0, 0, 18, 3, 4, 0, 1, 0, 0, 0, 2, 0, 0,
-    0, 19, 6, 7, 0, 2, 0, 0, 0, 37, 8, 9, 0, 2, 0, 0, 0, 1, 1, 0, 0, 4, 11, 12, 0, 33, 0, 13, 0,
-    36, 5, 10, 14, 2, 0, 0, 0, 1, 0, 0, 0, 20, 16, 17, 0, 48, 2, 15, 18,
-];
-
 fn comparison(arena: &mut Arena, kind: i32, value: i32, variable: i32) -> Node {
     let (left, right) = (arena.constant(value), arena.variable(variable));
     arena.two(kind, left, right)
@@ -61,7 +54,7 @@ pub fn branches(count: i32) -> Vec<i32> {
     let mut arena = Arena::default();
     let mut statements = Vec::new();
     for variable in 0..count {
-        let guard = comparison(&mut arena, 18, 0, variable);
+        let guard = comparison(&mut arena, 18, 0, variable % 100);
         let (then, otherwise) = (add(&mut arena, 0, 1), add(&mut arena, 0, 2));
         statements.push(arena.three(35, guard, then, otherwise));
     }

@@ -1,8 +1,15 @@
-//! Valid scripts of random shape, and ones with a fault that only the whole
+//! Example A, valid scripts of random shape, and ones with a fault that only the whole
 //! script shows (numbers 8, 9 and 10).
 
 use crate::arena::{Arena, Field, Node, Order};
 use crate::prng::Prng;
+
+/// Document 01's example A.
+pub const EXAMPLE_A: [i32; 80] = [
+    1, 0, 0, 0, 2, 0, 0, 0, 19, 0, 1, 0, 1, 0, 0, 0, 2, 0, 0, 0, 18, 3, 4, 0, 1, 0, 0, 0, 2, 0, 0,
+    0, 19, 6, 7, 0, 2, 0, 0, 0, 37, 8, 9, 0, 2, 0, 0, 0, 1, 1, 0, 0, 4, 11, 12, 0, 33, 0, 13, 0,
+    36, 5, 10, 14, 2, 0, 0, 0, 1, 0, 0, 0, 20, 16, 17, 0, 48, 2, 15, 18,
+];
 
 /// How a script is to look.
 #[derive(Clone, Copy, Debug)]

@@ -3,8 +3,10 @@
 mod common;
 
 use common::Proved;
-use fuzz::claims::{run_any, run_templates};
-use fuzz::{compare_counting, seed_from_environment, Tally};
+use fuzz::scripts::EXAMPLE_A;
+use fuzz::{compare_counting, compare_input, seed_from_environment, Input, Prng, Tally};
+use leqwarti::{Plan, Refusal};
+use reference::{lines, need, Line, Outcome, LONGEST_LIST};
 
 const CASES: u64 = 240_000;
 
@@ -17,19 +19,128 @@ fn not_one_difference() {
     assert!(result.is_ok(), "{}", result.unwrap_err());
 }
 
-#[test]
-fn conditions_that_hold_by_construction_keep_the_claim() {
-    let seed = seed_from_environment();
-    let fates = run_templates(&mut Proved, seed, 3_000).unwrap();
-    println!("{fates:?}");
-    assert_eq!(fates.kept_with_all_true, fates.runs);
-    assert!(fates.arrivals_at_the_bound > 0);
+fn compare_all(inputs: impl Iterator<Item = Input>) {
+    let mut tally = Tally::default();
+    let mut count = 0;
+    for input in inputs {
+        count += 1;
+        if let Err(what) = compare_input(&mut Proved, &input, &mut tally) {
+            panic!("{what}\n{}", input.text());
+        }
+    }
+    println!("{count} inputs: {tally:?}");
 }
 
 #[test]
-fn a_broken_claim_shows_in_a_false_condition() {
+fn every_room_up_to_the_need_and_scratches_around_it() {
+    let need = need(&EXAMPLE_A).expect("an accepted table");
+    let words = need.words.expect("a short list");
+    let rooms = (0..words + 3).chain([LONGEST_LIST - 1, LONGEST_LIST, LONGEST_LIST + 1]);
+    compare_all(rooms.flat_map(|list_len| {
+        let enough = need.scratch(list_len.min(LONGEST_LIST));
+        let scratches = [0, enough / 2, enough.saturating_sub(1), enough, enough + 1];
+        scratches.map(|scratch_len| Input::Table {
+            words: EXAMPLE_A.to_vec(),
+            list_len,
+            scratch_len,
+        })
+    }));
+}
+
+/// Values at the edges of what a word of a table or of a list may be.
+fn telling_values() -> impl Iterator<Item = i32> + Clone {
+    (-2..52).chain([127, 128, 255, 256, 2_047, 2_048, 16_384, i32::MAX, i32::MIN])
+}
+
+/// The words with every one of them changed to every telling value, dropped
+/// and doubled, and every part of them.
+fn every_small_change(words: Vec<i32>) -> impl Iterator<Item = Vec<i32>> {
+    let length = words.len();
+    let whole = words.clone();
+    let changed = (0..length).flat_map(move |place| {
+        let words = whole.clone();
+        telling_values().map(move |value| {
+            let mut words = words.clone();
+            words[place] = value;
+            words
+        })
+    });
+    let whole = words.clone();
+    let dropped_and_doubled = (0..length).flat_map(move |place| {
+        let (before, after) = whole.split_at(place);
+        [
+            [before, &after[1..]].concat(),
+            [before, &after[..1], after].concat(),
+        ]
+    });
+    let parts = (0..length).flat_map(move |start| {
+        let words = words.clone();
+        (start..length).map(move |end| words[start..end].to_vec())
+    });
+    changed.chain(dropped_and_doubled).chain(parts)
+}
+
+#[test]
+fn every_small_tear_of_a_list() {
+    let list = leqwarti::plan(&EXAMPLE_A).expect("a plan").words().to_vec();
+    compare_all(every_small_change(list).map(Input::List));
+}
+
+#[test]
+fn every_small_change_of_a_table() {
+    compare_all(
+        every_small_change(EXAMPLE_A.to_vec()).map(|words| Input::Table {
+            words,
+            list_len: 120,
+            scratch_len: 360,
+        }),
+    );
+}
+
+/// A plan as the list's lines, a refusal as its number and row.
+fn as_answered(found: &Result<Plan, Refusal>) -> Result<Vec<Line>, (u8, usize)> {
+    let plan = match found {
+        Ok(plan) => plan,
+        Err(refusal) => return Err((refusal.reason.number(), refusal.row)),
+    };
+    let mut start = 0;
+    let line = |condition: leqwarti::Condition| {
+        let line = Line {
+            number: 0,
+            kind: condition.kind as i32,
+            row: condition.row as i32,
+            start,
+            end: start + condition.formula.words().len(),
+        };
+        start = line.end + 3;
+        line
+    };
+    Ok(plan.conditions().map(line).collect())
+}
+
+fn as_expected(outcome: &Outcome) -> Result<Vec<Line>, (u8, usize)> {
+    match outcome.number {
+        0 => Ok(lines(&outcome.list[..outcome.words]).expect("a list")),
+        number => Err((number, outcome.row)),
+    }
+}
+
+#[test]
+fn plans_and_refusals_say_what_the_numbers_do() {
     let seed = seed_from_environment();
-    let fates = run_any(&mut Proved, seed, 6_000).unwrap();
-    println!("{fates:?}");
-    assert!(fates.broken > 0 && fates.kept_with_all_true > 0);
+    for case in 0..6_000 {
+        let Input::Table { words, .. } = Input::any(&mut Prng::for_case(seed, case)) else {
+            continue;
+        };
+        let outcome = reference::generate(&words, LONGEST_LIST, leqwarti::LARGEST_SCRATCH);
+        let plan = leqwarti::plan(&words);
+        assert_eq!(as_answered(&plan), as_expected(&outcome), "case {case}");
+        let Ok(plan) = plan else { continue };
+        assert_eq!(plan.words(), &outcome.list[..outcome.words]);
+        for (index, condition) in plan.conditions().enumerate() {
+            assert_eq!(leqwarti::condition_at(plan.words(), index), Ok(condition));
+        }
+        let backwards: Vec<_> = plan.conditions().rev().collect();
+        assert!(plan.conditions().eq(backwards.into_iter().rev()));
+    }
 }
