@@ -2,11 +2,12 @@
 //! the proved code is the faster. Both are given the same inputs in turn, the
 //! proved code the same buffers again and again, not cleared in between.
 
+mod clock;
 mod scripts;
 
 use std::hint::black_box;
-use std::time::{Duration, Instant};
 
+use clock::{processor_time, Nanoseconds};
 use fuzz::scripts::EXAMPLE_A;
 use leqwarti::{entries, LARGEST_SCRATCH, LONGEST_LIST};
 
@@ -14,22 +15,20 @@ use leqwarti::{entries, LARGEST_SCRATCH, LONGEST_LIST};
 const ROUNDS: usize = 31;
 
 /// A round calls each so often that it lasts about so long.
-const ROUND: Duration = Duration::from_millis(4);
+const ROUND: Nanoseconds = 4e6;
 
-/// The time of one call in nanoseconds.
-type Nanoseconds = f64;
-
+/// The time of one call.
 fn timed(calls: u32, work: &mut dyn FnMut()) -> Nanoseconds {
-    let begun = Instant::now();
+    let begun = processor_time();
     for _ in 0..calls {
         work();
     }
-    begun.elapsed().as_nanos() as f64 / f64::from(calls)
+    (processor_time() - begun) / f64::from(calls)
 }
 
 fn calls_in_a_round(work: &mut dyn FnMut()) -> u32 {
     let one = timed(1, work).min(timed(3, work)).max(1.0);
-    ((ROUND.as_nanos() as f64 / one) as u32).max(1)
+    ((ROUND / one) as u32).max(1)
 }
 
 fn median(mut times: Vec<Nanoseconds>) -> Nanoseconds {

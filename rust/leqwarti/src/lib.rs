@@ -44,8 +44,8 @@
 //! The check, the generator and the list reader are functions of a static
 //! library whose contracts are proved; this crate adds types, and the text of
 //! formulas and refusals, which are not. The functions call themselves as deep
-//! as formulas nest: the deepest lists (16,384 words, each a part of the word
-//! before) take a stack of 8 MiB, as a main thread has by default.
+//! as scripts and formulas nest; the 2 MiB of stack that a thread of Rust's has
+//! by default are enough for the deepest.
 
 mod condition;
 pub mod entries;
