@@ -80,13 +80,13 @@ pub extern "C" fn leqwarti_step(
     ensures end { λ _. ⌜ now (end .exit) ≡ step-back (now (words .entry)) (now (place .entry)) .end ⌝ }
 {
     let walked = reader::step_from(words, *place);
-    let line = walked.line;
+    let passed = walked.line;
     *place = walked.end;
-    *number = line.number;
-    *kind = line.kind;
-    *row = line.row;
-    *start = line.start;
-    *end = line.end;
+    *number = passed.number;
+    *kind = passed.kind;
+    *row = passed.row;
+    *start = passed.start;
+    *end = passed.end;
 }
 
 // Lists the conditions of the table's script: number and row, how many conditions, and the words used.
