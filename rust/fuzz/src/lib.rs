@@ -20,3 +20,9 @@ pub use compare::{compare, compare_case, compare_counting, compare_input, Differ
 pub use inputs::Input;
 pub use prng::{seed_from_environment, Prng};
 pub use subject::{Answer, Reference, Subject};
+
+/// Writes a line to standard error, which a test that passes shows too.
+pub fn tell(text: impl std::fmt::Display) {
+    use std::io::Write;
+    writeln!(std::io::stderr(), "{text}").expect("standard error takes a line");
+}

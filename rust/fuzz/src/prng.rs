@@ -14,7 +14,9 @@ pub fn seed_from_environment() -> u64 {
         Ok(text) if text == "clock" => seed_from_clock(),
         Ok(text) => text.parse().expect("VCGEN_SEED is a number or clock"),
     };
-    println!("seed {seed} (set {SEED_VARIABLE} to repeat or change it)");
+    crate::tell(format!(
+        "seed {seed} (set {SEED_VARIABLE} to repeat or change it)"
+    ));
     seed
 }
 

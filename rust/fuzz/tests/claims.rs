@@ -5,7 +5,7 @@ mod common;
 
 use common::Proved;
 use fuzz::claims::{run_any, run_templates};
-use fuzz::{seed_from_environment, Answer, Reference, Subject};
+use fuzz::{seed_from_environment, tell, Answer, Reference, Subject};
 use reference::{lines, Line, Verdict};
 
 const CASES: u64 = 3_000;
@@ -14,7 +14,7 @@ const CASES: u64 = 3_000;
 fn conditions_that_hold_by_construction_keep_the_claim() {
     let seed = seed_from_environment();
     let fates = run_templates(&mut Proved, seed, CASES).unwrap();
-    println!("{fates:?}");
+    tell(format!("{fates:?}"));
     assert!(fates.runs > CASES && fates.passes > CASES && fates.arrivals_at_the_bound > 500);
     assert_eq!(fates.kept_with_all_true, fates.runs);
 }
@@ -23,7 +23,7 @@ fn conditions_that_hold_by_construction_keep_the_claim() {
 fn a_broken_claim_shows_in_a_false_condition() {
     let seed = seed_from_environment();
     let fates = run_any(&mut Proved, seed, 2 * CASES).unwrap();
-    println!("{fates:?}");
+    tell(format!("{fates:?}"));
     assert!(fates.kept > 500 && fates.broken > 500 && fates.kept_with_all_true > 500);
 }
 

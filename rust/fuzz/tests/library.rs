@@ -4,7 +4,7 @@ mod common;
 
 use common::Proved;
 use fuzz::scripts::EXAMPLE_A;
-use fuzz::{compare_counting, compare_input, seed_from_environment, Input, Prng, Tally};
+use fuzz::{compare_counting, compare_input, seed_from_environment, tell, Input, Prng, Tally};
 use leqwarti::{Plan, Refusal};
 use reference::{lines, need, Line, Outcome, LONGEST_LIST};
 
@@ -15,7 +15,7 @@ fn not_one_difference() {
     let seed = seed_from_environment();
     let mut tally = Tally::default();
     let result = compare_counting(&mut Proved, seed, CASES, &mut tally);
-    println!("{CASES} cases: {tally:?}");
+    tell(format!("{CASES} cases: {tally:?}"));
     assert!(result.is_ok(), "{}", result.unwrap_err());
 }
 
@@ -28,7 +28,7 @@ fn compare_all(inputs: impl Iterator<Item = Input>) {
             panic!("{what}\n{}", input.text());
         }
     }
-    println!("{count} inputs: {tally:?}");
+    tell(format!("{count} inputs: {tally:?}"));
 }
 
 #[test]
