@@ -29,6 +29,40 @@ impl<'a> Formula<'a> {
     pub fn words(self) -> &'a [i32] {
         self.words
     }
+
+    /// Both sides of an implication, as every condition of the generator is.
+    ///
+    /// ```
+    /// use leqwarti::Formula;
+    ///
+    /// let (given, wanted) = Formula::new(&[25, 19, 1, 0, 2, 0, 16]).implication().unwrap();
+    /// assert_eq!((given.to_string(), wanted.to_string()), ("0 <= v0".into(), "true".into()));
+    /// assert!(Formula::new(&[16]).implication().is_none());
+    /// ```
+    pub fn implication(self) -> Option<(Formula<'a>, Formula<'a>)> {
+        let (&kind, sides) = self.words.split_first()?;
+        if kind != 25 {
+            return None;
+        }
+        let (given, wanted) = sides.split_at(first_length(sides));
+        Some((Formula::new(given), Formula::new(wanted)))
+    }
+}
+
+/// How many of the words spell the first whole expression or formula.
+fn first_length(words: &[i32]) -> usize {
+    let (mut place, mut awaited) = (0, 1);
+    while awaited > 0 && place < words.len() {
+        let kind = words[place];
+        let parts = layout(kind).unwrap_or_default();
+        awaited += parts
+            .iter()
+            .filter(|next| !matches!(next, Next::Text(_)))
+            .count();
+        awaited -= 1;
+        place += if matches!(kind, 1 | 2 | 9) { 2 } else { 1 };
+    }
+    place.min(words.len())
 }
 
 /// What is still to be written. (Formulas may nest deeper than a thread's
@@ -51,7 +85,14 @@ fn layout(kind: i32) -> Option<&'static [Next]> {
         6 => &[Part, Text(" div "), Part],
         7 => &[Part, Text(" mod "), Part],
         8 => &[Text("-("), Whole, Text(")")],
-        10 => &[Text("if "), Part, Text(" then "), Part, Text(" else "), Part],
+        10 => &[
+            Text("if "),
+            Part,
+            Text(" then "),
+            Part,
+            Text(" else "),
+            Part,
+        ],
         18 => &[Part, Text(" < "), Part],
         19 => &[Part, Text(" <= "), Part],
         20 => &[Part, Text(" = "), Part],
@@ -91,11 +132,7 @@ impl fmt::Display for Formula<'_> {
 }
 
 /// A kind without parts; constant, variable and mark have a number.
-fn write_leaf(
-    f: &mut fmt::Formatter,
-    kind: i32,
-    words: &mut std::slice::Iter<i32>,
-) -> fmt::Result {
+fn write_leaf(f: &mut fmt::Formatter, kind: i32, words: &mut std::slice::Iter<i32>) -> fmt::Result {
     let prefix = match kind {
         16 => return f.write_str("true"),
         17 => return f.write_str("false"),
@@ -127,10 +164,7 @@ mod tests {
             "(((((1 mod v2) div v3) * v4) - v5) + v6) < (-(-5))"
         );
         let chosen = [20, 10, 24, 16, 17, 2, 0, 9, 7, 1, 0];
-        assert_eq!(
-            written(&chosen),
-            "(if (true or false) then v0 else m7) = 0"
-        );
+        assert_eq!(written(&chosen), "(if (true or false) then v0 else m7) = 0");
         assert_eq!(
             written(&[25, 22, 21, 2, 0, 1, 1, 23, 16, 19, 1, 0, 2, 255]),
             "(not (v0 != 1)) implies (true and (0 <= v255))"
