@@ -99,11 +99,11 @@ mod tests {
     fn a_plan_is_told_row_by_row() {
         let (text, words) =
             both("v0 is x\n16 0 0 0\n2 0 0 0\n2 0 0 0\n20 1 2 0\n32 0 0 0\n48 0 4 3 # all\n");
-        let expected = "planned 1 10\n\n\
+        let expected = "planned 1 11\n\n\
             main 5: the precondition gives what the script needs at its start\n\
             line 7: all\n    true\n  implies\n    x = x\n";
         assert_eq!(text, expected);
-        assert_eq!(words, "planned 1 10\nmain 5 25 16 20 2 0 2 0\n");
+        assert_eq!(words, "planned 1 11\nmain 5 25 16 20 2 0 2 0\n");
     }
 
     #[test]

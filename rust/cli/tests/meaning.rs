@@ -1,0 +1,165 @@
+//! The examples mean what they say: their conditions, as the proved generator
+//! lists them, are tried in many states, and their scripts are run. Truth and
+//! runs are those of the second implementation.
+
+use std::path::Path;
+
+use cli::Source;
+use fuzz::claims::{small_state, try_run, Trial};
+use fuzz::{seed_from_environment, Prng};
+use leqwarti::ConditionKind;
+use reference::{formula_from_words, formula_is_true, End, Formula, Row, State, Variable};
+
+const STATES: usize = 20_000;
+
+/// The examples whose conditions are all true.
+const SOUND: [&str; 13] = [
+    "absolute",
+    "countdown",
+    "division",
+    "fleet-join-mended",
+    "gcd",
+    "last-pass-at-zero",
+    "loop-in-branch",
+    "mark",
+    "maximum",
+    "nested-loops",
+    "sum",
+    "swap",
+    "weeks",
+];
+
+struct Example {
+    words: Vec<i32>,
+    kinds: Vec<ConditionKind>,
+    conditions: Vec<Formula>,
+}
+
+fn example(name: &str) -> Example {
+    let folder = Path::new(concat!(env!("CARGO_MANIFEST_DIR"), "/../../examples"));
+    let text = std::fs::read_to_string(folder.join(name).with_extension("rows")).unwrap();
+    let words = Source::read(&text).unwrap().words;
+    let plan = leqwarti::plan(&words).unwrap();
+    Example {
+        kinds: plan.conditions().map(|condition| condition.kind).collect(),
+        conditions: plan
+            .conditions()
+            .map(|condition| formula_from_words(condition.formula.words()).unwrap())
+            .collect(),
+        words,
+    }
+}
+
+impl Example {
+    /// The kinds of the conditions that are false in a state.
+    fn false_kinds(&self, state: &State) -> Vec<ConditionKind> {
+        let truths = self.conditions.iter().zip(&self.kinds);
+        truths
+            .filter(|(condition, _)| formula_is_true(condition, state) == Ok(false))
+            .map(|(_, kind)| *kind)
+            .collect()
+    }
+
+    /// A run from a start, where it meets the precondition.
+    fn run(&self, start: &State) -> Option<Trial> {
+        try_run(&self.words, &self.conditions, start, 100_000)
+    }
+}
+
+/// A state whose values are so small that equations are often true by chance.
+fn tiny_state(random: &mut Prng, words: &[i32]) -> State {
+    let mut state = State::default();
+    for number in (0..6).chain(128..134) {
+        state.set_variable(Variable(number), random.between(-2, 4).into());
+    }
+    for row in (0..words.len() / 4).filter(|row| words[4 * row] == 36) {
+        state.set_mark(Row(row), random.between(-2, 4).into());
+    }
+    state
+}
+
+#[test]
+fn every_condition_of_a_sound_example_is_true() {
+    let mut random = Prng::new(seed_from_environment());
+    for name in SOUND {
+        let example = example(name);
+        for _ in 0..STATES {
+            for state in [small_state, tiny_state].map(|any| any(&mut random, &example.words)) {
+                assert_eq!(example.false_kinds(&state), [], "{name} in {state:?}");
+            }
+        }
+    }
+}
+
+#[test]
+fn runs_of_a_sound_example_keep_what_it_promises() {
+    let mut random = Prng::new(seed_from_environment());
+    for name in SOUND {
+        let example = example(name);
+        let mut runs = 0;
+        for _ in 0..STATES / 4 {
+            for start in [small_state, tiny_state].map(|any| any(&mut random, &example.words)) {
+                let Some(trial) = example.run(&start) else {
+                    continue;
+                };
+                let ended = (trial.run.end, &trial.broken, trial.conditions_true);
+                assert_eq!(
+                    ended,
+                    (End::Done, &None, Some(true)),
+                    "{name} from {start:?}"
+                );
+                runs += 1;
+            }
+        }
+        println!("{name}: {runs} runs");
+        assert!(runs > 200, "{name}: {runs} runs");
+    }
+}
+
+/// The state that the comments of the faulty fleet join name.
+fn three_trams_dropped() -> State {
+    let mut state = State::default();
+    let [north, south, closed, moved, round] = [5, 4, 1, 1, 6];
+    for (number, value) in [north, south, closed, moved, round].into_iter().enumerate() {
+        state.set_variable(Variable(number), value);
+    }
+    state
+}
+
+#[test]
+fn the_exit_of_the_join_shows_three_trams_dropped() {
+    let faulty = example("fleet-join");
+    assert_eq!(
+        faulty.false_kinds(&three_trams_dropped()),
+        [ConditionKind::Exit]
+    );
+
+    let start = three_trams_dropped();
+    let trial = faulty.run(&start).unwrap();
+    let [north, south, round] = [0, 1, 4].map(|number| trial.run.state.variable(Variable(number)));
+    assert_eq!(trial.run.state.variable(Variable(3)), 1);
+    assert_eq!((trial.run.end, north + south - round), (End::Done, 3));
+    assert_eq!(trial.broken.as_deref(), Some("the postcondition is false"));
+}
+
+/// Main, the only condition that is not the join's, is true in every state: a
+/// generator that lists nothing for a loop inside a branch passes the faulty
+/// script. Of the join's own conditions only the exit is ever false.
+#[test]
+fn without_the_exit_of_the_join_nothing_shows() {
+    let mut random = Prng::new(seed_from_environment());
+    let faulty = example("fleet-join");
+    let mut found = 0;
+    for _ in 0..STATES {
+        for state in [small_state, tiny_state].map(|any| any(&mut random, &faulty.words)) {
+            let kinds = faulty.false_kinds(&state);
+            assert!(
+                kinds.iter().all(|kind| *kind == ConditionKind::Exit),
+                "{state:?}"
+            );
+            found += kinds.len();
+        }
+    }
+    println!("the exit is false in {found} states");
+    assert!(found > 20);
+}
