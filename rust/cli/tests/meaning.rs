@@ -8,9 +8,13 @@ use cli::Source;
 use fuzz::claims::{small_state, try_run, Trial};
 use fuzz::{seed_from_environment, Prng};
 use leqwarti::ConditionKind;
-use reference::{formula_from_words, formula_is_true, End, Formula, Row, State, Variable};
+use reference::{
+    formula_from_words, formula_is_true, run_observed, Connective, End, Formula, Row, State,
+    Variable,
+};
 
-const STATES: usize = 20_000;
+/// How many random starts of either sort an example gets.
+const STARTS: usize = 2_000;
 
 /// The examples whose conditions are all true.
 const SOUND: [&str; 13] = [
@@ -78,16 +82,38 @@ fn tiny_state(random: &mut Prng, words: &[i32]) -> State {
     state
 }
 
+/// The left side of a condition.
+fn given(condition: &Formula) -> &Formula {
+    match condition {
+        Formula::Connect(Connective::Implies, given, _) => given,
+        _ => panic!("a condition that is no implication"),
+    }
+}
+
+/// Shows random states to `look`, and every state that a run from one of them
+/// passes. A condition is to be true in all states, so any start will do.
+fn look_at_states(words: &[i32], random: &mut Prng, mut look: impl FnMut(&State)) {
+    for _ in 0..STARTS {
+        for start in [small_state, tiny_state].map(|any| any(random, words)) {
+            run_observed(words, &start, 100, &mut look).unwrap();
+        }
+    }
+}
+
 #[test]
 fn every_condition_of_a_sound_example_is_true() {
     let mut random = Prng::new(seed_from_environment());
     for name in SOUND {
         let example = example(name);
-        for _ in 0..STATES {
-            for state in [small_state, tiny_state].map(|any| any(&mut random, &example.words)) {
-                assert_eq!(example.false_kinds(&state), [], "{name} in {state:?}");
+        let mut tried = vec![0; example.conditions.len()];
+        look_at_states(&example.words, &mut random, |state| {
+            assert_eq!(example.false_kinds(state), [], "{name} in {state:?}");
+            for (times, condition) in tried.iter_mut().zip(&example.conditions) {
+                *times += u32::from(formula_is_true(given(condition), state) == Ok(true));
             }
-        }
+        });
+        println!("{name}: left sides true in {tried:?} states");
+        assert!(tried.iter().all(|times| *times > 100), "{name}: {tried:?}");
     }
 }
 
@@ -97,7 +123,7 @@ fn runs_of_a_sound_example_keep_what_it_promises() {
     for name in SOUND {
         let example = example(name);
         let mut runs = 0;
-        for _ in 0..STATES / 4 {
+        for _ in 0..STARTS {
             for start in [small_state, tiny_state].map(|any| any(&mut random, &example.words)) {
                 let Some(trial) = example.run(&start) else {
                     continue;
@@ -150,16 +176,14 @@ fn without_the_exit_of_the_join_nothing_shows() {
     let mut random = Prng::new(seed_from_environment());
     let faulty = example("fleet-join");
     let mut found = 0;
-    for _ in 0..STATES {
-        for state in [small_state, tiny_state].map(|any| any(&mut random, &faulty.words)) {
-            let kinds = faulty.false_kinds(&state);
-            assert!(
-                kinds.iter().all(|kind| *kind == ConditionKind::Exit),
-                "{state:?}"
-            );
-            found += kinds.len();
-        }
-    }
+    look_at_states(&faulty.words, &mut random, |state| {
+        let kinds = faulty.false_kinds(state);
+        assert!(
+            kinds.iter().all(|kind| *kind == ConditionKind::Exit),
+            "{state:?}"
+        );
+        found += kinds.len();
+    });
     println!("the exit is false in {found} states");
-    assert!(found > 20);
+    assert!(found > 100);
 }
