@@ -38,20 +38,12 @@ impl Names {
 
     /// A formula's text with each variable by its name, where it has one.
     pub fn put_into(&self, text: &str) -> String {
-        let mut named = String::new();
-        let mut rest = text;
-        while !rest.is_empty() {
-            let is_word = |letter: char| letter.is_ascii_alphanumeric();
-            let end = match rest.find(is_word) {
-                Some(0) => rest.find(|letter| !is_word(letter)).unwrap_or(rest.len()),
-                Some(start) => start,
-                None => rest.len(),
-            };
-            let (token, after) = rest.split_at(end);
-            named += self.name(token).unwrap_or(token);
-            rest = after;
-        }
-        named
+        let is_separator = |letter: char| !letter.is_ascii_alphanumeric();
+        let named = |piece: &str| {
+            let (token, separator) = piece.split_at(piece.trim_end_matches(is_separator).len());
+            self.name(token).unwrap_or(token).to_string() + separator
+        };
+        text.split_inclusive(is_separator).map(named).collect()
     }
 
     fn name(&self, token: &str) -> Option<&str> {
@@ -68,7 +60,7 @@ fn variable_number(text: &str) -> Option<usize> {
 
 /// Names have no digits, so none of them looks like a number, a variable or a mark.
 fn is_name(text: &str) -> bool {
-    let is_letter = |letter: char| letter.is_alphabetic() || letter == '_';
+    let is_letter = |letter: char| letter.is_ascii_alphabetic() || letter == '_';
     text.chars().all(is_letter) && !TAKEN.contains(&text)
 }
 
@@ -86,11 +78,11 @@ mod tests {
 
     #[test]
     fn variables_are_written_by_their_names() {
-        let names = names(&["v0 is x", "v128 is  old_x", "v10 is größe"]);
+        let names = names(&["v0 is x", "v128 is  old_x", "v10 is size"]);
         let text = "((v0 + v1) <= (-(v128))) implies (v10 = m10)";
         assert_eq!(
             names.put_into(text),
-            "((x + v1) <= (-(old_x))) implies (größe = m10)"
+            "((x + v1) <= (-(old_x))) implies (size = m10)"
         );
         assert_eq!(names.put_into(""), "");
         assert_eq!(names.put_into("v0"), "x");
@@ -113,7 +105,7 @@ mod tests {
 
     #[test]
     fn a_name_is_no_word_of_formulas_and_given_once() {
-        for wrong in ["and", "m5", "v1", "7", "a-b", "(x)"] {
+        for wrong in ["and", "m5", "v1", "7", "a-b", "(x)", "größe"] {
             assert!(
                 Names::default().add(&format!("v0 is {wrong}")).is_err(),
                 "{wrong}"
