@@ -172,8 +172,22 @@ mod tests {
     }
 
     #[test]
+    fn an_implication_parts_after_its_whole_left_side() {
+        let given = [20, 10, 24, 16, 17, 2, 25, 9, 25, 8, 1, 25];
+        let wanted = [25, 16, 17];
+        let words = [&[25][..], &given, &wanted].concat();
+        let sides = (Formula::new(&given), Formula::new(&wanted));
+        assert_eq!(Formula::new(&words).implication(), Some(sides));
+        assert_eq!(Formula::new(&given).implication(), None);
+    }
+
+    #[test]
     fn words_that_spell_nothing_end_early() {
         assert_eq!(written(&[]), "");
+        for words in [&[25][..], &[25, 1], &[25, 23, 16]] {
+            let (given, wanted) = Formula::new(words).implication().unwrap();
+            assert_eq!((given.words(), wanted.words()), (&words[1..], &[][..]));
+        }
         assert_eq!(written(&[25, 16]), "true implies ");
         assert_eq!(written(&[22, 99]), "not ?");
     }
