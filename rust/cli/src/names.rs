@@ -24,7 +24,8 @@ impl Names {
         let number = variable_number(variable).ok_or_else(form)?;
         if !is_name(name) {
             return Err(format!(
-                "`{name}` is no name: letters and _, and no word of formulas"
+                "`{}` is no name: letters and _, and no word of formulas",
+                name.escape_debug()
             ));
         }
         if self.of.contains_key(&number) || self.of.values().any(|other| other == name) {

@@ -73,7 +73,7 @@ fn without_label(content: &str, row: usize) -> Result<&str, String> {
     if label.parse() == Ok(row) {
         Ok(numbers)
     } else {
-        Err(format!("row {row} is labelled `{label}`"))
+        Err(format!("row {row} is labelled `{}`", label.escape_debug()))
     }
 }
 
@@ -88,6 +88,7 @@ fn words_of_row(numbers: &str) -> Result<[i32; 4], String> {
 fn word(text: &str) -> Result<i32, String> {
     text.parse().map_err(|_| {
         let (least, greatest) = (i32::MIN, i32::MAX);
+        let text = text.escape_debug();
         format!("`{text}` is no whole number from {least} to {greatest}")
     })
 }
