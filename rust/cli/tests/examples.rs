@@ -1,34 +1,13 @@
 //! The examples through the command, against what is stored beside them and
 //! against the second implementation.
 
-use std::fs;
+mod files;
+
 use std::io::Write;
-use std::path::{Path, PathBuf};
 use std::process::{Command, Output, Stdio};
 
 use cli::Source;
-
-fn top() -> &'static Path {
-    Path::new(concat!(env!("CARGO_MANIFEST_DIR"), "/../.."))
-}
-
-/// The files of rows, by name.
-fn examples() -> Vec<PathBuf> {
-    let folder = fs::read_dir(top().join("examples")).unwrap();
-    let mut files: Vec<PathBuf> = folder.map(|entry| entry.unwrap().path()).collect();
-    files.retain(|file| file.extension().is_some_and(|end| end == "rows"));
-    files.sort();
-    assert!(files.len() >= 12);
-    files
-}
-
-fn name(file: &Path) -> &str {
-    file.file_stem().unwrap().to_str().unwrap()
-}
-
-fn text(file: &Path) -> String {
-    fs::read_to_string(file).unwrap_or_else(|error| panic!("{}: {error}", file.display()))
-}
+use files::{examples, name, text, top};
 
 fn vcgen(arguments: &[&str], input: &str) -> Output {
     let mut child = Command::new(env!("CARGO_BIN_EXE_vcgen"))

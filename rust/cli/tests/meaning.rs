@@ -2,12 +2,14 @@
 //! lists them, are tried in many states, and their scripts are run. Truth and
 //! runs are those of the second implementation.
 
+mod files;
+
 use std::path::Path;
 
 use cli::Source;
 use fuzz::claims::{small_state, try_run, Trial};
 use fuzz::{seed_from_environment, Prng};
-use leqwarti::ConditionKind;
+use leqwarti::{Condition, ConditionKind};
 use reference::{
     formula_from_words, formula_is_true, run_observed, Connective, End, Formula, Row, State,
     Variable,
@@ -16,42 +18,46 @@ use reference::{
 /// How many random starts of either sort an example gets.
 const STARTS: usize = 2_000;
 
-/// The examples whose conditions are all true.
-const SOUND: [&str; 13] = [
-    "absolute",
-    "countdown",
-    "division",
-    "fleet-join-mended",
-    "gcd",
-    "last-pass-at-zero",
-    "loop-in-branch",
-    "mark",
-    "maximum",
-    "nested-loops",
-    "sum",
-    "swap",
-    "weeks",
-];
+/// The example of which one condition is not true.
+const FAULTY: &str = "fleet-join";
 
 struct Example {
+    name: String,
     words: Vec<i32>,
     kinds: Vec<ConditionKind>,
     conditions: Vec<Formula>,
 }
 
-fn example(name: &str) -> Example {
-    let folder = Path::new(concat!(env!("CARGO_MANIFEST_DIR"), "/../../examples"));
-    let text = std::fs::read_to_string(folder.join(name).with_extension("rows")).unwrap();
-    let words = Source::read(&text).unwrap().words;
-    let plan = leqwarti::plan(&words).unwrap();
-    Example {
+/// The examples that are planned, but for the faulty one.
+fn sound_examples() -> Vec<Example> {
+    let mut examples = planned_examples();
+    examples.retain(|example| example.name != FAULTY);
+    examples
+}
+
+fn faulty_example() -> Example {
+    let mut examples = planned_examples().into_iter();
+    examples.find(|example| example.name == FAULTY).unwrap()
+}
+
+fn planned_examples() -> Vec<Example> {
+    let files = files::examples();
+    files
+        .iter()
+        .filter_map(|file| planned_example(file))
+        .collect()
+}
+
+fn planned_example(file: &Path) -> Option<Example> {
+    let words = Source::read(&files::text(file)).unwrap().words;
+    let plan = leqwarti::plan(&words).ok()?;
+    let formula = |condition: Condition| formula_from_words(condition.formula.words());
+    Some(Example {
+        name: files::name(file).to_string(),
         kinds: plan.conditions().map(|condition| condition.kind).collect(),
-        conditions: plan
-            .conditions()
-            .map(|condition| formula_from_words(condition.formula.words()).unwrap())
-            .collect(),
+        conditions: plan.conditions().map(formula).collect::<Option<_>>()?,
         words,
-    }
+    })
 }
 
 impl Example {
@@ -103,8 +109,8 @@ fn look_at_states(words: &[i32], random: &mut Prng, mut look: impl FnMut(&State)
 #[test]
 fn every_condition_of_a_sound_example_is_true() {
     let mut random = Prng::new(seed_from_environment());
-    for name in SOUND {
-        let example = example(name);
+    for example in sound_examples() {
+        let name = &example.name;
         let mut tried = vec![0; example.conditions.len()];
         look_at_states(&example.words, &mut random, |state| {
             assert_eq!(example.false_kinds(state), [], "{name} in {state:?}");
@@ -120,8 +126,8 @@ fn every_condition_of_a_sound_example_is_true() {
 #[test]
 fn runs_of_a_sound_example_keep_what_it_promises() {
     let mut random = Prng::new(seed_from_environment());
-    for name in SOUND {
-        let example = example(name);
+    for example in sound_examples() {
+        let name = &example.name;
         let mut runs = 0;
         for _ in 0..STARTS {
             for start in [small_state, tiny_state].map(|any| any(&mut random, &example.words)) {
@@ -142,6 +148,16 @@ fn runs_of_a_sound_example_keep_what_it_promises() {
     }
 }
 
+/// The passes of a loop may be one more than its variant.
+#[test]
+fn a_last_pass_at_zero_is_made() {
+    let examples = sound_examples();
+    let is_it = |example: &&Example| example.name == "last-pass-at-zero";
+    let trial = examples.iter().find(is_it).unwrap().run(&State::default());
+    let arrival = trial.unwrap().run.arrivals[0];
+    assert_eq!((arrival.variant, arrival.bodies_begun), (Some(0), 1));
+}
+
 /// The state that the comments of the faulty fleet join name.
 fn three_trams_dropped() -> State {
     let mut state = State::default();
@@ -154,7 +170,7 @@ fn three_trams_dropped() -> State {
 
 #[test]
 fn the_exit_of_the_join_shows_three_trams_dropped() {
-    let faulty = example("fleet-join");
+    let faulty = faulty_example();
     assert_eq!(
         faulty.false_kinds(&three_trams_dropped()),
         [ConditionKind::Exit]
@@ -174,7 +190,7 @@ fn the_exit_of_the_join_shows_three_trams_dropped() {
 #[test]
 fn without_the_exit_of_the_join_nothing_shows() {
     let mut random = Prng::new(seed_from_environment());
-    let faulty = example("fleet-join");
+    let faulty = faulty_example();
     let mut found = 0;
     look_at_states(&faulty.words, &mut random, |state| {
         let kinds = faulty.false_kinds(state);
