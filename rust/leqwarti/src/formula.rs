@@ -29,6 +29,40 @@ impl<'a> Formula<'a> {
     pub fn words(self) -> &'a [i32] {
         self.words
     }
+
+    /// Both sides of an implication, as every condition of the generator is.
+    ///
+    /// ```
+    /// use leqwarti::Formula;
+    ///
+    /// let (given, wanted) = Formula::new(&[25, 19, 1, 0, 2, 0, 16]).implication().unwrap();
+    /// assert_eq!((given.to_string(), wanted.to_string()), ("0 <= v0".into(), "true".into()));
+    /// assert!(Formula::new(&[16]).implication().is_none());
+    /// ```
+    pub fn implication(self) -> Option<(Formula<'a>, Formula<'a>)> {
+        let (&kind, sides) = self.words.split_first()?;
+        if kind != 25 {
+            return None;
+        }
+        let (given, wanted) = sides.split_at(first_length(sides));
+        Some((Formula::new(given), Formula::new(wanted)))
+    }
+}
+
+/// How many of the words spell the first whole expression or formula.
+fn first_length(words: &[i32]) -> usize {
+    let (mut place, mut awaited) = (0, 1);
+    while awaited > 0 && place < words.len() {
+        let kind = words[place];
+        let parts = layout(kind).unwrap_or_default();
+        awaited += parts
+            .iter()
+            .filter(|next| !matches!(next, Next::Text(_)))
+            .count();
+        awaited -= 1;
+        place += if matches!(kind, 1 | 2 | 9) { 2 } else { 1 };
+    }
+    place.min(words.len())
 }
 
 /// What is still to be written. (Formulas may nest deeper than a thread's
@@ -138,8 +172,22 @@ mod tests {
     }
 
     #[test]
+    fn an_implication_parts_after_its_whole_left_side() {
+        let given = [20, 10, 24, 16, 17, 2, 25, 9, 25, 8, 1, 25];
+        let wanted = [25, 16, 17];
+        let words = [&[25][..], &given, &wanted].concat();
+        let sides = (Formula::new(&given), Formula::new(&wanted));
+        assert_eq!(Formula::new(&words).implication(), Some(sides));
+        assert_eq!(Formula::new(&given).implication(), None);
+    }
+
+    #[test]
     fn words_that_spell_nothing_end_early() {
         assert_eq!(written(&[]), "");
+        for words in [&[25][..], &[25, 1], &[25, 23, 16]] {
+            let (given, wanted) = Formula::new(words).implication().unwrap();
+            assert_eq!((given.words(), wanted.words()), (&words[1..], &[][..]));
+        }
         assert_eq!(written(&[25, 16]), "true implies ");
         assert_eq!(written(&[22, 99]), "not ?");
     }

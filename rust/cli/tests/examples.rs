@@ -1,0 +1,146 @@
+//! The examples through the command, against what is stored beside them and
+//! against the second implementation.
+
+mod files;
+
+use std::io::Write;
+use std::process::{Command, Output, Stdio};
+
+use cli::Source;
+use files::{examples, name, text, top};
+
+fn vcgen(arguments: &[&str], input: &str) -> Output {
+    let mut child = Command::new(env!("CARGO_BIN_EXE_vcgen"))
+        .args(arguments)
+        .stdin(Stdio::piped())
+        .stdout(Stdio::piped())
+        .stderr(Stdio::piped())
+        .spawn()
+        .unwrap();
+    child
+        .stdin
+        .take()
+        .unwrap()
+        .write_all(input.as_bytes())
+        .unwrap();
+    child.wait_with_output().unwrap()
+}
+
+fn written(output: &Output) -> (Option<i32>, &str, &str) {
+    let of = |bytes| std::str::from_utf8(bytes).unwrap();
+    (output.status.code(), of(&output.stdout), of(&output.stderr))
+}
+
+#[test]
+fn every_example_gives_what_is_stored_beside_it() {
+    for file in examples() {
+        let expected = text(&file.with_extension("expected"));
+        let status = i32::from(expected.starts_with("refused"));
+        let output = vcgen(&[file.to_str().unwrap()], "");
+        assert_eq!(
+            written(&output),
+            (Some(status), &expected[..], ""),
+            "{}",
+            name(&file)
+        );
+    }
+}
+
+#[test]
+fn the_words_are_those_of_the_second_implementation() {
+    for file in examples() {
+        let rows = text(&file);
+        let source = Source::read(&rows).unwrap();
+        let bytes: Vec<u8> = source
+            .words
+            .iter()
+            .flat_map(|word| word.to_le_bytes())
+            .collect();
+        let expected = String::from_utf8(reference::program_output(&bytes)).unwrap();
+        assert!(
+            !expected.starts_with("refused 12"),
+            "{} is too long",
+            name(&file)
+        );
+        let output = vcgen(&["--words", "-"], &rows);
+        assert_eq!(written(&output).1, expected, "{}", name(&file));
+    }
+}
+
+#[test]
+fn every_label_and_every_row_of_an_example_is_there_to_be_read() {
+    for file in examples() {
+        for row in Source::read(&text(&file)).unwrap().rows {
+            let place = format!("{}, line {}", name(&file), row.line);
+            assert!(row.text.contains(':') && !row.comment.is_empty(), "{place}");
+        }
+    }
+}
+
+#[test]
+fn the_list_of_examples_names_each() {
+    let list = text(&top().join("examples/README.md"));
+    for file in examples() {
+        let link = format!("[{0}]({0}.rows)", name(&file));
+        assert!(list.contains(&link), "{link}");
+    }
+}
+
+/// README.md shows the countdown in full.
+#[test]
+fn the_readme_shows_an_example_as_it_is() {
+    let readme = text(&top().join("README.md"));
+    for end in ["rows", "expected"] {
+        let shown = text(&top().join("examples/countdown").with_extension(end));
+        let indented = |line: &str| format!("    {line}").trim_end().to_string() + "\n";
+        let shown: String = shown.lines().map(indented).collect();
+        assert!(readme.contains(&shown), "countdown.{end}");
+    }
+}
+
+#[test]
+fn what_cannot_be_read_has_status_2_and_its_line() {
+    let faults = [
+        (
+            "1 0 0 0\n1 0 0\n",
+            "standard input:2: a row is four numbers",
+        ),
+        (
+            "# x\n\n1 0 x 0\n",
+            "standard input:3: `x` is no whole number",
+        ),
+        ("1: 1 0 0 0\n", "standard input:1: row 0 is labelled `1`"),
+        ("v0 x\n", "standard input:1: a line that names a variable"),
+    ];
+    for (input, told) in faults {
+        let output = vcgen(&["-"], input);
+        let (status, out, error) = written(&output);
+        assert_eq!((status, out), (Some(2), ""));
+        assert!(error.starts_with(told), "{error}");
+    }
+    let output = vcgen(&["no such file"], "");
+    let (status, out, error) = written(&output);
+    assert_eq!((status, out), (Some(2), ""));
+    assert!(error.starts_with("no such file: "), "{error}");
+}
+
+#[test]
+fn wrong_usage_shows_the_help() {
+    for arguments in [&[][..], &["--word", "-"], &["a", "b"]] {
+        let output = vcgen(arguments, "");
+        assert_eq!(written(&output), (Some(2), "", cli::HELP));
+    }
+    let output = vcgen(&["--help"], "");
+    assert_eq!(written(&output), (Some(0), cli::HELP, ""));
+}
+
+#[test]
+fn no_rows_and_too_many_are_refused_with_1() {
+    let told = "refused 1 0\na table has 1 to 2,048 rows of four words\n";
+    for input in [String::new(), "16 0 0 0\n".repeat(2_049)] {
+        let output = vcgen(&["-"], &input);
+        assert_eq!(written(&output), (Some(1), told, ""));
+    }
+    let output = vcgen(&["-"], &"16 0 0 0\n".repeat(2_048));
+    assert!(written(&output).1.starts_with("refused 7 2047\n"));
+}

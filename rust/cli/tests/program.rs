@@ -1,0 +1,70 @@
+//! Any table, written as a file of rows, against the program of the second
+//! implementation.
+
+use cli::Source;
+use fuzz::mutate::change_words;
+use fuzz::scripts::{script_words, Shape};
+use fuzz::{seed_from_environment, Prng};
+
+const TABLES: usize = 4_000;
+
+/// A table with a label on every second row.
+fn file_of(words: &[i32]) -> String {
+    let row_text = |(row, words): (usize, &[i32])| {
+        let numbers = words
+            .iter()
+            .map(i32::to_string)
+            .collect::<Vec<_>>()
+            .join(" ");
+        if row % 2 == 0 {
+            format!("{row}: {numbers}\n")
+        } else {
+            format!("{numbers}\n")
+        }
+    };
+    words.chunks(4).enumerate().map(row_text).collect()
+}
+
+fn any_table(random: &mut Prng) -> Vec<i32> {
+    let shape = Shape {
+        rows: 4 + random.below(60),
+        ..match random.below(2) {
+            0 => Shape::any(random),
+            _ => Shape::any_faulty(random),
+        }
+    };
+    let mut words = script_words(random, shape);
+    if random.once_in(3) {
+        change_words(&mut words, random);
+    }
+    words
+}
+
+#[test]
+fn any_file_gives_the_output_of_the_program() {
+    let mut random = Prng::new(seed_from_environment());
+    let [mut planned, mut refused] = [0, 0];
+    for _ in 0..TABLES {
+        let words = any_table(&mut random);
+        let source = Source::read(&file_of(&words)).unwrap();
+        assert_eq!(source.words, words);
+        let bytes: Vec<u8> = words.iter().flat_map(|word| word.to_le_bytes()).collect();
+        let expected = String::from_utf8(reference::program_output(&bytes)).unwrap();
+        let answer = leqwarti::plan(&words);
+        // The program has room 512 only.
+        if expected == "refused 12 0\n" && answer.is_ok() {
+            continue;
+        }
+        assert_eq!(cli::program_text(&answer), expected, "{words:?}");
+        assert_eq!(
+            cli::text(&answer, &source).lines().next(),
+            expected.lines().next()
+        );
+        match answer {
+            Ok(_) => planned += 1,
+            Err(_) => refused += 1,
+        }
+    }
+    println!("{planned} planned, {refused} refused");
+    assert!(planned > TABLES / 8 && refused > TABLES / 8);
+}
