@@ -167,20 +167,20 @@ fn compare_table(
         conditions: outcome.conditions,
         words: outcome.words,
     };
-    let (mut list, mut scratch) = (junk(list_len), junk(scratch_len));
-    let found = subject.generate(words, &mut list, &mut scratch);
+    let (mut list, mut scratch) = (Lent::new(list_len), Lent::new(scratch_len));
+    let found = subject.generate(words, list.words(), scratch.words());
     same("generate", expected, found)?;
-    same_words("generate, list", &outcome.list, &list)?;
-    same_words("generate, scratch", &outcome.scratch, &scratch)?;
+    list.same("generate, list", &outcome.list)?;
+    scratch.same("generate, scratch", &outcome.scratch)?;
 
     let (records, rest) = words.as_chunks::<4>();
     if rest.is_empty() {
-        let (mut list, mut scratch) = (junk(list_len), junk(scratch_len));
-        let found = subject.generate_from_records(records, &mut list, &mut scratch);
+        let (mut list, mut scratch) = (Lent::new(list_len), Lent::new(scratch_len));
+        let found = subject.generate_from_records(records, list.words(), scratch.words());
         if let Some(found) = found {
             same("generate from records", expected, found)?;
-            same_words("generate from records, list", &outcome.list, &list)?;
-            same_words("generate from records, scratch", &outcome.scratch, &scratch)?;
+            list.same("generate from records, list", &outcome.list)?;
+            scratch.same("generate from records, scratch", &outcome.scratch)?;
         }
     }
     if outcome.number == 0 {
@@ -193,6 +193,37 @@ fn number_of(verdict: reference::Verdict) -> u8 {
     match verdict {
         reference::Verdict::Accepted => 0,
         reference::Verdict::Refused { number, .. } => number,
+    }
+}
+
+/// A buffer to be lent, between words that are not.
+struct Lent {
+    all: Vec<i32>,
+}
+
+const MARGIN: usize = 16;
+
+impl Lent {
+    fn new(length: usize) -> Lent {
+        Lent {
+            all: junk(length + 2 * MARGIN),
+        }
+    }
+
+    fn words(&mut self) -> &mut [i32] {
+        let end = self.all.len() - MARGIN;
+        &mut self.all[MARGIN..end]
+    }
+
+    /// The words as expected, and the margins as they were.
+    fn same(&mut self, name: &str, expected: &[i32]) -> Result<(), String> {
+        same_words(name, expected, self.words())?;
+        let before = junk(self.all.len());
+        let end = self.all.len() - MARGIN;
+        let below = (&before[..MARGIN], &self.all[..MARGIN]);
+        let above = (&before[end..], &self.all[end..]);
+        same_words(&format!("{name}, words below it"), below.0, below.1)?;
+        same_words(&format!("{name}, words above it"), above.0, above.1)
     }
 }
 
