@@ -3,6 +3,8 @@ mod Opening
 mod Parts
 mod Joining
 mod Reading
+mod Waiting
+mod NodeKinds
 -- the line that ends at a place
 mod Tests
 mod Trailers
