@@ -8,7 +8,7 @@ mod NodeKinds
 -- the line that ends at a place
 mod Tests
 mod Trailers
-mod Part
+pub mod Part
 mod Stepping
 pub mod Places
 -- the whole list and the line at an index
