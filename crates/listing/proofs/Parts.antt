@@ -52,7 +52,8 @@ three : {A B C D : Type 0} (o : Option (Read A)) (p : List ℤ → Option (Read 
 three none p q f = refl
 three (some a) p q f = two (p (a .rest)) q (f a)
 
-numbered : {A : Type 0} (n : ℕ) (a : A) (right : Bool) (ws : List ℤ) → rest-of (guarded right (past-number a ws)) ≡ expression-parts n (number right) ws
+numbered : {A : Type 0} (n : ℕ) (a : A) (right : Bool) (ws : List ℤ)
+    → rest-of (guarded right (past-number a ws)) ≡ expression-parts n (number right) ws
 numbered n a true [] = refl
 numbered n a true (w ∷ ws) = refl
 numbered n a false ws = refl

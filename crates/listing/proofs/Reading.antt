@@ -79,8 +79,8 @@ is-formula F.Not = true
 is-formula F.Junction = true
 is-formula F.Nothing = false
 
-stands : {K : Type 0} {node : Row → K} (opens : K → Bool) → opens (node Row.Unknown) ≡ false → {ws : List ℤ} {at : ℕ} {k v : K} → Opens node ws at k
-    → k ≡ v → opens v ≡ true → at < length ws
+stands : {K : Type 0} {node : Row → K} (opens : K → Bool) → opens (node Row.Unknown) ≡ false → {ws : List ℤ} {at : ℕ} {k v : K}
+    → Opens node ws at k → k ≡ v → opens v ≡ true → at < length ws
 stands {node = node} opens z {ws} {at} o q t = go (ltb at (length ws)) refl
   where
     go : (b : Bool) → ltb at (length ws) ≡ b → at < length ws
@@ -91,7 +91,8 @@ stands {node = node} opens z {ws} {at} o q t = go (ltb at (length ws)) refl
         let x : _≡_ {A = ℕ} 0 1 = cc in
         absurd (omega linear)
 
-pub expression-stands : {ws : List ℤ} {at : ℕ} {k v : ExpressionNode} → Opens expression-node ws at k → k ≡ v → is-expression v ≡ true → at < length ws
+pub expression-stands : {ws : List ℤ} {at : ℕ} {k v : ExpressionNode} → Opens expression-node ws at k → k ≡ v → is-expression v ≡ true
+    → at < length ws
 expression-stands o q t = stands is-expression refl o q t
 
 pub formula-stands : {ws : List ℤ} {at : ℕ} {k v : FormulaNode} → Opens formula-node ws at k → k ≡ v → is-formula v ≡ true → at < length ws

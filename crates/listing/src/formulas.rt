@@ -136,9 +136,7 @@ pub fn expression_end(words: &[i32], first: usize) -> usize
                 }
                 waiting = waiting - 1;
             }
-            ExpressionNode::Negate => {
-                at = at + 1;
-            }
+            ExpressionNode::Negate => at = at + 1,
             ExpressionNode::Arithmetic => {
                 at = at + 1;
                 waiting = waiting + 1;
@@ -147,9 +145,7 @@ pub fn expression_end(words: &[i32], first: usize) -> usize
                 at = formula_end(&words[0..words.len()], at + 1);
                 waiting = waiting + 1;
             }
-            ExpressionNode::Nothing => {
-                return words.len() + 1;
-            }
+            ExpressionNode::Nothing => return words.len() + 1,
         }
     }
 }
@@ -179,16 +175,12 @@ pub fn formula_end(words: &[i32], first: usize) -> usize
                 }
                 waiting = waiting - 1;
             }
-            FormulaNode::Not => {
-                at = at + 1;
-            }
+            FormulaNode::Not => at = at + 1,
             FormulaNode::Junction => {
                 at = at + 1;
                 waiting = waiting + 1;
             }
-            FormulaNode::Nothing => {
-                return words.len() + 1;
-            }
+            FormulaNode::Nothing => return words.len() + 1,
         }
     }
 }
