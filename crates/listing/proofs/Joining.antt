@@ -9,9 +9,11 @@ use lib.IntN.{ℤ}
 use lib.ListN.{length, drop, length-drop, drop-of-length-le}
 use lib.Seq.{drop-drop}
 use Rattle.script.specs.Listing.{_>>=_}
-use Rattle.listing.specs.declared.formulas.Node.{Node}
-use Rattle.listing.specs.declared.formulas.Node.the-variants as Node
-use Rattle.listing.specs.Nodes.{node-at, Opens}
+use Rattle.script.specs.declared.Row.{Row}
+use Rattle.script.specs.declared.Row.the-variants as Row
+use Rattle.listing.specs.declared.formulas.ExpressionNode.{ExpressionNode}
+use Rattle.listing.specs.declared.formulas.FormulaNode.{FormulaNode}
+use Rattle.listing.specs.Nodes.{expression-node, formula-node, first-row, Opens}
 use Rattle.listing.specs.Ends.{Ends, nowhere, here, Reads, place-of, Expression-ends, Formula-ends}
 use Rattle.listing.specs.Ends.{after-expression, after-formula, expression-end, formula-end}
 use Rattle.listing.proofs.Parts.{expression-parts, formula-parts, expression-next, formula-next}
@@ -51,16 +53,16 @@ no-formula n = refl
 
 -- ---- a node by its first word
 
-module _ (parts : ℕ → Node → List ℤ → Option (List ℤ)) (after : ℕ → List ℤ → Option (List ℤ))
-    (nothing : (n : ℕ) (us : List ℤ) → parts n Node.Nothing us ≡ none) (absent : (n : ℕ) → after n [] ≡ none)
-    (step : (n : ℕ) (us : List ℤ) → after (suc n) us ≡ parts n (node-at us) (drop 1 us)) (ws : List ℤ) (at e : ℕ) where
-  reads-of : (n : ℕ) (us : List ℤ) → length us ≤ n → ((m : ℕ) → length us ≤ suc m → Ends ws at e (parts m (node-at us) (drop 1 us)))
+module _ {K : Type 0} (node : Row → K) (parts : ℕ → K → List ℤ → Option (List ℤ)) (after : ℕ → List ℤ → Option (List ℤ))
+    (nothing : (n : ℕ) (us : List ℤ) → parts n (node Row.Unknown) us ≡ none) (absent : (n : ℕ) → after n [] ≡ none)
+    (step : (n : ℕ) (us : List ℤ) → after (suc n) us ≡ parts n (node (first-row us)) (drop 1 us)) (ws : List ℤ) (at e : ℕ) where
+  reads-of : (n : ℕ) (us : List ℤ) → length us ≤ n → ((m : ℕ) → length us ≤ suc m → Ends ws at e (parts m (node (first-row us)) (drop 1 us)))
       → Ends ws at e (after n us)
   reads-of zero [] h f = rw absent (rw nothing at (f zero (omega linear)))
   reads-of zero (w ∷ us) h f = absurd (let l : suc (length us) ≤ 0 = h in omega linear)
   reads-of (suc n) us h f = rw step (f n h)
 
-  by-node : {k : Node} → node-at (drop at ws) ≡ k → ((n : ℕ) → length ws ≤ n + (at + 1) → Ends ws at e (parts n k (drop (at + 1) ws)))
+  by-node : {k : K} → node (first-row (drop at ws)) ≡ k → ((n : ℕ) → length ws ≤ n + (at + 1) → Ends ws at e (parts n k (drop (at + 1) ws)))
       → Reads after ws at e
   by-node q f n h =
       reads-of n (drop at ws) (rw length-drop (omega linear)) λ m l. rw (q, drop-drop 1 at ws) (f m (omega (linear, length-drop at ws)))
@@ -81,10 +83,13 @@ formula-ends ws at e f = record { is = place-is (f (length ws) (omega linear)); 
 
 -- ---- by the node, under every bound
 
-module _ {ws : List ℤ} {at : ℕ} {k v : Node} (o : Opens ws at k) (q : k ≡ v) (e : ℕ) where
+module _ {ws : List ℤ} {at : ℕ} {k v : ExpressionNode} (o : Opens expression-node ws at k) (q : k ≡ v) (e : ℕ) where
   pub expression-node-ends : ((n : ℕ) → length ws ≤ n + (at + 1) → Ends ws at e (expression-parts n v (drop (at + 1) ws))) → Expression-ends ws at e
   expression-node-ends f =
-      expression-ends ws at e (by-node expression-parts after-expression (λ n us. refl) no-expression expression-next ws at e (sym (o .is) ∙ q) f)
+      expression-ends ws at e
+      (by-node expression-node expression-parts after-expression (λ n us. refl) no-expression expression-next ws at e (sym (o .is) ∙ q) f)
 
+module _ {ws : List ℤ} {at : ℕ} {k v : FormulaNode} (o : Opens formula-node ws at k) (q : k ≡ v) (e : ℕ) where
   pub formula-node-ends : ((n : ℕ) → length ws ≤ n + (at + 1) → Ends ws at e (formula-parts n v (drop (at + 1) ws))) → Formula-ends ws at e
-  formula-node-ends f = formula-ends ws at e (by-node formula-parts after-formula (λ n us. refl) no-formula formula-next ws at e (sym (o .is) ∙ q) f)
+  formula-node-ends f =
+      formula-ends ws at e (by-node formula-node formula-parts after-formula (λ n us. refl) no-formula formula-next ws at e (sym (o .is) ∙ q) f)

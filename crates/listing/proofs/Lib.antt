@@ -3,10 +3,12 @@ mod Opening
 mod Parts
 mod Joining
 mod Reading
+mod Waiting
+mod NodeKinds
 -- the line that ends at a place
 mod Tests
 mod Trailers
-mod Part
+pub mod Part
 mod Stepping
 pub mod Places
 -- the whole list and the line at an index

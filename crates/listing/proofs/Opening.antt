@@ -9,23 +9,22 @@ use mathlib.Core.List.{List}
 use lib.ListN.{length, drop, getD, drop-of-length-le}
 use lib.Seq.{drop-cons, getD-drop}
 use Rattle.script.specs.declared.Row.{Row}
+use Rattle.script.specs.declared.Row.the-variants as Row
 use Rattle.script.specs.Rows.{field-number, row-of}
-use Rattle.listing.specs.declared.formulas.Node.{Node}
-use Rattle.listing.specs.declared.formulas.Node.the-variants as Node
-use Rattle.listing.specs.Nodes.{node-of, node-at, Opens}
+use Rattle.listing.specs.Nodes.{first-row, Opens}
 use Rattle.listing.specs.Ends.{nowhere, here, Number-ends}
 
 module _ (ws : List ℤ) (at : ℕ) (l : at < length ws) where
-  pub opened : {n : ℕ} {x y : ℤ} {w : Row} {k : Node} → n ≡ field-number x → x ≡ getD ws at (pos 0) → y ≡ getD ws (at + 1) (pos 0)
-      → w ≡ row-of n y (pos 0) (pos 0) → k ≡ node-of w → Opens ws at k
-  opened hn hx hy hw hk = record { is = rw (hk, hw, hn, hx, hy, add-one, drop-cons ws at (pos 0) l, getD-drop, add-zero) }
+  pub opened : {K : Type 0} {node : Row → K} {n : ℕ} {x : ℤ} {k : K} → n ≡ field-number x → x ≡ getD ws at (pos 0)
+      → k ≡ node (row-of n (getD ws (at + 1) (pos 0)) (pos 0) (pos 0)) → Opens node ws at k
+  opened hn hx hk = record { is = rw (hk, hn, hx, add-one, drop-cons ws at (pos 0) l, getD-drop, add-zero) }
 
   pub number-inside : Number-ends ws at (at + 1)
   number-inside = rw (drop-cons ws at (pos 0) l) (here (ap (λ (n : ℕ). drop n ws) (sym (add-one at))) (omega linear) (omega linear))
 
 module _ (ws : List ℤ) (at : ℕ) (l : length ws ≤ at) where
-  pub closed : Opens ws at Node.Nothing
-  closed = record { is = sym (ap node-at (drop-of-length-le ws l)) }
+  pub closed : {K : Type 0} (node : Row → K) → Opens node ws at (node Row.Unknown)
+  closed node = record { is = sym (ap (λ (us : List ℤ). node (first-row us)) (drop-of-length-le ws l)) }
 
   pub number-outside : Number-ends ws at (length ws + 1)
   number-outside = rw (drop-of-length-le ws l) (nowhere (add-one (length ws)))

@@ -49,17 +49,17 @@ refused ws (suc e) h = go (line-before ws (suc e)) refl h
 -- ---- the steps of the walk, in the order of the code
 
 module _ (ws : List ℤ) (i : ℕ) (kept : Line) (e : ℕ) where
-  walk-torn : (n : ℕ) → line-before ws e ≡ none → walk ws i kept (suc n) e ≡ no-line 20
+  walk-malformed : (n : ℕ) → line-before ws e ≡ none → walk ws i kept (suc n) e ≡ no-line 20
   unfolding walk
-  walk-torn n q = rw q
+  walk-malformed n q = rw q
 
   walk-turn : (n : ℕ) (f : Found) → line-before ws e ≡ some f → walk ws i kept (suc n) e ≡ walk ws i (cond (eqb n i) (line f) kept) n (f .start)
   unfolding walk
   walk-turn n f q = rw q
 
-  pub torn-step : (n : ℕ) {l : Line} → 0 < n → l ≡ step-back ws e → (l .number ≡ 0 → ⊥) → walk ws i kept n e ≡ no-line 20
-  torn-step zero h q z = absurd (omega linear)
-  torn-step (suc n) h q z = walk-torn n (refused ws e λ y. z (ap (λ (l : Line). l .number) q ∙ y))
+  pub malformed-step : (n : ℕ) {l : Line} → 0 < n → l ≡ step-back ws e → (l .number ≡ 0 → ⊥) → walk ws i kept n e ≡ no-line 20
+  malformed-step zero h q z = absurd (omega linear)
+  malformed-step (suc n) h q z = walk-malformed n (refused ws e λ y. z (ap (λ (l : Line). l .number) q ∙ y))
 
   pub step : (n : ℕ) {l : Line} → 0 < n → l ≡ step-back ws e → l .number ≡ 0
       → walk ws i kept n e ≡ walk ws i (cond (eqb (n - 1) i) l kept) (n - 1) (l .start)

@@ -1,29 +1,34 @@
-// Where an expression or a formula ends: the node that a word opens, and the two readers, which call each other.
+// Where an expression or a formula ends: what a word opens, and the two readers, which call each other.
 
-use script::ExpressionRow;
-use script::FormulaRow;
-use script::Row;
 ghost use mathlib.Core.Path.{_≡_};
-ghost use lib.IntN.{pos};
+ghost use lib.IntN.{ℤ, pos};
+ghost use lib.Dec.{ltb};
 ghost use lib.ListN.{getD};
+ghost use Rattle.script.specs.Rows.{field-number, row-of};
 ghost use Rattle.script.specs.Listing.{spelled};
-ghost use Rattle.listing.specs.Nodes.{number, expression-node, formula-node, node-of, Opens};
+ghost use Rattle.listing.specs.Nodes.{number, expression-node, formula-node, Opens};
 ghost use Rattle.listing.specs.Ends.{Number-ends, Expression-ends, Formula-ends};
 ghost use Rattle.listing.specs.Lines.{is-some};
 
-// What a word opens, with what it takes to read on.
-pub enum Node {
+// What a word opens as an expression, with what it takes to read on.
+pub enum ExpressionNode {
     // a constant, a variable or a mark, and its number
     Number,
     Negate,
     Arithmetic,
     Choose,
+    // no expression
+    Nothing,
+}
+
+// What a word opens as a formula.
+pub enum FormulaNode {
     // true or false
     Truth,
     Comparison,
     Not,
     Junction,
-    // no expression and no formula
+    // no formula
     Nothing,
 }
 
@@ -35,61 +40,70 @@ fn word_at(words: &[i32], at: usize) -> i32
 }
 
 // A number, where it is in range.
-fn number(right: bool) -> Node
+fn number(right: bool) -> ExpressionNode
     ensures { λ r. ⌜ r ≡ number right ⌝ }
 {
-    if right { Node::Number } else { Node::Nothing }
-}
-
-fn expression_node(row: ExpressionRow) -> Node
-    ensures { λ r. ⌜ r ≡ expression-node row ⌝ }
-{
-    match row {
-        ExpressionRow::Constant(_) => Node::Number,
-        ExpressionRow::Variable(v) => number(v.0 < 256),
-        ExpressionRow::Arithmetic(_, _, _) => Node::Arithmetic,
-        ExpressionRow::Negate(_) => Node::Negate,
-        ExpressionRow::Mark(m) => number(m.0 < 2048),
-        ExpressionRow::Choose(_, _, _) => Node::Choose,
+    if right {
+        ExpressionNode::Number
+    } else {
+        ExpressionNode::Nothing
     }
 }
 
-fn formula_node(row: FormulaRow) -> Node
-    ensures { λ r. ⌜ r ≡ formula-node row ⌝ }
+// The number at a place, where it is below a limit.
+fn number_below(words: &[i32], at: usize, limit: usize) -> ExpressionNode
+    ensures { λ r. ⌜ r ≡ number (ltb (field-number (getD (now (words .entry)) at (pos 0))) limit) ⌝ }
 {
-    match row {
-        FormulaRow::True => Node::Truth,
-        FormulaRow::False => Node::Truth,
-        FormulaRow::Comparison(_, _, _) => Node::Comparison,
-        FormulaRow::Not(_) => Node::Not,
-        FormulaRow::Junction(_, _, _) => Node::Junction,
+    number(script::field_number(word_at(words, at)) < limit)
+}
+
+// What a kind opens as an expression, before the words from a place on.
+fn expression_node_of(kind: usize, words: &[i32], at: usize) -> ExpressionNode
+    ensures { λ r. ⌜ r ≡ expression-node (row-of kind (getD (now (words .entry)) at (pos 0)) (pos 0) (pos 0)) ⌝ }
+{
+    match kind {
+        1 => ExpressionNode::Number,
+        2 => number_below(words, at, 256),
+        3..=7 => ExpressionNode::Arithmetic,
+        8 => ExpressionNode::Negate,
+        9 => number_below(words, at, 2048),
+        10 => ExpressionNode::Choose,
+        _ => ExpressionNode::Nothing,
     }
 }
 
-// The node of a word that was taken apart as a row.
-fn node_of(row: Row) -> Node
-    ensures { λ r. ⌜ r ≡ node-of row ⌝ }
+// What a kind opens as a formula.
+fn formula_node_of(kind: usize) -> FormulaNode
+    ensures { λ r. ⌜ ((next : ℤ) → r ≡ formula-node (row-of kind next (pos 0) (pos 0))) ⌝ }
 {
-    match row {
-        Row::Expression(e) => expression_node(e),
-        Row::Formula(f) => formula_node(f),
-        Row::Statement(_) => Node::Nothing,
-        Row::Note(_, _) => Node::Nothing,
-        Row::Script(_, _, _) => Node::Nothing,
-        Row::Unknown => Node::Nothing,
+    match kind {
+        16..=17 => FormulaNode::Truth,
+        18..=21 => FormulaNode::Comparison,
+        22 => FormulaNode::Not,
+        23..=25 => FormulaNode::Junction,
+        _ => FormulaNode::Nothing,
     }
 }
 
-// The node that the word at a place opens.
-fn node_at(words: &[i32], at: usize) -> Node
-    ensures { λ r. ⌜ Opens (now (words .entry)) at r ⌝ }
+// What the word at a place opens as an expression.
+fn expression_node_at(words: &[i32], at: usize) -> ExpressionNode
+    ensures { λ r. ⌜ Opens expression-node (now (words .entry)) at r ⌝ }
 {
     if at < words.len() {
-        let kind = script::field_number(words[at]);
-        let next = word_at(words, at + 1);
-        node_of(script::row_of(kind, next, 0, 0))
+        expression_node_of(script::field_number(words[at]), words, at + 1)
     } else {
-        Node::Nothing
+        ExpressionNode::Nothing
+    }
+}
+
+// What the word at a place opens as a formula.
+fn formula_node_at(words: &[i32], at: usize) -> FormulaNode
+    ensures { λ r. ⌜ Opens formula-node (now (words .entry)) at r ⌝ }
+{
+    if at < words.len() {
+        formula_node_of(script::field_number(words[at]))
+    } else {
+        FormulaNode::Nothing
     }
 }
 
@@ -105,31 +119,69 @@ fn number_end(words: &[i32], at: usize) -> usize
 }
 
 // Where the expression that begins at a place ends; where there is none, one word past the end of all. No expression
-// begins there, so what follows a part that is missing is missing too.
-pub fn expression_end(words: &[i32], at: usize) -> usize
-    ensures { λ r. ⌜ Expression-ends (now (words .entry)) at r ⌝ }
+// begins there, so what follows a part that is missing is missing too. Parts that come after the present one wait. The words
+// are lent on as a part of themselves: a slice that is passed on as it came is copied whole at each entry, which is slow.
+pub fn expression_end(words: &[i32], first: usize) -> usize
+    ensures { λ r. ⌜ Expression-ends (now (words .entry)) first r ⌝ }
 {
-    let node = node_at(words, at);
-    match node {
-        Node::Number => number_end(words, at + 1),
-        Node::Negate => expression_end(words, at + 1),
-        Node::Arithmetic => expression_end(words, expression_end(words, at + 1)),
-        Node::Choose => { expression_end(words, expression_end(words, formula_end(words, at + 1))) }
-        _ => words.len() + 1,
+    let mut at = first;
+    let mut waiting: usize = 0;
+    loop {
+        let node = expression_node_at(words, at);
+        match node {
+            ExpressionNode::Number => {
+                at = number_end(words, at + 1);
+                if waiting == 0 {
+                    return at;
+                }
+                waiting = waiting - 1;
+            }
+            ExpressionNode::Negate => at = at + 1,
+            ExpressionNode::Arithmetic => {
+                at = at + 1;
+                waiting = waiting + 1;
+            }
+            ExpressionNode::Choose => {
+                at = formula_end(&words[0..words.len()], at + 1);
+                waiting = waiting + 1;
+            }
+            ExpressionNode::Nothing => return words.len() + 1,
+        }
     }
 }
 
-// Where the formula that begins at a place ends; where there is none, one word past the end of all.
-pub fn formula_end(words: &[i32], at: usize) -> usize
-    ensures { λ r. ⌜ Formula-ends (now (words .entry)) at r ⌝ }
+// Where the formula that begins at a place ends; where there is none, one word past the end of all. Parts that come after
+// the present one wait.
+pub fn formula_end(words: &[i32], first: usize) -> usize
+    ensures { λ r. ⌜ Formula-ends (now (words .entry)) first r ⌝ }
 {
-    let node = node_at(words, at);
-    match node {
-        Node::Truth => at + 1,
-        Node::Comparison => expression_end(words, expression_end(words, at + 1)),
-        Node::Not => formula_end(words, at + 1),
-        Node::Junction => formula_end(words, formula_end(words, at + 1)),
-        _ => words.len() + 1,
+    let all = &words[0..words.len()];
+    let mut at = first;
+    let mut waiting: usize = 0;
+    loop {
+        let node = formula_node_at(all, at);
+        match node {
+            FormulaNode::Truth => {
+                at = at + 1;
+                if waiting == 0 {
+                    return at;
+                }
+                waiting = waiting - 1;
+            }
+            FormulaNode::Comparison => {
+                at = expression_end(all, expression_end(all, at + 1));
+                if waiting == 0 {
+                    return at;
+                }
+                waiting = waiting - 1;
+            }
+            FormulaNode::Not => at = at + 1,
+            FormulaNode::Junction => {
+                at = at + 1;
+                waiting = waiting + 1;
+            }
+            FormulaNode::Nothing => return words.len() + 1,
+        }
     }
 }
 

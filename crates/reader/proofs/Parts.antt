@@ -1,18 +1,12 @@
 -- A part between two places, each of them cut to what there is, is the part between the two. Assumes nothing.
 use Prim.Native.Nat.{ℕ, zero, suc, _-_, min}
-use native.Mathlib.Nat.{zero-min, min-zero, suc-min-suc, sub-zero, zero-sub, suc-sub-suc}
+use native.Mathlib.Nat.{zero-min, min-zero, suc-min-suc}
 use mathlib.Core.Path.{_≡_, sym, ap, _∙_}
 use mathlib.Core.List.{List, [], _∷_}
 use lib.IntN.{ℤ}
 use lib.ListN.{length, take, drop, length-take}
-use lib.Seq.{slice, take-nil}
-
--- a part as the code takes it
-taken-part : (s e : ℕ) (l : List ℤ) → take (e - s) (drop s l) ≡ slice s e l
-taken-part zero e l = rw sub-zero
-taken-part (suc s) zero l = rw zero-sub
-taken-part (suc s) (suc e) [] = rw take-nil
-taken-part (suc s) (suc e) (x ∷ xs) = rw suc-sub-suc (taken-part s e xs)
+use lib.Seq.{slice}
+use Rattle.listing.proofs.Part.{part-is as taken-is}
 
 take-least : (n : ℕ) (l : List ℤ) → take (min n (length l)) l ≡ take n l
 take-least zero l = ap (λ (k : ℕ). take k l) (zero-min (length l))
@@ -28,4 +22,4 @@ pub part-is : (a b s e : ℕ) (l : List ℤ) → e ≡ min b (length l) → s �
 part-is a b s e l end start =
     let cut : take e l ≡ take b l = ap (λ (k : ℕ). take k l) end ∙ take-least b l in
     let front : s ≡ min a (length (take b l)) = start ∙ ap (min a) (end ∙ sym (length-take b l)) in
-    taken-part s e l ∙ ap (λ (r : List ℤ). drop s r) cut ∙ ap (λ (k : ℕ). drop k (take b l)) front ∙ drop-least a (take b l)
+    taken-is s e l ∙ ap (λ (r : List ℤ). drop s r) cut ∙ ap (λ (k : ℕ). drop k (take b l)) front ∙ drop-least a (take b l)

@@ -11,7 +11,9 @@ claimed-requires : tie.Need-claimed-requires
 claimed-requires c κs = search needs
 
 returns : tie.Need-returns
-returns c = count-is (c .before .before .before .args .words .now) (c .before .before .is-list .ensures) (c .before .if1 .taken) (c .claimed .ensures)
+returns c =
+    let test = c .before .before in
+    count-is (test .before .args .words .now) (test .is-list .ensures) (c .before .if1 .taken) (c .claimed .ensures)
 
 returns-2 : tie.Need-returns-2
 returns-2 c = no-count (c .before .before .args .words .now) (c .before .is-list .ensures) (c .if1 .left)

@@ -6,7 +6,7 @@ use Prim.Native.Nat.{_-_}
 use mathlib.Core.Path.{_≡_, sym, ap, _∙_}
 use Rattle.script.specs.declared.Line.{Line}
 use Rattle.script.specs.Listing.{no-line}
-use Rattle.listing.proofs.Walking.{walk, walk-finds, step, torn-step, all-walked, front-left}
+use Rattle.listing.proofs.Walking.{walk, walk-finds, step, malformed-step, all-walked, front-left}
 use Rattle.listing.proofs.walked.Statement.{statement}
 use Rattle.listing.proofs.walked.Tie as tie
 
@@ -36,7 +36,7 @@ returns c =
     let l = turn .before .loop in
     let a = turn .before .before .before .args in
     c .no-line2 .ensures
-    ∙ sym (torn-step (a .words .now) (a .index) (l .kept) (l .end) (l .left) (turn .loop-test .taken)
+    ∙ sym (malformed-step (a .words .now) (a .index) (l .kept) (l .end) (l .left) (turn .loop-test .taken)
     (c .before .before .before .line-before .ensures)
     (c .before .if1 .taken))
     ∙ l .inv ∙ walk-finds (a .words .now) (a .index) (a .count) (a .last)
