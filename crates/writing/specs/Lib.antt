@@ -2,4 +2,5 @@ pub mod Writing
 pub mod Links
 pub mod Paths
 pub mod Nodes
+pub mod Latest
 pub mod Variables

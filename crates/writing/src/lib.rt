@@ -9,7 +9,6 @@ use script::Operator;
 use script::Relation;
 use script::Row;
 use script::RowNumber;
-use script::StatementRow;
 use script::VariableNumber;
 ghost use mathlib.Core.Path.{_≡_};
 ghost use mathlib.Core.List.{[], _∷_};
@@ -19,6 +18,7 @@ ghost use Rattle.script.specs.Words.{op-word, rel-word, conn-word, expr-words};
 ghost use Rattle.writing.specs.Writing.{Wrote};
 ghost use Rattle.writing.specs.Paths.{under, expr-under, formula-under};
 ghost use Rattle.writing.specs.Nodes.{Ready, VariableReady};
+ghost use Rattle.writing.specs.Latest.{latest};
 
 // Where the next word goes, or that there was no room.
 pub enum Place {
@@ -172,6 +172,22 @@ pub fn write_formula(
     }
 }
 
+// How many of the first j assignments of the path are left, going back to the latest that assigns v; 0 where none does.
+fn latest(table: &[i32], v: VariableNumber, path: &[i32], j: usize) -> usize
+    requires { ⌜ VariableReady (now table) (now path) j (v .0) ⌝ }
+    ensures { λ k. ⌜ k ≡ latest (now (table .entry)) (now (path .entry)) (v .0) j ⌝ }
+{
+    let mut k = j;
+    while 0 < k {
+        let r = script::field_number(path[k - 1]);
+        if v.0 == script::field_number(table[4 * r + 1]) {
+            return k;
+        }
+        k -= 1;
+    }
+    0
+}
+
 // Writes what variable v stands for under the first j assignments of the path.
 fn write_variable(
     table: &[i32],
@@ -186,26 +202,12 @@ fn write_variable(
         (expr-words (under (now (table .entry)) (now (path .entry)) j (v .0)))
         p (now (list .exit)) ⌝ }
 {
-    if let Place::Full = at {
-        return Place::Full;
-    }
-    if j == 0 {
+    let k = latest(table, v, path, j);
+    if k == 0 {
         return push_two(list, at, 2, v.0 as i32);
     }
-    let k = j - 1;
-    let row = script::row_at(table, script::field_number(path[k]));
-    if let Row::Statement(x) = row {
-        if let StatementRow::Assign(w, e) = x {
-            if v.0 == w.0 {
-                write_expression(table, e, list, path, k, at)
-            } else {
-                write_variable(table, v, list, path, k, at)
-            }
-        } else {
-            // not reached, here and below: the path holds rows of assignments
-            at
-        }
-    } else {
-        at
-    }
+    let i = k - 1;
+    let r = script::field_number(path[i]);
+    let e = script::field_number(table[4 * r + 2]);
+    write_expression(table, RowNumber(e), list, path, i, at)
 }

@@ -15,6 +15,7 @@ use Rattle.writing.proofs.+write_expression+write_formula+write_variabl
 use Rattle.script.proofs.field_number.Reads as field-number-reads
 use Rattle.script.proofs.row_at.Reads as row-at-reads
 use Rattle.writing.proofs.conn_word.Reads as conn-word-reads
+use Rattle.writing.proofs.latest.Reads as latest-reads
 use Rattle.writing.proofs.op_word.Reads as op-word-reads
 use Rattle.writing.proofs.push.Reads as push-reads
 use Rattle.writing.proofs.push_two.Reads as push-two-reads
@@ -83,14 +84,12 @@ formula-claims t = (
 
 abbrev pub variable-claims : ℕ → variable-lts.Claims
 variable-claims t = (
+  latest-reads.Asked,
+  latest-reads.Learnt,
   push-two-reads.Asked,
   push-two-reads.Learnt,
   field-number-reads.Asked,
   field-number-reads.Learnt,
-  row-at-reads.Asked,
-  row-at-reads.Learnt,
   expression-below t,
   expression.Post,
-  variable-below t,
-  variable.Post,
 )
