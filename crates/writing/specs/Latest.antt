@@ -44,8 +44,8 @@ module _ (t path : List ℤ) (i : ℕ) {r : ℕ} {z : ℤ} (row : r ≡ field-nu
       omega linear
 
   -- the field f of the row
-  pub field-read : (f : ℕ) {n : ℕ} {w : ℤ} → n ≡ field-number w → w ≡ getD t (4 * r + f) (pos 0) → n ≡ field-number (word t (row-on path i) f)
-  field-read f h e = rw (h, e, row, there)
+  pub field-read : (f : ℕ) {n : ℕ} → n ≡ field-number (word t r f) → n ≡ field-number (word t (row-on path i) f)
+  field-read f h = rw (h, row, there)
 
 -- ---- going back, one assignment at a time
 

@@ -1,6 +1,6 @@
 -- What the writer of a variable asks, and what it writes: the variable, where no assignment on the path is to it; else the
 -- value of the latest that is, under the path before that one. Assumes nothing.
-use Prim.Native.Nat.{ℕ, zero, suc, _+_, _-_, _<_}
+use Prim.Native.Nat.{ℕ, _+_, _-_, _<_}
 use mathlib.Core.Path.{_≡_}
 use mathlib.Core.List.{List, [], _∷_}
 use native.Mathlib.Omega.{arith as linear}

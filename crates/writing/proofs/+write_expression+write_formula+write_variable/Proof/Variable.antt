@@ -1,9 +1,8 @@
 -- `writing::write_variable`: no assignment on the path is to the variable, or the latest that is. Assumes nothing.
-use Prim.Native.Nat.{ℕ, _+_, _-_, _*_, _<_}
+use Prim.Native.Nat.{ℕ, _-_, _<_}
 use borrow.Author.Needs.{needs}
 use mathlib.Core.Path.{_≡_}
 use native.Mathlib.Omega.{arith}
-use lib.ListN.{length}
 use mir.Facts.{toZ-ofZ}
 use Rattle.script.specs.Laws.{back}
 use Rattle.writing.specs.Latest.{value-on, row-inside, field-read}
@@ -40,34 +39,30 @@ module _ (t : ℕ) where
   shared-slice-copy-out-field-number : lts.Need-shared-slice-copy-out-field-number (variable-claims t) (variable-at t) reads.Post
   shared-slice-copy-out-field-number c = omega (arith, below c, start c .pre .1 .along)
 
-  -- the row on the path is one of the table
-  inside : (c : lts.After-field-number (variable-claims t) (variable-at t) reads.Post)
-      → 4 * c .field-number .result + 3 < length (start (c .before .before) .args .table .now)
-  inside c =
+  field-requires : lts.Need-field-requires (variable-claims t) (variable-at t) reads.Post
+  field-requires c κs =
       let here = c .before .before in
-      row-inside _ (start here .args .path .now) _ (c .field-number .ensures) (back (c .before .field-number-arg .given)) _
-      (start here .pre .1 .table) (start here .pre .1 .along) (below here)
+      let inside = row-inside _ (start here .args .path .now) _ (c .field-number .ensures) (back (c .before .field-number-arg .given)) in
+      (inside _ (start here .pre .1 .table) (start here .pre .1 .along) (below here), omega arith)
 
-  value : (c : lts.After-field-number2 (variable-claims t) (variable-at t) reads.Post)
-      → let here = c .before .before .before .before in
-      c .field-number2 .result ≡ value-on (start here .args .table .now) (start here .args .path .now) (here .before .latest .result - 1)
+  value : (c : lts.After-field (variable-claims t) (variable-at t) reads.Post)
+      → let here = c .before .before .before in
+      c .field .result ≡ value-on (start here .args .table .now) (start here .args .path .now) (here .before .latest .result - 1)
   value c =
-      let read = c .before .before in
-      let here = read .before .before in
+      let here = c .before .before .before in
       field-read (start here .args .table .now) (start here .args .path .now) (here .before .latest .result - 1)
-      (read .field-number .ensures) (back (read .before .field-number-arg .given)) 2
-      (c .field-number2 .ensures) (back (c .before .field-number-arg2 .given))
+      (c .before .field-number .ensures) (back (c .before .before .field-number-arg .given)) 2 (c .field .ensures)
 
   write-expression-requires : lts.Need-write-expression-requires (variable-claims t) (variable-at t) reads.Post
   write-expression-requires c κs =
-      let here = c .before .before .before .before .before in
+      let here = c .before .before .before .before in
       value-ready _ _ _ _ (start here .pre .1) (here .before .latest .ensures) (here .if1 .left) (value (c .before)) _ (start here .pre .0)
 
   returns-2 : lts.Need-returns-2 (variable-claims t) (variable-at t) reads.Post
   returns-2 c =
       let after-write-expression = c .before in
       let read = after-write-expression .before .before in
-      let here = read .before .before .before .before in
+      let here = read .before .before .before in
       wrote-value _ _ _ _ (start here .pre .1) (here .before .latest .ensures) (here .if1 .left) (value read)
       (after-write-expression .write-expression .ensures)
 
@@ -83,11 +78,7 @@ module _ (t : ℕ) where
       mul-field-number
       shared-slice-copy-out-field-number
       (λ c κs. search needs)
-      (λ c. omega (arith, inside c))
-      (λ c. omega (arith, inside c))
-      (λ c. omega (arith, inside c))
-      (λ c. omega (arith, inside c))
-      (λ c κs. search needs)
+      field-requires
       write-expression-requires
       (λ c. search needs)
       returns-2
