@@ -1,6 +1,8 @@
 // Writing into the list, word after word, up to the first word that has no room; and the expression or formula at a row,
 // under a path of assignments: a variable is written as the latest assignment to it says, under the path before that one.
 // Once there is no room, a call returns at once, so the cost goes by the words written, not by those that would have been.
+// A row is not taken apart: the writers go by the number in its first word, and each arm returns its own answer, since
+// a value that arms share is copied.
 
 use script::RowNumber;
 use script::VariableNumber;
@@ -74,24 +76,29 @@ pub fn write_expression(
     }
     let kind = field(table, r, 0);
     match kind {
-        1 => push_two(list, at, 1, table[4 * r.0 + 1]),
-        2 => write_variable(table, VariableNumber(field(table, r, 1)), list, path, j, at),
+        // a constant
+        1 => return push_two(list, at, 1, table[4 * r.0 + 1]),
+        // a variable
+        2 => return write_variable(table, VariableNumber(field(table, r, 1)), list, path, j, at),
+        // negate
         8 => {
             let p = push(list, at, 8);
-            write_expression(table, RowNumber(field(table, r, 1)), list, path, j, p)
+            return write_expression(table, RowNumber(field(table, r, 1)), list, path, j, p);
         }
-        9 => push_two(list, at, 9, field(table, r, 1) as i32),
+        // a mark
+        9 => return push_two(list, at, 9, field(table, r, 1) as i32),
+        // choose
         10 => {
             let p = push(list, at, 10);
             let q = write_formula(table, RowNumber(field(table, r, 1)), list, path, j, p);
             let s = write_expression(table, RowNumber(field(table, r, 2)), list, path, j, q);
-            write_expression(table, RowNumber(field(table, r, 3)), list, path, j, s)
+            return write_expression(table, RowNumber(field(table, r, 3)), list, path, j, s);
         }
         // an operator
         _ => {
             let p = push(list, at, kind as i32);
             let q = write_expression(table, RowNumber(field(table, r, 1)), list, path, j, p);
-            write_expression(table, RowNumber(field(table, r, 2)), list, path, j, q)
+            return write_expression(table, RowNumber(field(table, r, 2)), list, path, j, q);
         }
     }
 }
@@ -115,22 +122,23 @@ pub fn write_formula(
     }
     let kind = field(table, r, 0);
     match kind {
-        16 => push(list, at, 16),
-        17 => push(list, at, 17),
+        // true and false
+        16 => return push(list, at, 16),
+        17 => return push(list, at, 17),
+        // not
         22 => {
             let p = push(list, at, 22);
-            write_formula(table, RowNumber(field(table, r, 1)), list, path, j, p)
+            return write_formula(table, RowNumber(field(table, r, 1)), list, path, j, p);
         }
+        // a relation, whose parts are expressions, or a connective
         _ => {
             let p = push(list, at, kind as i32);
             if kind < 22 {
-                // a relation
                 let q = write_expression(table, RowNumber(field(table, r, 1)), list, path, j, p);
-                write_expression(table, RowNumber(field(table, r, 2)), list, path, j, q)
+                return write_expression(table, RowNumber(field(table, r, 2)), list, path, j, q);
             } else {
-                // a connective
                 let q = write_formula(table, RowNumber(field(table, r, 1)), list, path, j, p);
-                write_formula(table, RowNumber(field(table, r, 2)), list, path, j, q)
+                return write_formula(table, RowNumber(field(table, r, 2)), list, path, j, q);
             }
         }
     }

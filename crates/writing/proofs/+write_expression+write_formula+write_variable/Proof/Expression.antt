@@ -205,14 +205,22 @@ module _ (t : ℕ) where
       (λ c. search needs)
       (λ c. search needs)
       (λ c κs. search needs)
+      (λ c. search needs)
+      returns-2
       (λ c κs. search needs)
       write-variable-requires
+      (λ c. search needs)
+      returns-3
       (λ c κs. search needs)
       (λ c κs. search needs)
       write-expression-requires
+      (λ c. search needs)
+      returns-4
       (λ c κs. search needs)
       mark-here
       (λ c κs. search needs)
+      (λ c. search needs)
+      returns-5
       (λ c κs. search needs)
       (λ c κs. search needs)
       write-formula-requires
@@ -220,21 +228,13 @@ module _ (t : ℕ) where
       write-expression-requires-2
       (λ c κs. search needs)
       write-expression-requires-3
+      (λ c. search needs)
+      returns-6
       cast-push
       (λ c κs. search needs)
       (λ c κs. search needs)
       write-expression-requires-4
       (λ c κs. search needs)
       write-expression-requires-5
-      (λ c. search needs)
-      returns-2
-      (λ c. search needs)
-      returns-3
-      (λ c. search needs)
-      returns-4
-      (λ c. search needs)
-      returns-5
-      (λ c. search needs)
-      returns-6
       (λ c. search needs)
       returns-7

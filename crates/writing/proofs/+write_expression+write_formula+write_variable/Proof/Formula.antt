@@ -168,27 +168,27 @@ module _ (t : ℕ) where
       (λ c. search needs)
       (λ c κs. search needs)
       (λ c κs. search needs)
+      (λ c. search needs)
+      returns-2
       (λ c κs. search needs)
+      (λ c. search needs)
+      returns-3
       (λ c κs. search needs)
       (λ c κs. search needs)
       write-formula-requires
+      (λ c. search needs)
+      returns-4
       cast-push
       (λ c κs. search needs)
       (λ c κs. search needs)
       write-expression-requires
       (λ c κs. search needs)
       write-expression-requires-2
+      (λ c. search needs)
+      returns-5
       (λ c κs. search needs)
       write-formula-requires-2
       (λ c κs. search needs)
       write-formula-requires-3
-      (λ c. search needs)
-      returns-2
-      (λ c. search needs)
-      returns-3
-      (λ c. search needs)
-      returns-4
-      (λ c. search needs)
-      returns-5
       (λ c. search needs)
       returns-6
