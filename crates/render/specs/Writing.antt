@@ -1,13 +1,14 @@
 -- What a function that writes asks of the buffer lent to it, and what it leaves there: the one relation of every function
 -- that writes. Two such runs compose (`then`), and so does the room for them (`room-first`, `room-after`). A loop that
 -- writes keeps what is left of its text (`Writing`). Assumes nothing.
-use Prim.Native.Nat.{ℕ, suc, _+_, _≤_, _<_}
+use Prim.Native.Nat.{ℕ, _+_, _≤_, _<_}
 use mathlib.Core.Path.{_≡_, refl, sym, ap, _∙_}
 use mathlib.Core.List.{List, [], _∷_, _++_, append-assoc, append-nil}
-use native.Mathlib.Nat.{add-zero, add-suc, suc-add}
+use native.Mathlib.Nat.{add-zero}
 use native.Mathlib.Omega.{arith}
 use lib.ListN.{length, take, drop, set, length-append}
 use lib.Seq.{sets, length-sets, sets-eq, take-append-seam}
+use Rattle.theorems.specs.Sets.{sets-append}
 
 module _ {A : Type 0} where
   -- the buffer l has room for ts from the place at on
@@ -39,10 +40,6 @@ module _ {A : Type 0} where
 
   pub wrote-one : (l : List A) (at : ℕ) (a : A) → at < length l → Wrote l at (a ∷ []) (at + 1) (set l at a)
   wrote-one l at a h = record { ends = refl; inside = omega arith; holds = refl }
-
-  sets-append : (l : List A) (i : ℕ) (ts us : List A) → sets (sets l i ts) (i + length ts) us ≡ sets l i (ts ++ us)
-  sets-append l i [] us = rw add-zero
-  sets-append l i (t ∷ ts) us = rw (add-suc, ← suc-add) (sets-append (set l i t) (suc i) ts us)
 
   -- one run after another
   pub then : {l l′ l″ ts us : List A} {at e f : ℕ} → Wrote l at ts e l′ → Wrote l′ e us f l″ → Wrote l at (ts ++ us) f l″

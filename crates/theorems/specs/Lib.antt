@@ -1,4 +1,5 @@
 pub mod Truths
+pub mod Sets
 pub mod Scoping
 pub mod Substitution
 pub mod Traces

@@ -8,7 +8,7 @@ use mathlib.Core.Option.{Option}
 use mathlib.Core.List.{List, _++_, append-assoc}
 use mathlib.Core.Bool.{true, false}
 use native.Mathlib.Omega.{arith as linear}
-use lib.IntN.{ℤ}
+use lib.IntN.{ℤ, pos}
 use lib.ListN.{length, length-append}
 use borrow.Author.Tests.{lt-ltb}
 use Rattle.script.specs.declared.Row.{Row}
@@ -57,7 +57,7 @@ mutual
       let us = expr-words a in
       let vs = expr-words b in
       let fit = parts-fit us vs n l in
-      λ rest. ap (λ w. read-expr (suc n) w ((us ++ vs) ++ rest)) (operator-row _ o)
+      λ rest. ap (λ w. read-expr (suc n) w ((us ++ vs) ++ rest)) (operator-row _ (pos 0) (pos 0) o)
       ∙ two-parts (read-expr n) (read-expr n) us vs a b (arith o) rest (expr-back a n (h .0) (fit .0)) (expr-back b n (h .1) (fit .1))
   expr-back (neg a) zero h l = absurd (omega linear)
   expr-back (neg a) (suc n) h l = λ rest. ap (λ o. o >>= λ s. read (neg (s .got)) (s .rest)) (expr-back a n h (omega linear) rest)
@@ -81,7 +81,7 @@ mutual
       let us = expr-words a in
       let vs = expr-words b in
       let fit = parts-fit us vs n l in
-      λ rest. ap (λ w. read-formula (suc n) w ((us ++ vs) ++ rest)) (relation-row _ r)
+      λ rest. ap (λ w. read-formula (suc n) w ((us ++ vs) ++ rest)) (relation-row _ (pos 0) (pos 0) r)
       ∙ two-parts (read-expr n) (read-expr n) us vs a b (cmp r) rest (expr-back a n (h .0) (fit .0)) (expr-back b n (h .1) (fit .1))
   formula-back (not f) zero h l = absurd (omega linear)
   formula-back (not f) (suc n) h l = λ rest. ap (λ o. o >>= λ s. read (not (s .got)) (s .rest)) (formula-back f n h (omega linear) rest)
@@ -90,5 +90,5 @@ mutual
       let us = formula-words f in
       let vs = formula-words g in
       let fit = parts-fit us vs n l in
-      λ rest. ap (λ w. read-formula (suc n) w ((us ++ vs) ++ rest)) (connective-row _ c)
+      λ rest. ap (λ w. read-formula (suc n) w ((us ++ vs) ++ rest)) (connective-row _ (pos 0) (pos 0) c)
       ∙ two-parts (read-formula n) (read-formula n) us vs f g (join c) rest (formula-back f n (h .0) (fit .0)) (formula-back g n (h .1) (fit .1))

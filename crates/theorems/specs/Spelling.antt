@@ -93,7 +93,7 @@ part f P only [] h e = none-is-not e
 part f P only (k ∷ ws) h e =
     let a = getD ws 0 (pos 0) in
     let found = went-on (f (begun k a) ws) h e in
-    record { of = found .0; first = only (begun k a) k ws (found .0) (row-fits k a) (found .1); then = found .2 }
+    record { of = found .0; first = only (begun k a) k ws (found .0) (row-fits k a (pos 0) (pos 0)) (found .1); then = found .2 }
 
 -- ---- the readers
 

@@ -1,6 +1,6 @@
 -- What the walk asks, and that the lines of a statement are those of its parts, in the order in which they are listed.
 -- Assumes nothing.
-use Prim.Native.Nat.{ℕ, suc, _+_, _*_, _≤_, _<_}
+use Prim.Native.Nat.{ℕ, _+_, _*_, _≤_, _<_}
 use mathlib.Core.Path.{_≡_, refl, sym, ap, _∙_}
 use mathlib.Core.List.{List, [], _++_}
 use native.Mathlib.Omega.{arith as linear}
@@ -16,12 +16,12 @@ use Rattle.script.specs.Syntax.{Stmt, Formula}
 use Rattle.script.specs.Conditions.{Condition, walk, wp}
 use Rattle.script.specs.Rows.{row, rows, parts}
 use Rattle.script.specs.Trees.{stmt-node, loop-node, expr-at, formula-at, stmt-at}
-use Rattle.writing.specs.Links.{Linked}
-use Rattle.writing.specs.Links.{Links, links-of}
+use Rattle.writing.specs.Links.{Linked, Links, links-of}
 use Rattle.weakest.specs.declared.End.{End}
 use Rattle.weakest.specs.Ends.{end-formula}
 use Rattle.weakest.specs.Waiting.{weight, close, Same, same-trans, same-less, same-set, close-same}
 use Rattle.weakest.specs.Walked.{Before, going-same, links-here, part-before}
+use Rattle.weakest.specs.Branches.{branch-weight}
 use Rattle.weakest.specs.Steps.{stmt-here, sequence-room, sequence-weight, first-before, second-close}
 use Rattle.lines.specs.declared.Progress.{Progress}
 use Rattle.lines.specs.Listed.{InRoom, listed-then, listed-none, in-room-on}
@@ -156,16 +156,16 @@ module _ (t todo : List ℤ) (n : ℕ) (path : List ℤ) (end : End) (s : ℕ) {
     branch-links : Links t s (parts (Row.Statement (If b x y)))
     branch-links = links-here t todo n path 0 end s (g .before) e
 
-    branch-weight : weight here ≡ suc (weight (stmt-at t (x .0)) + weight (stmt-at t (y .0)))
-    unfolding weight
-    branch-weight = ap weight (here-is e)
-
     pub then-walking : (k : ℕ) → 2 * s + 1 ≡ k → (2 * x .0 + 1 < k) × Walking t todo n path end (x .0) l p
-    then-walking k m = let v = branch-weight in part-walking begun (x .0) k (branch-links .1 .0) (omega linear) m
+    then-walking k m =
+        let v = branch-weight t todo n path 0 end s (g .before) e in
+        part-walking begun (x .0) k (branch-links .1 .0) (omega linear) m
 
     module _ {todo₁ path₁ l₁ : List ℤ} {p₁ : Progress} (w : Lined todo n path (walk (stmt-at t (x .0)) rest) l p p₁ l₁ todo₁ path₁) where
       pub else-walking : (k : ℕ) → 2 * s + 1 ≡ k → (2 * y .0 + 1 < k) × Walking t todo₁ n path₁ end (y .0) l₁ p₁
-      else-walking k m = let v = branch-weight in part-walking w (y .0) k (branch-links .1 .1 .0) (omega linear) m
+      else-walking k m =
+          let v = branch-weight t todo n path 0 end s (g .before) e in
+          part-walking w (y .0) k (branch-links .1 .1 .0) (omega linear) m
 
       branch-walk : walk here rest ≡ walk (stmt-at t (x .0)) rest ++ walk (stmt-at t (y .0)) (close t todo₁ n (end-formula t end))
       unfolding walk

@@ -39,7 +39,7 @@ if-words b x y =
 
 module _ (t todo : List ℤ) (n : ℕ) (path : List ℤ) (j : ℕ) (end : End) (s : ℕ) (g : Before t todo n path j end s) {b x y : RowNumber}
     (e : row t s ≡ Row.Statement (If b x y)) where
-  branch-weight : weight (stmt-at t s) ≡ suc (weight (stmt-at t (x .0)) + weight (stmt-at t (y .0)))
+  pub branch-weight : weight (stmt-at t s) ≡ suc (weight (stmt-at t (x .0)) + weight (stmt-at t (y .0)))
   unfolding weight
   branch-weight = rw (stmt-here t todo n path j end s g e)
 

@@ -2,4 +2,6 @@ pub mod Writing
 pub mod Links
 pub mod Paths
 pub mod Nodes
+pub mod Kinds
+pub mod Latest
 pub mod Variables

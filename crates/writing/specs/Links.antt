@@ -4,7 +4,6 @@ use Prim.Native.Nat.{ℕ, _<_}
 use mathlib.Core.Path.{_≡_, sym, ap, _∙_}
 use mathlib.Core.Bool.{not}
 use mathlib.Core.List.{List, [], _∷_}
-use native.Mathlib.Omega.{arith as linear}
 use lib.Dec.{T, ltb, ltb→lt, eqb→eq}
 use lib.IntN.{ℤ, pos}
 use lib.ListN.{getD}

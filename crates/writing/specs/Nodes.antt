@@ -3,16 +3,13 @@
 use Prim.Native.Nat.{ℕ, _+_, _*_, _≤_, _<_}
 use mathlib.Core.Path.{_≡_}
 use mathlib.Core.Bool.{true}
-use mathlib.Core.List.{List, [], _∷_}
+use mathlib.Core.List.{List}
 use native.Mathlib.Omega.{arith as linear}
 use lib.Dec.{T, ltb, ltb→lt}
 use lib.IntN.{ℤ, pos}
 use lib.ListN.{length}
 use mir.Val.{SFits}
 use mir.Syntax.{w32}
-use types.Run.{OneOf}
-use denote.Enum.Declared.{tagOf}
-use Rattle.script.proofs.Row.{the-type}
 use Rattle.script.specs.declared.RowNumber.{RowNumber}
 use Rattle.script.specs.declared.VariableNumber.{VariableNumber}
 use Rattle.script.specs.declared.ExpressionRow.the-variants.{Variable, Mark}
@@ -20,7 +17,6 @@ use Rattle.script.specs.declared.StatementRow.the-variants.{Assign}
 use Rattle.script.specs.declared.Row.{Row}
 use Rattle.script.specs.declared.Row.the-variants as Row
 use Rattle.script.specs.declared.Sort.{Sort}
-use Rattle.script.specs.declared.Sort.the-variants.{Expression, Formula}
 use Rattle.script.specs.Words.{expr-words, formula-words}
 use Rattle.script.specs.Rows.{row, rows, parts, fields, sort-of, variables}
 use Rattle.script.specs.Trees.{expr-node, formula-node, expr-at, formula-at}
@@ -29,7 +25,7 @@ use Rattle.theorems.specs.Accepted.{Accepted, both}
 use Rattle.theorems.specs.RowTrees.{expr-is, formula-is}
 use Rattle.writing.specs.declared.Place.{Place}
 use Rattle.writing.specs.Writing.{Wrote}
-use Rattle.writing.specs.Links.{Linked, Links, links-of, off-sort}
+use Rattle.writing.specs.Links.{Linked, Links, links-of}
 use Rattle.writing.specs.Paths.{replaceᵉ, replaceᶠ, row-on, under, expr-under, formula-under}
 
 -- ---- what the writers ask
@@ -64,19 +60,20 @@ ranged-as t ok r h e = rw e at (ok .ranged r h)
 
 -- ---- a node
 
-pub node-ready : (t path : List ℤ) (j r k a : ℕ) {s s′ : Sort} → base j + (r + 1) ≡ k → Ready t path j r s → Linked t r a s′
-    → (base j + (a + 1) < k) × Ready t path j a s′
-node-ready t path j r k a e g h =
+-- a part at row a, that was read as n
+pub node-ready : (t path : List ℤ) (j r k : ℕ) {n a : ℕ} {s s′ : Sort} → base j + (r + 1) ≡ k → Ready t path j r s → Linked t r a s′ → n ≡ a
+    → (base j + (n + 1) < k) × Ready t path j n s′
+node-ready t path j r k e g h m =
     let i = g .inside in
     let l = h .0 in
-    (omega linear, record { table = g .table; along = g .along; inside = omega linear; sort = h .1 })
+    (omega linear, record { table = g .table; along = g .along; inside = omega linear; sort = rw m (h .1) })
 
 module _ (t path : List ℤ) (j r : ℕ) {s : Sort} (g : Ready t path j r s) where
-  pub variable-ready : (k : ℕ) {v : VariableNumber} → base j + (r + 1) ≡ k → row t r ≡ Row.Expression (Variable v)
-      → (base j < k) × VariableReady t path j (v .0)
-  variable-ready k {v} m e =
-      let b = both (ltb (v .0) 256) true (ranged-as t (g .table) r (g .inside) e) .0 in
-      (omega linear, record { table = g .table; along = g .along; small = ltb→lt (v .0) 256 b })
+  pub variable-ready : (k : ℕ) {n : ℕ} {v : VariableNumber} → base j + (r + 1) ≡ k → row t r ≡ Row.Expression (Variable v) → n ≡ v .0
+      → (base j < k) × VariableReady t path j n
+  variable-ready k {n} {v} m e i =
+      let b = ltb→lt (v .0) 256 (both (ltb (v .0) 256) true (ranged-as t (g .table) r (g .inside) e) .0) in
+      (omega linear, record { table = g .table; along = g .along; small = omega linear })
 
   pub mark-fits : {m : RowNumber} → row t r ≡ Row.Expression (Mark m) → SFits w32 (pos (m .0))
   mark-fits {m} e =
@@ -97,12 +94,3 @@ module _ (t path : List ℤ) (j r : ℕ) {s : Sort} (g : Ready t path j r s) whe
       → Wrote l p (formula-words (replaceᶠ (under t path j) (formula-node (expr-at t) (formula-at t) w))) q l′
       → Wrote l p (formula-under t path j r) q l′
   at-formula e w = rw (formula-is t (g .table) r (g .inside) e) w
-
--- the row of a node that is ready is of its sort
-pub not-expression : (t path : List ℤ) (j r : ℕ) {w : Row} → Ready t path j r Expression → w ≡ row t r
-    → OneOf (1 ∷ 2 ∷ 3 ∷ 4 ∷ 5 ∷ []) (tagOf the-type w) → ⊥
-not-expression t path j r g e o = off-sort Expression (1 ∷ 2 ∷ 3 ∷ 4 ∷ 5 ∷ []) tt (g .sort) e o
-
-pub not-formula : (t path : List ℤ) (j r : ℕ) {w : Row} → Ready t path j r Formula → w ≡ row t r
-    → OneOf (0 ∷ 2 ∷ 3 ∷ 4 ∷ 5 ∷ []) (tagOf the-type w) → ⊥
-not-formula t path j r g e o = off-sort Formula (0 ∷ 2 ∷ 3 ∷ 4 ∷ 5 ∷ []) tt (g .sort) e o

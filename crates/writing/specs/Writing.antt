@@ -1,12 +1,12 @@
 -- What a function that writes words into a list leaves, and that one run after another writes both. Assumes nothing.
-use Prim.Native.Nat.{ℕ, suc, _+_, _≤_, _<_}
+use Prim.Native.Nat.{ℕ, _+_, _≤_, _<_}
 use mathlib.Core.Path.{_≡_, ap, _∙_, sym}
-use mathlib.Core.List.{List, [], _∷_, _++_}
-use native.Mathlib.Nat.{add-zero, add-suc, suc-add}
+use mathlib.Core.List.{List, _++_}
 use native.Mathlib.Omega.{arith}
 use lib.IntN.{ℤ}
-use lib.ListN.{length, length-append, set}
+use lib.ListN.{length, length-append}
 use lib.Seq.{sets, length-sets}
+use Rattle.theorems.specs.Sets.{sets-append}
 use Rattle.writing.specs.declared.Place.{Place}
 use Rattle.writing.specs.declared.Place.the-variants.{At, Full}
 
@@ -21,10 +21,6 @@ pub data Wrote (l : List ℤ) (p : Place) (ws : List ℤ) (r : Place) (l′ : Li
 
 At-not-Full : {i : ℕ} → At i ≡ Full → ⊥
 At-not-Full e = let z : _≡_ {A = ℕ} 0 1 = cc in omega arith
-
-sets-append : (l : List ℤ) (i : ℕ) (ws vs : List ℤ) → sets (sets l i ws) (i + length ws) vs ≡ sets l i (ws ++ vs)
-sets-append l i [] vs = rw add-zero
-sets-append l i (w ∷ ws) vs = rw (add-suc, ← suc-add) (sets-append (set l i w) (suc i) ws vs)
 
 pub wrote-length : {l ws l′ : List ℤ} {p r : Place} → Wrote l p ws r l′ → length l′ ≡ length l
 wrote-length {l} {ws} (fitted i e h n s) = ap length s ∙ length-sets l i ws

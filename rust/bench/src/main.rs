@@ -145,7 +145,11 @@ fn compare_generating() {
     compare_generators_at_the_need("8 branches", &scripts::branches(8));
     compare_generators_at_the_need("12 branches", &scripts::branches(12));
     compare_generators_at_the_need("deep expression", &scripts::deep_expression(1_000));
-    compare_generators_at_the_need("300 assignments", &scripts::assignments_passed(300));
+    compare_generators_at_the_need("300 assignments", &scripts::assignments_passed(300, 1));
+    compare_generators_at_the_need(
+        "350 assignments passed 200 times",
+        &scripts::assignments_passed(350, 200),
+    );
     compare_generators_at_the_need("a full list", &scripts::full_list());
 }
 

@@ -79,14 +79,21 @@ pub fn full_list() -> Vec<i32> {
     list_of_length(&mut Prng::new(1), leqwarti::LONGEST_LIST)
 }
 
-/// Assignments to other variables before the ones that the postcondition reads.
-pub fn assignments_passed(others: i32) -> Vec<i32> {
+/// Assignments to other variables before one whose value reads its variable so
+/// many times: each read goes back past them all.
+pub fn assignments_passed(others: i32, reads: i32) -> Vec<i32> {
     let mut arena = Arena::default();
     let mut statements = Vec::new();
     for other in 0..others {
-        statements.push(add(&mut arena, 1 + other % 100, 1));
+        let one = arena.constant(1);
+        statements.push(arena.assign(1 + other % 100, one));
     }
-    statements.push(add(&mut arena, 0, 1));
+    let mut sum = arena.variable(0);
+    for _ in 1..reads {
+        let read = arena.variable(0);
+        sum = arena.two(3, sum, read);
+    }
+    statements.push(arena.assign(0, sum));
     let statement = in_sequence(&mut arena, statements);
     laid_out(arena, statement)
 }

@@ -13,12 +13,10 @@ use Rattle.writing.proofs.write_variable.Reads as variable
 use Rattle.writing.proofs.write_variable.Kinds as variable-kinds
 use Rattle.writing.proofs.+write_expression+write_formula+write_variable.Lts-write_variable as variable-lts
 use Rattle.script.proofs.field_number.Reads as field-number-reads
-use Rattle.script.proofs.row_at.Reads as row-at-reads
-use Rattle.writing.proofs.conn_word.Reads as conn-word-reads
-use Rattle.writing.proofs.op_word.Reads as op-word-reads
+use Rattle.writing.proofs.field.Reads as field-reads
+use Rattle.writing.proofs.latest.Reads as latest-reads
 use Rattle.writing.proofs.push.Reads as push-reads
 use Rattle.writing.proofs.push_two.Reads as push-two-reads
-use Rattle.writing.proofs.rel_word.Reads as rel-word-reads
 
 abbrev pub μ-expression : Measures 3 expression-kinds.ps ℕ
 μ-expression κs a = base (a .1 .1 .1 .1 .0) + (a .1 .0 .0 + 1)
@@ -49,14 +47,12 @@ variable-below t = and 3 variable-kinds.ps (falls 3 variable-kinds.ps _<_ μ-var
 
 abbrev pub expression-claims : ℕ → expression-lts.Claims
 expression-claims t = (
-  row-at-reads.Asked,
-  row-at-reads.Learnt,
+  field-reads.Asked,
+  field-reads.Learnt,
   push-two-reads.Asked,
   push-two-reads.Learnt,
   variable-below t,
   variable.Post,
-  op-word-reads.Asked,
-  op-word-reads.Learnt,
   push-reads.Asked,
   push-reads.Learnt,
   expression-below t,
@@ -67,30 +63,26 @@ expression-claims t = (
 
 abbrev pub formula-claims : ℕ → formula-lts.Claims
 formula-claims t = (
-  row-at-reads.Asked,
-  row-at-reads.Learnt,
+  field-reads.Asked,
+  field-reads.Learnt,
   push-reads.Asked,
   push-reads.Learnt,
-  rel-word-reads.Asked,
-  rel-word-reads.Learnt,
-  expression-below t,
-  expression.Post,
   formula-below t,
   formula.Post,
-  conn-word-reads.Asked,
-  conn-word-reads.Learnt,
+  expression-below t,
+  expression.Post,
 )
 
 abbrev pub variable-claims : ℕ → variable-lts.Claims
 variable-claims t = (
+  latest-reads.Asked,
+  latest-reads.Learnt,
   push-two-reads.Asked,
   push-two-reads.Learnt,
   field-number-reads.Asked,
   field-number-reads.Learnt,
-  row-at-reads.Asked,
-  row-at-reads.Learnt,
+  field-reads.Asked,
+  field-reads.Learnt,
   expression-below t,
   expression.Post,
-  variable-below t,
-  variable.Post,
 )

@@ -2,159 +2,196 @@
 use Prim.Native.Nat.{ℕ}
 use borrow.Author.Needs.{needs}
 use mathlib.Core.Path.{_≡_, refl}
+use mir.Val.{SFits}
 use mir.Facts.{toZ-ofZ}
-use Rattle.script.specs.declared.ExpressionRow.{ExpressionRow}
-use Rattle.script.specs.declared.Row.the-variants as Row
-use Rattle.script.specs.Rows.{row}
+use mir.Syntax.{w32}
+use lib.IntN.{pos}
+use Rattle.script.specs.Rows.{row-of, row, word}
 use Rattle.script.specs.Laws.{back}
 use Rattle.script.specs.Words.{expr-words}
 use Rattle.writing.specs.Writing.{skipped, then}
 use Rattle.writing.specs.Paths.{replaceᵉ}
-use Rattle.writing.specs.Links.{known-row}
-use Rattle.writing.specs.Nodes.{node-ready, variable-ready, mark-fits, links-at, at-expr, not-expression}
+use Rattle.writing.specs.Nodes.{node-ready, variable-ready, mark-fits, links-at, at-expr}
+use Rattle.writing.specs.Kinds.{of-kind, Operation, operation}
 use Rattle.writing.proofs.write_expression.Reads as reads
 use Rattle.writing.proofs.+write_expression+write_formula+write_variable.Lts-write_expression as lts
 use Rattle.writing.proofs.+write_expression+write_formula+write_variable.Proof.Claims.{expression-claims, expression-at}
 
 module _ (t : ℕ) where
-  -- where the row was found to be of its sort
+  -- where the kind was read
   abbrev Here : Type 0
-  Here = lts.After-known-told (expression-claims t) (expression-at t) reads.Post
+  Here = lts.After-field (expression-claims t) (expression-at t) reads.Post
 
   abbrev start : Here → lts.Start (expression-claims t) (expression-at t) reads.Post
-  start c = c .before .before .before .before .before .before
+  start c = c .before .before .before
 
-  row-here : (c : Here) {x : ExpressionRow} → c .before .row .given .0 .0 ≡ x
-      → row (start c .args .table .now) (start c .args .r .0) ≡ Row.Expression x
-  row-here c e = known-row Row.Expression (c .before .before .before .row-at .ensures) (c .before .row .given .1) e
+  -- the row is of the kind k
+  row-here : (c : Here) (k : ℕ) → c .field .result ≡ k
+      → let words = start c .args .table .now in
+      let r = start c .args .r .0 in
+      row words r ≡ row-of k (word words r 1) (word words r 2) (word words r 3)
+  row-here c k e = of-kind (start c .args .table .now) _ _ (c .field .ensures) k e
 
   returns : lts.Need-returns (expression-claims t) (expression-at t) reads.Post
   returns c = skipped (c .enum-told .given .1) refl refl
 
+  -- ---- a constant
+
+  returns-2 : lts.Need-returns-2 (expression-claims t) (expression-at t) reads.Post
+  unfolding row-of expr-words replaceᵉ
+  returns-2 c =
+      let after-push-two = c .before in
+      let read = after-push-two .before in
+      let arm = read .before .before .before in
+      let here = arm .before in
+      at-expr _ _ _ _ (start here .pre .1) (row-here here 1 (arm .match2 .keys1))
+      (rw (back (read .push-two-arg2 .given)) at (after-push-two .push-two .ensures))
+
+  -- ---- a variable
+
   write-variable-requires : lts.Need-write-variable-requires (expression-claims t) (expression-at t) reads.Post
+  unfolding row-of
   write-variable-requires c κs =
-      let after-x2 = c .before .before in
-      let here = after-x2 .before .before in
+      let arm = c .before .before in
+      let here = arm .before in
       let g = start here .pre in
-      variable-ready _ _ _ _ (g .1) _ (g .0) (row-here here (after-x2 .x2 .given .1))
+      variable-ready _ _ _ _ (g .1) _ (g .0) (row-here here 2 (arm .match2 .keys2)) (c .before .field2 .ensures)
+
+  returns-3 : lts.Need-returns-3 (expression-claims t) (expression-at t) reads.Post
+  unfolding row-of expr-words replaceᵉ
+  returns-3 c =
+      let after-write-variable = c .before in
+      let read = after-write-variable .before .before in
+      let arm = read .before in
+      let here = arm .before in
+      at-expr _ _ _ _ (start here .pre .1) (row-here here 2 (arm .match2 .keys2))
+      (rw (read .field2 .ensures) at (after-write-variable .write-variable .ensures))
+
+  -- ---- a negation
 
   write-expression-requires : lts.Need-write-expression-requires (expression-claims t) (expression-at t) reads.Post
+  unfolding row-of
   write-expression-requires c κs =
-      let after-x3 = c .before .before .before .before .before .before in
-      let here = after-x3 .before .before in
+      let arm = c .before .before .before .before .before in
+      let here = arm .before in
       let g = start here .pre in
-      node-ready _ _ _ _ _ _ (g .0) (g .1) (links-at _ _ _ _ (g .1) (row-here here (after-x3 .x3 .given .1)) .0)
+      node-ready _ _ _ _ _ (g .0) (g .1) (links-at _ _ _ _ (g .1) (row-here here 8 (arm .match2 .keys3)) .0) (c .before .field3 .ensures)
 
-  write-expression-requires-2 : lts.Need-write-expression-requires-2 (expression-claims t) (expression-at t) reads.Post
-  write-expression-requires-2 c κs =
-      let after-x3 = c .before .before .before .before .before .before .before .before .before in
-      let here = after-x3 .before .before in
-      let g = start here .pre in
-      node-ready _ _ _ _ _ _ (g .0) (g .1) (links-at _ _ _ _ (g .1) (row-here here (after-x3 .x3 .given .1)) .1 .0)
+  returns-4 : lts.Need-returns-4 (expression-claims t) (expression-at t) reads.Post
+  unfolding row-of expr-words replaceᵉ
+  returns-4 c =
+      let after-write-expression = c .before in
+      let read = after-write-expression .before .before in
+      let after-push = read .before .before in
+      let arm = after-push .before .before in
+      let here = arm .before in
+      at-expr _ _ _ _ (start here .pre .1) (row-here here 8 (arm .match2 .keys3))
+      (then (after-push .push .ensures) (rw (read .field3 .ensures) at (after-write-expression .write-expression .ensures)))
 
-  write-expression-requires-3 : lts.Need-write-expression-requires-3 (expression-claims t) (expression-at t) reads.Post
-  write-expression-requires-3 c κs =
-      let after-x4 = c .before .before .before .before .before in
-      let here = after-x4 .before .before in
-      let g = start here .pre in
-      node-ready _ _ _ _ _ _ (g .0) (g .1) (links-at _ _ _ _ (g .1) (row-here here (after-x4 .x4 .given .1)) .0)
+  -- ---- a mark
 
-  cast-push-two : lts.Need-cast-push-two (expression-claims t) (expression-at t) reads.Post
-  cast-push-two c =
-      let after-x5 = c .before .before .before in
-      let here = after-x5 .before .before in
-      mark-fits _ _ _ _ (start here .pre .1) (row-here here (after-x5 .x5 .given .1))
+  mark-here : (c : lts.After-field4 (expression-claims t) (expression-at t) reads.Post) → SFits w32 (pos (c .field4 .result))
+  unfolding row-of
+  mark-here c =
+      let arm = c .before .before in
+      let here = arm .before in
+      rw (c .field4 .ensures) (mark-fits _ _ _ _ (start here .pre .1) (row-here here 9 (arm .match2 .keys4)))
+
+  returns-5 : lts.Need-returns-5 (expression-claims t) (expression-at t) reads.Post
+  unfolding row-of expr-words replaceᵉ
+  returns-5 c =
+      let after-push-two2 = c .before in
+      let read = after-push-two2 .before in
+      let arm = read .before .before in
+      let here = arm .before in
+      at-expr _ _ _ _ (start here .pre .1) (row-here here 9 (arm .match2 .keys4))
+      (rw (toZ-ofZ (mark-here read), read .field4 .ensures) at (after-push-two2 .push-two2 .ensures))
+
+  -- ---- a choice
 
   write-formula-requires : lts.Need-write-formula-requires (expression-claims t) (expression-at t) reads.Post
+  unfolding row-of
   write-formula-requires c κs =
-      let after-x6 = c .before .before .before .before .before in
-      let here = after-x6 .before .before in
+      let arm = c .before .before .before .before .before in
+      let here = arm .before in
       let g = start here .pre in
-      node-ready _ _ _ _ _ _ (g .0) (g .1) (links-at _ _ _ _ (g .1) (row-here here (after-x6 .x6 .given .1)) .0)
+      node-ready _ _ _ _ _ (g .0) (g .1) (links-at _ _ _ _ (g .1) (row-here here 10 (arm .match2 .keys5)) .0) (c .before .field5 .ensures)
+
+  write-expression-requires-2 : lts.Need-write-expression-requires-2 (expression-claims t) (expression-at t) reads.Post
+  unfolding row-of
+  write-expression-requires-2 c κs =
+      let first = c .before .before .before .before in
+      let arm = first .before .before .before .before .before in
+      let here = arm .before in
+      let g = start here .pre in
+      node-ready _ _ _ _ _ (g .0) (g .1) (links-at _ _ _ _ (g .1) (row-here here 10 (arm .match2 .keys5)) .1 .0) (c .before .field6 .ensures)
+
+  write-expression-requires-3 : lts.Need-write-expression-requires-3 (expression-claims t) (expression-at t) reads.Post
+  unfolding row-of
+  write-expression-requires-3 c κs =
+      let second = c .before .before .before .before in
+      let first = second .before .before .before .before in
+      let arm = first .before .before .before .before .before in
+      let here = arm .before in
+      let g = start here .pre in
+      node-ready _ _ _ _ _ (g .0) (g .1) (links-at _ _ _ _ (g .1) (row-here here 10 (arm .match2 .keys5)) .1 .1 .0) (c .before .field7 .ensures)
+
+  returns-6 : lts.Need-returns-6 (expression-claims t) (expression-at t) reads.Post
+  unfolding row-of expr-words replaceᵉ
+  returns-6 c =
+      let after-write-expression3 = c .before in
+      let third = after-write-expression3 .before .before in
+      let after-write-expression2 = third .before .before in
+      let second = after-write-expression2 .before .before in
+      let after-write-formula = second .before .before in
+      let first = after-write-formula .before .before in
+      let after-push2 = first .before .before in
+      let arm = after-push2 .before .before in
+      let here = arm .before in
+      at-expr _ _ _ _ (start here .pre .1) (row-here here 10 (arm .match2 .keys5))
+      (then (after-push2 .push2 .ensures)
+      (then (rw (first .field5 .ensures) at (after-write-formula .write-formula .ensures))
+      (then (rw (second .field6 .ensures) at (after-write-expression2 .write-expression2 .ensures))
+      (rw (third .field7 .ensures) at (after-write-expression3 .write-expression3 .ensures)))))
+
+  -- ---- an operator
+
+  abbrev Rest : Type 0
+  Rest = lts.At-match2-rest (expression-claims t) (expression-at t) reads.Post
+
+  operation-here : (c : Rest) → Operation (start (c .before) .args .table .now) (start (c .before) .args .r .0) (c .before .field .result)
+  operation-here c = operation _ _ _ (c .before .field .ensures) (start (c .before) .pre .1 .sort) (c .match2 .rest)
+
+  cast-push : lts.Need-cast-push (expression-claims t) (expression-at t) reads.Post
+  cast-push c = operation-here (c .before) .fits
 
   write-expression-requires-4 : lts.Need-write-expression-requires-4 (expression-claims t) (expression-at t) reads.Post
   write-expression-requires-4 c κs =
-      let after-x6 = c .before .before .before .before .before .before .before .before in
-      let here = after-x6 .before .before in
-      let g = start here .pre in
-      node-ready _ _ _ _ _ _ (g .0) (g .1) (links-at _ _ _ _ (g .1) (row-here here (after-x6 .x6 .given .1)) .1 .0)
+      let arm = c .before .before .before .before .before in
+      let g = start (arm .before) .pre in
+      node-ready _ _ _ _ _ (g .0) (g .1) (links-at _ _ _ _ (g .1) (operation-here arm .is) .0) (c .before .field8 .ensures)
 
   write-expression-requires-5 : lts.Need-write-expression-requires-5 (expression-claims t) (expression-at t) reads.Post
   write-expression-requires-5 c κs =
-      let after-x6 = c .before .before .before .before .before .before .before .before .before .before .before in
-      let here = after-x6 .before .before in
-      let g = start here .pre in
-      node-ready _ _ _ _ _ _ (g .0) (g .1) (links-at _ _ _ _ (g .1) (row-here here (after-x6 .x6 .given .1)) .1 .1 .0)
-
-  returns-2 : lts.Need-returns-2 (expression-claims t) (expression-at t) reads.Post
-  unfolding expr-words replaceᵉ
-  returns-2 c =
-      let after-push-two = c .before in
-      let after-known-told2 = after-push-two .before .before in
-      let after-x = after-known-told2 .before in
-      let here = after-x .before .before in
-      at-expr _ _ _ _ (start here .pre .1) (row-here here (after-x .x .given .1))
-      (rw (back (after-known-told2 .known-told2 .given .0 .1)) at (after-push-two .push-two .ensures))
-
-  returns-3 : lts.Need-returns-3 (expression-claims t) (expression-at t) reads.Post
-  unfolding expr-words replaceᵉ
-  returns-3 c =
-      let after-write-variable = c .before in
-      let after-x2 = after-write-variable .before .before .before in
-      let here = after-x2 .before .before in
-      at-expr _ _ _ _ (start here .pre .1) (row-here here (after-x2 .x2 .given .1))
-      (after-write-variable .write-variable .ensures)
-
-  returns-4 : lts.Need-returns-4 (expression-claims t) (expression-at t) reads.Post
-  unfolding expr-words replaceᵉ
-  returns-4 c =
-      let after-write-expression2 = c .before in
-      let after-write-expression = after-write-expression2 .before .before .before in
-      let after-push = after-write-expression .before .before .before in
-      let after-op-word = after-push .before in
-      let after-x3 = after-op-word .before .before .before in
-      let here = after-x3 .before .before in
-      at-expr _ _ _ _ (start here .pre .1) (row-here here (after-x3 .x3 .given .1))
-      (then (rw (back (after-op-word .op-word .ok), after-op-word .op-word .ensures) at (after-push .push .ensures))
-      (then (after-write-expression .write-expression .ensures) (after-write-expression2 .write-expression2 .ensures)))
-
-  returns-5 : lts.Need-returns-5 (expression-claims t) (expression-at t) reads.Post
-  unfolding expr-words replaceᵉ
-  returns-5 c =
-      let after-write-expression3 = c .before in
-      let after-push2 = after-write-expression3 .before .before .before in
-      let after-x4 = after-push2 .before .before .before in
-      let here = after-x4 .before .before in
-      at-expr _ _ _ _ (start here .pre .1) (row-here here (after-x4 .x4 .given .1))
-      (then (after-push2 .push2 .ensures) (after-write-expression3 .write-expression3 .ensures))
-
-  returns-6 : lts.Need-returns-6 (expression-claims t) (expression-at t) reads.Post
-  unfolding expr-words replaceᵉ
-  returns-6 c =
-      let after-push-two2 = c .before in
-      let after-x5 = after-push-two2 .before .before .before .before in
-      let here = after-x5 .before .before in
-      at-expr _ _ _ _ (start here .pre .1) (row-here here (after-x5 .x5 .given .1))
-      (rw (toZ-ofZ (mark-fits _ _ _ _ (start here .pre .1) (row-here here (after-x5 .x5 .given .1)))) at (after-push-two2 .push-two2 .ensures))
+      let first = c .before .before .before .before in
+      let arm = first .before .before .before .before .before in
+      let g = start (arm .before) .pre in
+      node-ready _ _ _ _ _ (g .0) (g .1) (links-at _ _ _ _ (g .1) (operation-here arm .is) .1 .0) (c .before .field9 .ensures)
 
   returns-7 : lts.Need-returns-7 (expression-claims t) (expression-at t) reads.Post
   unfolding expr-words replaceᵉ
   returns-7 c =
       let after-write-expression5 = c .before in
-      let after-write-expression4 = after-write-expression5 .before .before .before in
-      let after-write-formula = after-write-expression4 .before .before .before in
-      let after-push3 = after-write-formula .before .before .before in
-      let after-x6 = after-push3 .before .before .before in
-      let here = after-x6 .before .before in
-      at-expr _ _ _ _ (start here .pre .1) (row-here here (after-x6 .x6 .given .1))
-      (then (after-push3 .push3 .ensures) (then (after-write-formula .write-formula .ensures)
-      (then (after-write-expression4 .write-expression4 .ensures) (after-write-expression5 .write-expression5 .ensures))))
-
-  returns-8 : lts.Need-returns-8 (expression-claims t) (expression-at t) reads.Post
-  returns-8 c =
-      let after-row-at = c .before in
-      let start = after-row-at .before .before .before in
-      absurd (not-expression _ _ _ _ (start .pre .1) (after-row-at .row-at .ensures) (c .match2 .keys2))
+      let second = after-write-expression5 .before .before in
+      let after-write-expression4 = second .before .before in
+      let first = after-write-expression4 .before .before in
+      let after-push3 = first .before .before in
+      let arm = after-push3 .before .before in
+      let o = operation-here arm in
+      at-expr _ _ _ _ (start (arm .before) .pre .1) (o .is)
+      (then (rw (toZ-ofZ (o .fits), o .spelled) at (after-push3 .push3 .ensures))
+      (then (rw (first .field8 .ensures) at (after-write-expression4 .write-expression4 .ensures))
+      (rw (second .field9 .ensures) at (after-write-expression5 .write-expression5 .ensures))))
 
   pub closed : {M : Type 1} → lts.Closed (expression-claims t) (expression-at t) reads.Post M
   closed =
@@ -165,35 +202,39 @@ module _ (t : ℕ) where
       (λ c κs. search needs)
       (λ c. search needs)
       (λ c. search needs)
+      (λ c. search needs)
+      (λ c. search needs)
       (λ c κs. search needs)
       (λ c. search needs)
+      returns-2
+      (λ c κs. search needs)
       write-variable-requires
       (λ c. search needs)
+      returns-3
       (λ c κs. search needs)
       (λ c κs. search needs)
       write-expression-requires
-      write-expression-requires-2
       (λ c. search needs)
+      returns-4
+      (λ c κs. search needs)
+      mark-here
+      (λ c κs. search needs)
+      (λ c. search needs)
+      returns-5
+      (λ c κs. search needs)
+      (λ c κs. search needs)
+      write-formula-requires
+      (λ c κs. search needs)
+      write-expression-requires-2
       (λ c κs. search needs)
       write-expression-requires-3
       (λ c. search needs)
-      cast-push-two
+      returns-6
+      cast-push
       (λ c κs. search needs)
-      (λ c. search needs)
       (λ c κs. search needs)
-      write-formula-requires
       write-expression-requires-4
+      (λ c κs. search needs)
       write-expression-requires-5
       (λ c. search needs)
-      returns-2
-      (λ c. search needs)
-      returns-3
-      (λ c. search needs)
-      returns-4
-      (λ c. search needs)
-      returns-5
-      (λ c. search needs)
-      returns-6
-      (λ c. search needs)
       returns-7
-      returns-8

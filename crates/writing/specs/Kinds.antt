@@ -1,0 +1,157 @@
+-- The row of a node by its kind, where n is the number in its first word (`of-kind`); and the kinds that are left once those
+-- with other parts were passed over: an operator (`operation`), a relation (`comparison`), a connective (`junction`).
+-- Assumes nothing.
+use Prim.Native.Nat.{ℕ, _≤_, _<_}
+use mathlib.Core.Path.{_≡_, refl, sym, ap, _∙_}
+use mathlib.Core.Bool.{Bool, true, false}
+use mathlib.Core.List.{List}
+use native.Mathlib.Omega.{arith as linear}
+use borrow.Author.Tests.{ltb-true, ltb-false}
+use lib.Dec.{T, ltb}
+use lib.IntN.{ℤ, pos}
+use mir.Val.{SFits}
+use mir.Syntax.{w32}
+use Rattle.script.specs.declared.Operator.{Operator}
+use Rattle.script.specs.declared.Operator.the-variants.{Plus, Minus, Times, Div, Mod}
+use Rattle.script.specs.declared.Relation.{Relation}
+use Rattle.script.specs.declared.Relation.the-variants.{Less, AtMost, Equal, Unequal}
+use Rattle.script.specs.declared.Connective.{Connective}
+use Rattle.script.specs.declared.Connective.the-variants.{And, Or, Implies}
+use Rattle.script.specs.declared.ExpressionRow.the-variants.{Constant, Variable, Arithmetic, Negate, Mark, Choose}
+use Rattle.script.specs.declared.FormulaRow.the-variants.{True, False, Comparison, Not, Junction}
+use Rattle.script.specs.declared.Row.{Row}
+use Rattle.script.specs.declared.Row.the-variants as Row
+use Rattle.script.specs.declared.Sort.the-variants.{Expression, Formula}
+use Rattle.script.specs.Rows.{field-number, row-no, row-of, row, word, sort-of}
+use Rattle.script.specs.Laws.{row-is}
+use Rattle.script.specs.Refusals.{same-sort}
+use Rattle.script.specs.Words.{op-word, rel-word, conn-word}
+use Rattle.theorems.specs.Kinds.{row-with, operator-row, relation-row, connective-row, Fits, row-fits}
+
+-- ---- kind words as numbers
+
+unspell : {m n : ℕ} → pos m ≡ pos n → m ≡ n
+unspell e = cc
+
+operator-below : (o : Operator) {n : ℕ} → pos n ≡ op-word o → n < 8
+operator-below Plus e = let i = unspell e in omega linear
+operator-below Minus e = let i = unspell e in omega linear
+operator-below Times e = let i = unspell e in omega linear
+operator-below Div e = let i = unspell e in omega linear
+operator-below Mod e = let i = unspell e in omega linear
+
+relation-below : (o : Relation) {n : ℕ} → pos n ≡ rel-word o → n < 22
+relation-below Less e = let i = unspell e in omega linear
+relation-below AtMost e = let i = unspell e in omega linear
+relation-below Equal e = let i = unspell e in omega linear
+relation-below Unequal e = let i = unspell e in omega linear
+
+connective-within : (o : Connective) {n : ℕ} → pos n ≡ conn-word o → (22 ≤ n) × (n < 26)
+connective-within And e = let i = unspell e in omega linear
+connective-within Or e = let i = unspell e in omega linear
+connective-within Implies e = let i = unspell e in omega linear
+
+-- ---- which kinds are left
+
+-- n is none of the kinds that have an arm of their own, in the order of the arms
+abbrev pub Past-expressions : ℕ → Type 0
+Past-expressions n =
+    ((((Unit {0} × (n ≡ 1 → ⊥)) × (n ≡ 2 → ⊥)) × (n ≡ 8 → ⊥)) × (n ≡ 9 → ⊥)) × (n ≡ 10 → ⊥)
+
+abbrev pub Past-formulas : ℕ → Type 0
+Past-formulas n = ((Unit {0} × (n ≡ 16 → ⊥)) × (n ≡ 17 → ⊥)) × (n ≡ 22 → ⊥)
+
+module _ (n : ℕ) (a : ℤ) where
+  operator-left : (w : Row) → Fits (pos n) a w → T (same-sort (sort-of w) Expression) → Past-expressions n → (o : Operator) × (pos n ≡ op-word o)
+  operator-left (Row.Expression (Constant z)) f s p = absurd (p .0 .0 .0 .0 .1 (unspell (f .0)))
+  operator-left (Row.Expression (Variable v)) f s p = absurd (p .0 .0 .0 .1 (unspell (f .0)))
+  operator-left (Row.Expression (Arithmetic o x y)) f s p = (o, f)
+  operator-left (Row.Expression (Negate x)) f s p = absurd (p .0 .0 .1 (unspell f))
+  operator-left (Row.Expression (Mark m)) f s p = absurd (p .0 .1 (unspell (f .0)))
+  operator-left (Row.Expression (Choose x y z)) f s p = absurd (p .1 (unspell f))
+  operator-left (Row.Formula w) f s p = absurd s
+  operator-left (Row.Statement w) f s p = absurd s
+  operator-left (Row.Note i v) f s p = absurd s
+  operator-left (Row.Script x y z) f s p = absurd s
+  operator-left Row.Unknown f s p = absurd s
+
+  relation-left : (w : Row) → Fits (pos n) a w → T (same-sort (sort-of w) Formula) → Past-formulas n → n < 22 → (o : Relation) × (pos n ≡ rel-word o)
+  relation-left (Row.Formula True) f s p h = absurd (p .0 .0 .1 (unspell f))
+  relation-left (Row.Formula False) f s p h = absurd (p .0 .1 (unspell f))
+  relation-left (Row.Formula (Comparison o x y)) f s p h = (o, f)
+  relation-left (Row.Formula (Not x)) f s p h = absurd (p .1 (unspell f))
+  relation-left (Row.Formula (Junction o x y)) f s p h = absurd (let c = connective-within o f in omega linear)
+  relation-left (Row.Expression w) f s p h = absurd s
+  relation-left (Row.Statement w) f s p h = absurd s
+  relation-left (Row.Note i v) f s p h = absurd s
+  relation-left (Row.Script x y z) f s p h = absurd s
+  relation-left Row.Unknown f s p h = absurd s
+
+  connective-left : (w : Row) → Fits (pos n) a w → T (same-sort (sort-of w) Formula) → Past-formulas n → 22 ≤ n → (o : Connective) × (pos n ≡ conn-word o)
+  connective-left (Row.Formula True) f s p h = absurd (p .0 .0 .1 (unspell f))
+  connective-left (Row.Formula False) f s p h = absurd (p .0 .1 (unspell f))
+  connective-left (Row.Formula (Comparison o x y)) f s p h = absurd (let c = relation-below o f in omega linear)
+  connective-left (Row.Formula (Not x)) f s p h = absurd (p .1 (unspell f))
+  connective-left (Row.Formula (Junction o x y)) f s p h = (o, f)
+  connective-left (Row.Expression w) f s p h = absurd s
+  connective-left (Row.Statement w) f s p h = absurd s
+  connective-left (Row.Note i v) f s p h = absurd s
+  connective-left (Row.Script x y z) f s p h = absurd s
+  connective-left Row.Unknown f s p h = absurd s
+
+-- ---- the row
+
+module _ (t : List ℤ) (r n : ℕ) where
+  -- a row with two parts of which the kind word is its operator's, relation's or connective's
+  pub record Paired {O : Type 0} (of : O → ℤ) (node : O → Row) : Type 0 where
+    pub op : O
+    pub spelled : pos n ≡ of op
+    pub fits : SFits w32 (pos n)
+    pub is : row t r ≡ node op
+
+  abbrev pub Operation : Type 0
+  Operation = Paired op-word (λ o. Row.Expression (Arithmetic o (row-no (word t r 1)) (row-no (word t r 2))))
+
+  abbrev pub Compared : Type 0
+  Compared = Paired rel-word (λ o. Row.Formula (Comparison o (row-no (word t r 1)) (row-no (word t r 2))))
+
+  abbrev pub Joined : Type 0
+  Joined = Paired conn-word (λ o. Row.Formula (Junction o (row-no (word t r 1)) (row-no (word t r 2))))
+
+  module _ (read : n ≡ field-number (word t r 0)) where
+    pub of-kind : (k : ℕ) → n ≡ k → row t r ≡ row-of k (word t r 1) (word t r 2) (word t r 3)
+    of-kind k e = sym (row-is t r) ∙ ap (λ (i : ℕ). row-of i (word t r 1) (word t r 2) (word t r 3)) (sym read ∙ e)
+
+    here : row t r ≡ row-with (pos n) (word t r 1) (word t r 2) (word t r 3)
+    here = sym (row-is t r) ∙ ap (λ (i : ℕ). row-of i (word t r 1) (word t r 2) (word t r 3)) (sym read)
+
+    spelled-by : {k : ℤ} → pos n ≡ k → row t r ≡ row-with k (word t r 1) (word t r 2) (word t r 3)
+    spelled-by e = here ∙ ap (λ (k : ℤ). row-with k (word t r 1) (word t r 2) (word t r 3)) e
+
+    fits-here : Fits (pos n) (word t r 1) (row t r)
+    fits-here = rw here (row-fits (pos n) (word t r 1) (word t r 2) (word t r 3))
+
+    pub operation : T (same-sort (sort-of (row t r)) Expression) → Past-expressions n → Operation
+    operation s p =
+        let f = operator-left n (word t r 1) (row t r) fits-here s p in
+        let l = operator-below (f .0) (f .1) in
+        record { op = f .0; spelled = f .1; fits = record { sfits = omega linear }; is = spelled-by (f .1) ∙ operator-row _ _ _ (f .0) }
+
+    pub comparison : T (same-sort (sort-of (row t r)) Formula) → Past-formulas n → n < 22 → Compared
+    comparison s p h =
+        let f = relation-left n (word t r 1) (row t r) fits-here s p h in
+        record { op = f .0; spelled = f .1; fits = record { sfits = omega linear }; is = spelled-by (f .1) ∙ relation-row _ _ _ (f .0) }
+
+    pub junction : T (same-sort (sort-of (row t r)) Formula) → Past-formulas n → 22 ≤ n → Joined
+    junction s p h =
+        let f = connective-left n (word t r 1) (row t r) fits-here s p h in
+        let l = connective-within (f .0) (f .1) in
+        record { op = f .0; spelled = f .1; fits = record { sfits = omega linear }; is = spelled-by (f .1) ∙ connective-row _ _ _ (f .0) }
+
+    -- whether a relation or a connective
+    pub pair-fits : T (same-sort (sort-of (row t r)) Formula) → Past-formulas n → SFits w32 (pos n)
+    pair-fits s p = by (ltb n 22) refl
+      where
+        by : (b : Bool) → ltb n 22 ≡ b → SFits w32 (pos n)
+        by true e = comparison s p (ltb-true n 22 e) .fits
+        by false e = junction s p (ltb-false n 22 e) .fits
