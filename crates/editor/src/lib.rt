@@ -6,7 +6,7 @@ ghost use mathlib.Core.Path.{_≡_};
 ghost use Prim.Native.Nat.{_+_, _*_, _<_, _≤_, min};
 ghost use lib.ListN.{length, getD, take};
 ghost use Rattle.editor.specs.Flat.{none, flat, put-row, copy-first, rows-copied};
-ghost use Rattle.editor.specs.Gives.{Gives};
+ghost use Rattle.generate.specs.Whole.{Left};
 
 // A row of a table: its kind and its three fields.
 #[repr(C)]
@@ -65,7 +65,7 @@ fn within(n: usize) -> usize
 // over 8,192 words.
 fn front(table: &[i32], n: usize, list: &mut [i32], scratch: &mut [i32]) -> Answer
     requires { ⌜ length (now table) ≡ 8192 ⌝ }
-    ensures { λ r. ⌜ Gives (take (4 * rows-copied n) (now (table .entry))) (length (now (list .entry))) (length (now (scratch .entry))) r (now (list .exit)) (now (scratch .exit)) ⌝ }
+    ensures { λ r. ⌜ Left (take (4 * rows-copied n) (now (table .entry))) (length (now (list .entry))) (length (now (scratch .entry))) r (now (list .exit)) (now (scratch .exit)) ⌝ }
 {
     let end = 4 * within(n);
     generate::generate(&table[..end], list, scratch)
@@ -73,7 +73,7 @@ fn front(table: &[i32], n: usize, list: &mut [i32], scratch: &mut [i32]) -> Answ
 
 // Lists the conditions of the script that the records hold.
 pub fn generate_records(records: &[Record], list: &mut [i32], scratch: &mut [i32]) -> Answer
-    ensures { λ r. ⌜ Gives (flat (now (records .entry))) (length (now (list .entry))) (length (now (scratch .entry))) r (now (list .exit)) (now (scratch .exit)) ⌝ }
+    ensures { λ r. ⌜ Left (flat (now (records .entry))) (length (now (list .entry))) (length (now (scratch .entry))) r (now (list .exit)) (now (scratch .exit)) ⌝ }
 {
     let mut table = [0i32; 8192];
     let n = records.len();
@@ -90,7 +90,7 @@ fn at_most_2049(n: usize) -> usize
 
 // The entry on the first n records, for callers with records by value: such a caller is not proved by hand.
 pub fn of_first(records: [Record; 2049], n: usize, list: &mut [i32], scratch: &mut [i32]) -> Answer
-    ensures { λ r. ⌜ Gives (flat (take n records)) (length (now (list .entry))) (length (now (scratch .entry))) r (now (list .exit)) (now (scratch .exit)) ⌝ }
+    ensures { λ r. ⌜ Left (flat (take n records)) (length (now (list .entry))) (length (now (scratch .entry))) r (now (list .exit)) (now (scratch .exit)) ⌝ }
 {
     let end = at_most_2049(n);
     generate_records(&records[..end], list, scratch)

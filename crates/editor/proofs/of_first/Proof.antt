@@ -51,11 +51,10 @@ use Rattle.editor.specs.declared.Record.{Record}
 use Rattle.script.specs.declared.Answer.{Answer}
 use Rattle.editor.proofs.Record as R
 use Rattle.editor.proofs.Record.Laws as R′
-use Rattle.script.specs.Generated.{Outcome, outcome}
 use Rattle.script.proofs.Answer as S
 use Rattle.script.proofs.Answer.Laws as S′
 use Rattle.editor.specs.Flat.{flat}
-use Rattle.editor.specs.Gives.{Gives}
+use Rattle.generate.specs.Whole.{Left}
 use Rattle.editor.proofs.Lent.{to-lend, room-back, Rest, front-out, front-in}
 use Rattle.editor.proofs.at_most_2049 as most
 use Rattle.editor.proofs.at_most_2049.Symbol as most-def
@@ -121,7 +120,7 @@ module _ {M : Type 1} (𝓤 : URA M) (H : Heap 𝓤) (A : Atoms 𝓤) (W : Given
   Post = walkOf 𝓤 H A f.ended stayed (f.clauses 𝓤 H A mem run) .post (((κ₀, (κ₁, tt)), (q₀, (q₁, tt)), tt, a, at), tt)
 
   abbrev Said : Answer → List ℤ → List ℤ → Type 0
-  Said = Gives (flat ys) (length (now list)) (length (now scratch))
+  Said = Left (flat ys) (length (now list)) (length (now scratch))
 
   exits : (r : Answer) (u : Val) (l s : List ℤ) → n < 2 ^ 64 → Said r l s → length l ≡ length (now list) → length s ≡ length (now scratch)
       → ent 𝓤 (⋆ 𝓤 H A ((‵ (flft κ₀ q₀) ⊛ ‵ (flft κ₁ q₁) ⊛ ‵ ftrue) ∷ ‵ (S.the-row .own r (u ∷ [])) ∷ ‵ (finally i32 (list .name) l) ∷ ‵ (finally i32 (scratch .name) s) ∷ ‵ Own ∷ [])) (Post u)

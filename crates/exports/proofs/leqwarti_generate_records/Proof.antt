@@ -40,7 +40,7 @@ use denote.Triple.Walked.{Stays, stay-none-slice, gave-slice, gave-ref, walkOf, 
 use denote.Exit.{yes}
 use Rattle.editor.specs.declared.Record.{Record}
 use Rattle.editor.specs.Flat.{flat}
-use Rattle.editor.specs.Gives.{Gives}
+use Rattle.generate.specs.Whole.{Left}
 use Rattle.editor.proofs.Record as R
 use Rattle.script.specs.declared.Answer.{Answer}
 use Rattle.script.proofs.Answer as S
@@ -144,20 +144,20 @@ module _ {M : Type 1} (𝓤 : URA M) (H : Heap 𝓤) (A : Atoms 𝓤) (W : Given
   abbrev Post : Val → SProp 𝓤
   Post = walkOf 𝓤 H A f.ended stayed (f.clauses 𝓤 H A mem run) .post (((κ₀, (κ₁, (κ₂, κs))), (q₀, (q₁, (q₂, qs))), tt, a, at), tt)
 
-  abbrev Given-back : Answer → List ℤ → List ℤ → Type 0
-  Given-back = Gives (flat (now rows)) (length (now list)) (length (now scratch))
+  abbrev Said : Answer → List ℤ → List ℤ → Type 0
+  Said = Left (flat (now rows)) (length (now list)) (length (now scratch))
 
   abbrev Told-of : Answer → Four ℕ → Type 0
   Told-of r ns = Told r (ns .0) (ns .1 .0) (ns .1 .1 .0) (ns .1 .1 .1 .0)
 
-  exits : (r : Answer) (l s : List ℤ) (ns : Four ℕ) → Given-back r l s → Told-of r ns → length l ≡ length (now list) → length s ≡ length (now scratch)
+  exits : (r : Answer) (l s : List ℤ) (ns : Four ℕ) → Said r l s → Told-of r ns → length l ≡ length (now list) → length s ≡ length (now scratch)
       → ent 𝓤 (⋆ 𝓤 H A (Toks ∷ OutToks ∷ ‵ Rows ∷ ‵ (finally i32 (list .name) l) ∷ ‵ (finally i32 (scratch .name) s) ∷ ‵ (Lasts ns) ∷ [])) (Post vunit)
   exits r l s ns e t ll ls =
       let told = told-as (e .0) t in
       qed W (Toks ∷ OutToks ∷ ‵ Rows ∷ ‵ (finally i32 (list .name) l) ∷ ‵ (finally i32 (scratch .name) s) ∷ ‵ (Lasts ns) ∷ []) ∵
       suffices ! _ (ends-at 𝓤 H A f.ended stayed (f.clauses 𝓤 H A mem run) W (((κ₀, (κ₁, (κ₂, κs))), (q₀, (q₁, (q₂, qs))), tt, a, at), tt) vunit tt (tt, (l, (s, ns))) (tt, (ll, (ls, (tt, (tt, (tt, (tt, tt)))))))) $
       suffices ! _ (said 𝓤 (both 𝓤 (is 𝓤 (told .0)) (both 𝓤 (is 𝓤 (told .1 .0)) (both 𝓤 (is 𝓤 (told .1 .1 .0))
-      (both 𝓤 (is 𝓤 (told .1 .1 .1)) (both 𝓤 (is 𝓤 (e .1 .0)) (is 𝓤 (e .1 .1)))))))) $
+      (both 𝓤 (is 𝓤 (told .1 .1 .1)) (both 𝓤 (is 𝓤 (e .1 .0)) (is 𝓤 (e .1 .1 .0)))))))) $
       split ! $ move ! (1 ∷ []) $ split ! $ move ! (1 ∷ []) $ split ! $ move ! (0 ∷ 4 ∷ []) $ join ! $ move ! (2 ∷ 0 ∷ []) $ join ! $ move ! (2 ∷ 0 ∷ []) $ join ! $ frame ! $
       -- […; the rows; the list's last words; the scratch's; the four last numbers]
       drop ! $ move ! (2 ∷ 3 ∷ []) $ fjoin ! $ move ! (2 ∷ 0 ∷ []) $ fjoin ! $ move ! (1 ∷ 0 ∷ []) $ fjoin ! $ frame ! $ feqI ! (List Val) (vunit ∷ []) (vunit ∷ []) refl $ done !
@@ -202,8 +202,8 @@ module _ {M : Type 1} (𝓤 : URA M) (H : Heap 𝓤) (A : Atoms 𝓤) (W : Given
         move ! (6 ∷ 5 ∷ []) $ join ! $ move ! (1 ∷ 0 ∷ []) $ join ! $ move ! (2 ∷ 0 ∷ []) $ use2 W (raw (Entry 𝓤 H A mem run .pre to-entry)) goes-entry $
         calls-at ! fm (Entry 𝓤 H A mem run) known-entry to-entry (and-then ! (load ! (from ! (stop !)) (look ! 36 refl)) (and-then ! (load ! (from ! (stop !)) (look ! 18 refl)) (and-then ! (load ! (from ! (stop !)) (look ! 14 refl)) (no-more !)))) (λ u.
         use1 W (later (some (λ (r : Answer). (Toks ⊛ ‵ (S.the-row .own r (u ∷ []))) ⊛ raw (ensured 𝓤 H A gen.ended (gen.clauses 𝓤 H A mem run) (κ₀, (κ₁, (κ₂, tt))) (rows, (list, (scratch, tt))) tt r)))) (id⊢ 𝓤 _) $ await ! tt $ pick ! (λ r.
-        split ! $ move ! (1 ∷ []) $ use1 W (some (λ (ws : Unit {0} × (List ℤ × (List ℤ × Unit {0}))). ‵ (lasts gen.ended (κ₀, (κ₁, (κ₂, tt))) (rows, (list, (scratch, tt))) ws) ⊛ raw (fact 𝓤 (Given-back r (ws .1 .0) (ws .1 .1 .0))))) (id⊢ 𝓤 _) $ pick ! (λ ws.
-        split ! $ move ! (1 ∷ []) $ heard ! (Given-back r (ws .1 .0) (ws .1 .1 .0)) (λ e. fsplit ! $ drop ! $ fsplit ! $ fsplit ! $ move ! (1 ∷ []) $ feqL ! (λ ll. move ! (1 ∷ []) $ fsplit ! $ fsplit ! $ move ! (1 ∷ []) $ feqL ! (λ ls.
+        split ! $ move ! (1 ∷ []) $ use1 W (some (λ (ws : Unit {0} × (List ℤ × (List ℤ × Unit {0}))). ‵ (lasts gen.ended (κ₀, (κ₁, (κ₂, tt))) (rows, (list, (scratch, tt))) ws) ⊛ raw (fact 𝓤 (Said r (ws .1 .0) (ws .1 .1 .0))))) (id⊢ 𝓤 _) $ pick ! (λ ws.
+        split ! $ move ! (1 ∷ []) $ heard ! (Said r (ws .1 .0) (ws .1 .1 .0)) (λ e. fsplit ! $ drop ! $ fsplit ! $ fsplit ! $ move ! (1 ∷ []) $ feqL ! (λ ll. move ! (1 ∷ []) $ fsplit ! $ fsplit ! $ move ! (1 ∷ []) $ feqL ! (λ ls.
         -- [the scratch's last words; …; the list's; the three tokens and the answer; the rows; four tokens; the four; _17; …]
         move ! (3 ∷ []) $ split ! $ move ! (1 ∷ []) $ peeks ! S.the-row (Is S.the-row) (shows 𝓤 H A S.the-row) r (u ∷ []) (λ is. land ! (from ! (stop !)) (init ! 26 refl (LL.lawful S.the-type S′.the-laws 𝓤 H A W .typed r _ is .0)) $
         assigns ! (addr ! (from ! (hop ! (look ! 34 refl) (stop !)))) (from ! (stop !)) (init ! 14 refl (tt, tt)) $ assigns ! (addr ! (from ! (hop ! (look ! 32 refl) (stop !)))) (from ! (stop !)) (init ! 12 refl (tt, tt)) $
