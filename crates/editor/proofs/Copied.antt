@@ -122,7 +122,8 @@ module _ (list scratch : ℕ) where
   over rs l =
       let e : length (flat rs) ≡ 4 * length rs = flat-length rs ∙ sym (quad-is (length rs)) in
       let h : 8192 < length (flat rs) = subst (λ (k : ℕ). 8192 < k) (sym e) (omega (arith, l)) in
-      outcome-refused [] list scratch (length-refused [] (inl refl)) ∙ sym (outcome-refused (flat rs) list scratch (length-refused (flat rs) (inr (inr h))))
+      outcome-refused [] list scratch (length-refused [] (inl refl))
+      ∙ sym (outcome-refused (flat rs) list scratch (length-refused (flat rs) (inr (inr h))))
 
   pub same-outcome : (rs : List Record) (t : List ℤ) → length t ≡ 8192
       → outcome (take (4 * rows-copied (length rs)) (copy-first rs (rows-copied (length rs)) t)) list scratch ≡ outcome (flat rs) list scratch

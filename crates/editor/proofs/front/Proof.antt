@@ -55,7 +55,8 @@ returns c =
     let made = c .before .before .generate .ensures in
     let asked = c .before .before .before .before .before .before in
     let start = asked .before .args in
-    on-front (now (start .table)) (length (now (start .list))) (length (now (start .scratch))) (start .n) (asked .within .result) (asked .within .ensures) made
+    on-front (now (start .table)) (length (now (start .list))) (length (now (start .scratch))) (start .n)
+    (asked .within .result) (asked .within .ensures) made
 
 pub front-spec : {M : Type 1} → statement M
 front-spec = tie.close (tie.spec within-requires mul-end slice-aggregate-generate generate-requires same-length same-length-2 returns)

@@ -140,7 +140,8 @@ module _ {M : Type 1} (𝓤 : URA M) (H : Heap 𝓤) (A : Atoms 𝓤) (W : Given
   exits t zs m r u l s long em et e ll ls =
       let is : t ≡ copy-first rs (rows-copied n) zs = et ∙ ap (λ (k : ℕ). copy-first rs k zs) em in
       let same : outcome (words-of t) (length (now list)) (length (now scratch)) ≡ outcome (flat rs) (length (now list)) (length (now scratch)) =
-      ap (λ (x : List ℤ). outcome (words-of x) (length (now list)) (length (now scratch))) is ∙ same-outcome (length (now list)) (length (now scratch)) rs zs long in
+      ap (λ (x : List ℤ). outcome (words-of x) (length (now list)) (length (now scratch))) is
+      ∙ same-outcome (length (now list)) (length (now scratch)) rs zs long in
       qed W (‵ (flft κ₀ q₀) ∷ (‵ (flft κ₁ q₁) ⊛ ‵ (flft κ₂ q₂) ⊛ ‵ ftrue) ∷ ‵ (S.the-row .own r (u ∷ [])) ∷ ‵ (finally i32 (list .name) l) ∷ ‵ (finally i32 (scratch .name) s) ∷ ‵ Rows ∷ []) ∵
       suffices ! _ (ends-at 𝓤 H A f.ended stayed (f.clauses 𝓤 H A at-mem run) W (((κ₀, (κ₁, (κ₂, tt))), (q₀, (q₁, (q₂, tt))), tt, a, at), tt) u r (tt, (l, (s, tt))) (tt, (ll, (ls, tt)))) $
       says ! (left-as (words-of t) (flat rs) (length (now list)) (length (now scratch)) same e) $
