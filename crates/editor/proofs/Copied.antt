@@ -3,19 +3,19 @@
 --     within-fits  the records that are copied are there, and the table has room for them
 --     same-outcome the generator's outcome on the front of the table is the one on the records' words
 use mathlib.Core.Path.{_≡_, refl, sym, ap, subst, _∙_}
-use Prim.Native.Nat.{ℕ, zero, suc, _+_, _*_, _%_, _<_, _≤_}
+use Prim.Native.Nat.{ℕ, zero, suc, _+_, _*_, _<_, _≤_}
 use native.Mathlib.Nat.{not-suc-le-zero, le-of-suc-le-suc, le-refl}
 use native.Mathlib.Omega.{arith}
-use mathlib.Core.Bool.{Bool, true, false, not, _||_}
+use mathlib.Core.Bool.{Bool, true, false, not}
+use mathlib.Core.Logic.{inl, inr}
 use mathlib.Core.List.{List, [], _∷_, _++_}
-use borrow.Author.Tests.{lt-ltb}
-use lib.Dec.{T, eqb, leb, leb→le, nleb→lt}
+use lib.Dec.{T, leb→le, nleb→lt}
 use lib.ListN.{length, getD, set, take, drop, length-set}
 use lib.IntN.{ℤ}
 use Rattle.editor.specs.Flat.{none, flat, put-row, copy-first, few, rows-copied}
 use Rattle.editor.specs.declared.Record.{Record}
-use Rattle.script.specs.Refusals.{verdict, refused, length-test}
 use Rattle.script.specs.Generated.{outcome}
+use Rattle.theorems.specs.Numbers.{length-refused}
 use Rattle.generate.specs.Outcomes.{outcome-refused}
 use Rattle.editor.proofs.Few.{taken, left}
 
@@ -116,26 +116,14 @@ flat-length : (rs : List Record) → length (flat rs) ≡ quad (length rs)
 flat-length [] = refl
 flat-length (r ∷ rs) = ap (λ (k : ℕ). suc (suc (suc (suc k)))) (flat-length rs)
 
-or-true : (a b : Bool) → a || (b || true) ≡ true
-or-true true b = refl
-or-true false true = refl
-or-true false false = refl
-
-long-refused : (t : List ℤ) → 8192 < length t → verdict t ≡ refused 1 0
-unfolding verdict length-test
-long-refused t h = rw (lt-ltb 8192 (length t) h, or-true (eqb (length t) 0) (not (eqb (length t % 4) 0)))
-
-none-refused : verdict [] ≡ refused 1 0
-unfolding verdict length-test
-none-refused = refl
-
 module _ (list scratch : ℕ) where
   -- over 2,048 records: number 1, as for no words
   over : (rs : List Record) → 2048 < length rs → outcome [] list scratch ≡ outcome (flat rs) list scratch
   over rs l =
       let e : length (flat rs) ≡ 4 * length rs = flat-length rs ∙ sym (quad-is (length rs)) in
       let h : 8192 < length (flat rs) = subst (λ (k : ℕ). 8192 < k) (sym e) (omega (arith, l)) in
-      outcome-refused [] list scratch none-refused ∙ sym (outcome-refused (flat rs) list scratch (long-refused (flat rs) h))
+      outcome-refused [] list scratch (length-refused [] (inl refl))
+      ∙ sym (outcome-refused (flat rs) list scratch (length-refused (flat rs) (inr (inr h))))
 
   pub same-outcome : (rs : List Record) (t : List ℤ) → length t ≡ 8192
       → outcome (take (4 * rows-copied (length rs)) (copy-first rs (rows-copied (length rs)) t)) list scratch ≡ outcome (flat rs) list scratch

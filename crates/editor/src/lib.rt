@@ -3,12 +3,13 @@
 // functions that hold the records are proved by hand.
 use script::Answer;
 ghost use mathlib.Core.Path.{_≡_};
-ghost use Prim.Native.Nat.{_+_, _*_, _<_, _≤_};
+ghost use Prim.Native.Nat.{_+_, _*_, _<_, _≤_, min};
 ghost use lib.ListN.{length, getD, take};
 ghost use Rattle.editor.specs.Flat.{none, flat, put-row, copy-first, rows-copied};
-ghost use Rattle.editor.specs.Gives.{Gives};
+ghost use Rattle.generate.specs.Whole.{Left};
 
 // A row of a table: its kind and its three fields.
+#[repr(C)]
 pub struct Record {
     pub kind: i32,
     pub first: i32,
@@ -64,7 +65,7 @@ fn within(n: usize) -> usize
 // over 8,192 words.
 fn front(table: &[i32], n: usize, list: &mut [i32], scratch: &mut [i32]) -> Answer
     requires { ⌜ length (now table) ≡ 8192 ⌝ }
-    ensures { λ r. ⌜ Gives (take (4 * rows-copied n) (now (table .entry))) (length (now (list .entry))) (length (now (scratch .entry))) r (now (list .exit)) (now (scratch .exit)) ⌝ }
+    ensures { λ r. ⌜ Left (take (4 * rows-copied n) (now (table .entry))) (length (now (list .entry))) (length (now (scratch .entry))) r (now (list .exit)) (now (scratch .exit)) ⌝ }
 {
     let end = 4 * within(n);
     generate::generate(&table[..end], list, scratch)
@@ -72,7 +73,7 @@ fn front(table: &[i32], n: usize, list: &mut [i32], scratch: &mut [i32]) -> Answ
 
 // Lists the conditions of the script that the records hold.
 pub fn generate_records(records: &[Record], list: &mut [i32], scratch: &mut [i32]) -> Answer
-    ensures { λ r. ⌜ Gives (flat (now (records .entry))) (length (now (list .entry))) (length (now (scratch .entry))) r (now (list .exit)) (now (scratch .exit)) ⌝ }
+    ensures { λ r. ⌜ Left (flat (now (records .entry))) (length (now (list .entry))) (length (now (scratch .entry))) r (now (list .exit)) (now (scratch .exit)) ⌝ }
 {
     let mut table = [0i32; 8192];
     let n = records.len();
@@ -80,28 +81,17 @@ pub fn generate_records(records: &[Record], list: &mut [i32], scratch: &mut [i32
     front(&table, n, list, scratch)
 }
 
-// The entry for callers with records by value, at the numbers of records that the cases need: such a caller is not proved
-// by hand.
-pub fn of_four(records: [Record; 4], list: &mut [i32], scratch: &mut [i32]) -> Answer
-    ensures { λ r. ⌜ Gives (flat records) (length (now (list .entry))) (length (now (scratch .entry))) r (now (list .exit)) (now (scratch .exit)) ⌝ }
+// How many of the first n of 2,049 records there are.
+fn at_most_2049(n: usize) -> usize
+    ensures { λ r. ⌜ r ≡ min n 2049 ⌝ }
 {
-    generate_records(&records, list, scratch)
+    if n <= 2049 { n } else { 2049 }
 }
 
-pub fn of_twenty(records: [Record; 20], list: &mut [i32], scratch: &mut [i32]) -> Answer
-    ensures { λ r. ⌜ Gives (flat records) (length (now (list .entry))) (length (now (scratch .entry))) r (now (list .exit)) (now (scratch .exit)) ⌝ }
+// The entry on the first n records, for callers with records by value: such a caller is not proved by hand.
+pub fn of_first(records: [Record; 2049], n: usize, list: &mut [i32], scratch: &mut [i32]) -> Answer
+    ensures { λ r. ⌜ Left (flat (take n records)) (length (now (list .entry))) (length (now (scratch .entry))) r (now (list .exit)) (now (scratch .exit)) ⌝ }
 {
-    generate_records(&records, list, scratch)
-}
-
-pub fn of_none(records: [Record; 0], list: &mut [i32], scratch: &mut [i32]) -> Answer
-    ensures { λ r. ⌜ Gives (flat records) (length (now (list .entry))) (length (now (scratch .entry))) r (now (list .exit)) (now (scratch .exit)) ⌝ }
-{
-    generate_records(&records, list, scratch)
-}
-
-pub fn of_2049(records: [Record; 2049], list: &mut [i32], scratch: &mut [i32]) -> Answer
-    ensures { λ r. ⌜ Gives (flat records) (length (now (list .entry))) (length (now (scratch .entry))) r (now (list .exit)) (now (scratch .exit)) ⌝ }
-{
-    generate_records(&records, list, scratch)
+    let end = at_most_2049(n);
+    generate_records(&records[..end], list, scratch)
 }

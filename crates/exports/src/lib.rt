@@ -1,12 +1,16 @@
 // The entries for other languages: the check, the list reader and the generator, with their answers as numbers that the caller
 // lends. A slice is its place and its length.
 
+use editor::Record;
+use script::Answer;
 use table::Verdict;
 ghost use mathlib.Core.Path.{_≡_};
 ghost use lib.ListN.{length};
 ghost use Rattle.script.specs.Refusals.{verdict};
 ghost use Rattle.script.specs.Generated.{outcome};
+ghost use Rattle.editor.specs.Flat.{flat};
 ghost use Rattle.script.specs.Listing.{line-at, first-place, step-back, next-place};
+ghost use Rattle.exports.specs.Told.{Told};
 ghost use Rattle.exports.specs.Verdicts.{number-of, row-of};
 
 // The verdict on a table: number and row, both 0 where it is accepted.
@@ -89,6 +93,22 @@ pub extern "C" fn leqwarti_step(
     *end = passed.end;
 }
 
+// An answer as the four numbers.
+fn tell(
+    answer: Answer,
+    number: &mut usize,
+    row: &mut usize,
+    conditions: &mut usize,
+    words: &mut usize,
+)
+    ensures { λ _. ⌜ Told answer (now (number .exit)) (now (row .exit)) (now (conditions .exit)) (now (words .exit)) ⌝ }
+{
+    *number = answer.number;
+    *row = answer.row;
+    *conditions = answer.conditions;
+    *words = answer.words;
+}
+
 // Lists the conditions of the table's script: number and row, how many conditions, and the words used.
 #[no_mangle]
 pub extern "C" fn leqwarti_generate(
@@ -108,8 +128,27 @@ pub extern "C" fn leqwarti_generate(
     ensures scratch { λ _. ⌜ now (scratch .exit) ≡ outcome (now (table .entry)) (length (now (list .entry))) (length (now (scratch .entry))) .scratch ⌝ }
 {
     let answer = generate::generate(table, list, scratch);
-    *number = answer.number;
-    *row = answer.row;
-    *conditions = answer.conditions;
-    *words = answer.words;
+    tell(answer, number, row, conditions, words)
+}
+
+// The same for a table of row records.
+#[no_mangle]
+pub extern "C" fn leqwarti_generate_records(
+    records: &[Record],
+    list: &mut [i32],
+    scratch: &mut [i32],
+    number: &mut usize,
+    row: &mut usize,
+    conditions: &mut usize,
+    words: &mut usize,
+)
+    ensures number { λ _. ⌜ now (number .exit) ≡ outcome (flat (now (records .entry))) (length (now (list .entry))) (length (now (scratch .entry))) .answer .number ⌝ }
+    ensures row { λ _. ⌜ now (row .exit) ≡ outcome (flat (now (records .entry))) (length (now (list .entry))) (length (now (scratch .entry))) .answer .row ⌝ }
+    ensures conditions { λ _. ⌜ now (conditions .exit) ≡ outcome (flat (now (records .entry))) (length (now (list .entry))) (length (now (scratch .entry))) .answer .conditions ⌝ }
+    ensures words { λ _. ⌜ now (words .exit) ≡ outcome (flat (now (records .entry))) (length (now (list .entry))) (length (now (scratch .entry))) .answer .words ⌝ }
+    ensures list { λ _. ⌜ now (list .exit) ≡ outcome (flat (now (records .entry))) (length (now (list .entry))) (length (now (scratch .entry))) .list ⌝ }
+    ensures scratch { λ _. ⌜ now (scratch .exit) ≡ outcome (flat (now (records .entry))) (length (now (list .entry))) (length (now (scratch .entry))) .scratch ⌝ }
+{
+    let answer = editor::generate_records(records, list, scratch);
+    tell(answer, number, row, conditions, words)
 }

@@ -59,3 +59,8 @@ module _ (t : List ℤ) (list scratch : ℕ) where
       let n : length l₁ ≡ list = ap length f ∙ length-replicate list (pos 0) in
       let m : length s₁ ≡ scratch = ap length g ∙ length-replicate scratch (pos 0) in
       left-by (rw o (rw (n, m) at (e .0))) (rw o (rw (n, m) at (e .1))) (rw (o, scratch-zeros (tree t) list scratch) g)
+
+-- tables of one outcome leave the same
+pub left-as : (t u : List ℤ) (list scratch : ℕ) {a : Answer} {l s : List ℤ} → outcome t list scratch ≡ outcome u list scratch
+    → Left t list scratch a l s → Left u list scratch a l s
+left-as t u list scratch o left = left-by u list scratch (rw o at (left .0)) (rw o at (left .1 .0)) (rw o at (left .1 .1 .0))

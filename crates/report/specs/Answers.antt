@@ -3,11 +3,9 @@
 use Prim.Native.Nat.{ℕ, zero, suc, _+_, _*_, _-_, _%_, _≤_, _<_}
 use native.Mathlib.Omega.{arith}
 use mathlib.Core.Path.{_≡_, refl, sym, ap, _∙_}
-use mathlib.Core.Logic.{_≢_}
-use mathlib.Core.Bool.{Bool, true, false, cond, not, _||_}
+use mathlib.Core.Logic.{_≢_, inr}
 use mathlib.Core.List.{List, [], _∷_}
-use borrow.Author.Tests.{ne-eqb, eq-eqb, lt-ltb}
-use lib.Dec.{eqb, ltb}
+use borrow.Author.Tests.{ne-eqb, eq-eqb}
 use lib.IntN.{ℤ, pos}
 use lib.ListN.{length, take, length-append, length-replicate}
 use lib.Seq.{length-take-le}
@@ -15,8 +13,8 @@ use Rattle.script.specs.declared.Answer.{Answer}
 use Rattle.script.specs.Conditions.{Condition, conditions}
 use Rattle.script.specs.Words.{list-words}
 use Rattle.script.specs.Trees.{tree}
-use Rattle.script.specs.Refusals.{verdict, accepted, refused, bad-length, length-test}
 use Rattle.script.specs.Generated.{Outcome, zeros, refusal, refuse, plan, room, outcome}
+use Rattle.theorems.specs.Numbers.{length-refused}
 use Rattle.theorems.specs.Outcomes.{outcome-cases}
 use Rattle.generate.specs.Outcomes.{outcome-refused}
 use Rattle.render.specs.Writing.{Wrote, wrote-front, wrote-length}
@@ -56,20 +54,11 @@ words-length (a ∷ b ∷ []) = omega arith
 words-length (a ∷ b ∷ c ∷ []) = omega arith
 words-length (a ∷ b ∷ c ∷ d ∷ bytes) = let h = words-length bytes in omega arith
 
-or-true : (a b : Bool) → a || (b || true) ≡ true
-or-true true b = refl
-or-true false true = refl
-or-true false false = refl
-
-long-refused : (t : List ℤ) → 8192 < length t → verdict t ≡ refused 1 0
-unfolding verdict length-test
-long-refused t h = rw (lt-ltb 8192 (length t) h, or-true (eqb (length t) 0) (not (eqb (length t % 4) 0)))
-
 pub too-long : (input : List ℕ) → length input % 4 ≡ 0 → 32768 < length input → output input ≡ unread-output
 unfolding table-output unread-output
 too-long input e h =
     let l = words-length input in
-    let o = outcome-refused (words-of input) 512 5120 (long-refused (words-of input) (omega arith)) in
+    let o = outcome-refused (words-of input) 512 5120 (length-refused (words-of input) (inr (inr (omega arith)))) in
     fours input e ∙ rw o (refused-text 1 0 (λ z. omega arith) (conditions (tree (words-of input))) [])
 
 -- ---- the words that are used of the list

@@ -137,6 +137,10 @@ refusal-numbers ws =
     rest : Verdict
     rest = script-test ws and-then unlinked-test ws and-then target-test ws and-then reading-test ws and-then nesting-test ws
 
+-- the length is tested first
+pub length-refused : (ws : List ℤ) → Bad-length (length ws) → verdict ws ≡ refused 1 0
+length-refused ws h = refusal-numbers ws 1 0 .1 (inl (refl, refl, h))
+
 -- "No refusal is given in other circumstances."
 pub no-other : (ws : List ℤ) → (verdict ws ≡ accepted) ↔ ((k r : ℕ) → ¬ Occasion ws k r)
 no-other ws = (λ e k r o. clash (sym e ∙ refusal-numbers ws k r .1 o), λ f. go (verdict ws) refl f)

@@ -4,6 +4,8 @@
 use std::ptr::from_mut;
 
 mod exported {
+    use super::Record;
+
     extern "C" {
         pub fn leqwarti_check(
             table: *const i32,
@@ -14,6 +16,18 @@ mod exported {
         pub fn leqwarti_generate(
             table: *const i32,
             table_length: usize,
+            list: *mut i32,
+            list_length: usize,
+            scratch: *mut i32,
+            scratch_length: usize,
+            number: *mut usize,
+            row: *mut usize,
+            conditions: *mut usize,
+            words: *mut usize,
+        );
+        pub fn leqwarti_generate_records(
+            records: *const Record,
+            records_length: usize,
             list: *mut i32,
             list_length: usize,
             scratch: *mut i32,
@@ -45,6 +59,16 @@ mod exported {
             end: *mut usize,
         );
     }
+}
+
+/// A row of a table: its kind and its three fields, an unused one 0.
+#[derive(Clone, Copy, Debug, Default, PartialEq, Eq)]
+#[repr(C)]
+pub struct Record {
+    pub kind: i32,
+    pub first: i32,
+    pub second: i32,
+    pub third: i32,
 }
 
 /// Number and row, both 0 for an accepted table.
@@ -98,6 +122,29 @@ pub fn generate(table: &[i32], list: &mut [i32], scratch: &mut [i32]) -> Answer 
         exported::leqwarti_generate(
             table.as_ptr(),
             table.len(),
+            list.as_mut_ptr(),
+            list.len(),
+            scratch.as_mut_ptr(),
+            scratch.len(),
+            from_mut(&mut answer.number),
+            from_mut(&mut answer.row),
+            from_mut(&mut answer.conditions),
+            from_mut(&mut answer.words),
+        );
+    }
+    answer
+}
+
+/// The generator on a table of row records: the answer of [`generate`] on four
+/// words to a row.
+pub fn generate_records(records: &[Record], list: &mut [i32], scratch: &mut [i32]) -> Answer {
+    let mut answer = Answer::default();
+    // SAFETY: as in `check`, for all records and every length of the buffers.
+    // A record is laid out as the library's, which is `repr(C)` too.
+    unsafe {
+        exported::leqwarti_generate_records(
+            records.as_ptr(),
+            records.len(),
             list.as_mut_ptr(),
             list.len(),
             scratch.as_mut_ptr(),

@@ -52,7 +52,10 @@ pub mod entries;
 mod formula;
 mod refusal;
 
+use entries::Answer;
+
 pub use condition::{Condition, ConditionKind, Conditions, Plan};
+pub use entries::Record;
 pub use formula::Formula;
 pub use refusal::{Reason, Refusal};
 
@@ -76,8 +79,32 @@ pub fn check(table: &[i32]) -> Result<(), Refusal> {
 
 /// Lists the conditions of a table's script, with room for the longest list.
 pub fn plan(table: &[i32]) -> Result<Plan, Refusal> {
+    with_longest_list(|list, scratch| entries::generate(table, list, scratch))
+}
+
+/// The same for a table of row records.
+///
+/// ```
+/// use leqwarti::{Reason, Record};
+///
+/// let row = |kind, first, second, third| Record { kind, first, second, third };
+/// let mut skip = [row(16, 0, 0, 0), row(32, 0, 0, 0), row(16, 0, 0, 0), row(48, 0, 1, 2)];
+/// assert_eq!(leqwarti::plan_records(&skip)?.words(), [25, 16, 16, 4, 3, 3, 1]);
+///
+/// skip[1].kind = 99;
+/// let refusal = leqwarti::plan_records(&skip).unwrap_err();
+/// assert_eq!((refusal.reason, refusal.row), (Reason::UnknownKind, 1));
+/// # Ok::<(), leqwarti::Refusal>(())
+/// ```
+pub fn plan_records(records: &[Record]) -> Result<Plan, Refusal> {
+    with_longest_list(|list, scratch| entries::generate_records(records, list, scratch))
+}
+
+fn with_longest_list(
+    generate: impl FnOnce(&mut [i32], &mut [i32]) -> Answer,
+) -> Result<Plan, Refusal> {
     let mut list = vec![0; LONGEST_LIST];
-    let answer = entries::generate(table, &mut list, &mut vec![0; LARGEST_SCRATCH]);
+    let answer = generate(&mut list, &mut vec![0; LARGEST_SCRATCH]);
     Refusal::unless_zero(answer.number, answer.row)?;
     list.truncate(answer.words);
     Plan::read(list)

@@ -13,7 +13,7 @@ use borrow.Author.Needs.{needs}
 use native.Mathlib.Omega.{arith}
 use Rattle.script.specs.declared.Answer.{Answer}
 use Rattle.editor.specs.Flat.{rows-copied}
-use Rattle.editor.specs.Gives.{Gives}
+use Rattle.generate.specs.Whole.{Left}
 use Rattle.editor.proofs.Copied.{within-fits}
 use Rattle.editor.proofs.front.Statement.{statement}
 use Rattle.editor.proofs.front.Tie as tie
@@ -25,8 +25,8 @@ cut : (t : List ℤ) (n m : ℕ) → m ≡ rows-copied n → length t ≡ 8192 �
 cut t n m e long = sym (length-take-le (4 * m) t (subst (λ (k : ℕ). 4 * m ≤ k) (sym long) (few-words n m e)))
 
 on-front : (t : List ℤ) (list scratch n m : ℕ) {a : Answer} {l s : List ℤ} → m ≡ rows-copied n
-    → Gives (take (4 * m) t) list scratch a l s → Gives (take (4 * rows-copied n) t) list scratch a l s
-on-front t list scratch n m {a} {l} {s} e made = subst (λ (k : ℕ). Gives (take (4 * k) t) list scratch a l s) e made
+    → Left (take (4 * m) t) list scratch a l s → Left (take (4 * rows-copied n) t) list scratch a l s
+on-front t list scratch n m {a} {l} {s} e made = subst (λ (k : ℕ). Left (take (4 * k) t) list scratch a l s) e made
 
 within-requires : tie.Need-within-requires
 within-requires c κs = search needs
@@ -55,8 +55,8 @@ returns c =
     let made = c .before .before .generate .ensures in
     let asked = c .before .before .before .before .before .before in
     let start = asked .before .args in
-    on-front (now (start .table)) (length (now (start .list))) (length (now (start .scratch))) (start .n) (asked .within .result) (asked .within .ensures)
-    (made .0, (made .1 .0, made .1 .1 .0))
+    on-front (now (start .table)) (length (now (start .list))) (length (now (start .scratch))) (start .n)
+    (asked .within .result) (asked .within .ensures) made
 
 pub front-spec : {M : Type 1} → statement M
 front-spec = tie.close (tie.spec within-requires mul-end slice-aggregate-generate generate-requires same-length same-length-2 returns)

@@ -55,7 +55,8 @@ use Rattle.editor.proofs.Big.{big-lit}
 use Rattle.editor.proofs.Copied.{within-fits, same-outcome}
 use Rattle.editor.proofs.Room.{zeroed, starts, room-again}
 use Rattle.editor.proofs.Record as R
-use Rattle.script.specs.Generated.{Outcome, outcome}
+use Rattle.script.specs.Generated.{outcome}
+use Rattle.generate.specs.Whole.{Left, left-as}
 use Rattle.script.proofs.Answer as S
 use Rattle.script.proofs.Answer.Laws as S′
 use Rattle.editor.proofs.within as within
@@ -128,20 +129,22 @@ module _ {M : Type 1} (𝓤 : URA M) (H : Heap 𝓤) (A : Atoms 𝓤) (W : Given
   Post = walkOf 𝓤 H A f.ended stayed (f.clauses 𝓤 H A at-mem run) .post (((κ₀, (κ₁, (κ₂, tt))), (q₀, (q₁, (q₂, tt))), tt, a, at), tt)
 
   -- what `front` ensures of a table t
-  abbrev made : List ℤ → Outcome
-  made t = outcome (take (4 * rows-copied n) t) (length (now list)) (length (now scratch))
+  abbrev words-of : List ℤ → List ℤ
+  words-of t = take (4 * rows-copied n) t
 
   abbrev Said : List ℤ → Answer → List ℤ → List ℤ → Type 0
-  Said t r l s = (r ≡ made t .answer) × ((l ≡ made t .list) × (s ≡ made t .scratch))
+  Said t = Left (words-of t) (length (now list)) (length (now scratch))
 
   exits : (t zs : List ℤ) (m : ℕ) (r : Answer) (u : Val) (l s : List ℤ) → length zs ≡ 8192 → m ≡ rows-copied n → t ≡ copy-first rs m zs → Said t r l s → length l ≡ length (now list) → length s ≡ length (now scratch)
       → ent 𝓤 (⋆ 𝓤 H A (‵ (flft κ₀ q₀) ∷ (‵ (flft κ₁ q₁) ⊛ ‵ (flft κ₂ q₂) ⊛ ‵ ftrue) ∷ ‵ (S.the-row .own r (u ∷ [])) ∷ ‵ (finally i32 (list .name) l) ∷ ‵ (finally i32 (scratch .name) s) ∷ ‵ Rows ∷ [])) (Post u)
   exits t zs m r u l s long em et e ll ls =
       let is : t ≡ copy-first rs (rows-copied n) zs = et ∙ ap (λ (k : ℕ). copy-first rs k zs) em in
-      let same : made t ≡ outcome (flat rs) (length (now list)) (length (now scratch)) = ap made is ∙ same-outcome (length (now list)) (length (now scratch)) rs zs long in
+      let same : outcome (words-of t) (length (now list)) (length (now scratch)) ≡ outcome (flat rs) (length (now list)) (length (now scratch)) =
+      ap (λ (x : List ℤ). outcome (words-of x) (length (now list)) (length (now scratch))) is
+      ∙ same-outcome (length (now list)) (length (now scratch)) rs zs long in
       qed W (‵ (flft κ₀ q₀) ∷ (‵ (flft κ₁ q₁) ⊛ ‵ (flft κ₂ q₂) ⊛ ‵ ftrue) ∷ ‵ (S.the-row .own r (u ∷ [])) ∷ ‵ (finally i32 (list .name) l) ∷ ‵ (finally i32 (scratch .name) s) ∷ ‵ Rows ∷ []) ∵
       suffices ! _ (ends-at 𝓤 H A f.ended stayed (f.clauses 𝓤 H A at-mem run) W (((κ₀, (κ₁, (κ₂, tt))), (q₀, (q₁, (q₂, tt))), tt, a, at), tt) u r (tt, (l, (s, tt))) (tt, (ll, (ls, tt)))) $
-      says ! (e .0 ∙ ap (λ (k : Outcome). k .answer) same, (e .1 .0 ∙ ap (λ (k : Outcome). k .list) same, e .1 .1 ∙ ap (λ (k : Outcome). k .scratch) same)) $
+      says ! (left-as (words-of t) (flat rs) (length (now list)) (length (now scratch)) same e) $
       join ! $ frame ! $ nothing ! $ move ! (3 ∷ 0 ∷ []) $ fjoin ! $ move ! (2 ∷ 0 ∷ []) $ fjoin ! $ move ! (2 ∷ 0 ∷ []) $ fjoin ! $ frame ! $ done !
 
   -- ---- within(n)

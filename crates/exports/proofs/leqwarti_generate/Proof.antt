@@ -1,13 +1,15 @@
 -- `exports::leqwarti_generate` meets its contract: the numbers are the fields of the answer, and the rest is the generator's.
 -- Assumes nothing.
-use mathlib.Core.Path.{ap}
-use Rattle.script.specs.declared.Answer.{Answer}
+use Rattle.exports.specs.Told.{told-as}
 use borrow.Author.Needs.{needs}
 use Rattle.exports.proofs.leqwarti_generate.Statement.{statement}
 use Rattle.exports.proofs.leqwarti_generate.Tie as tie
 
 generate-requires : tie.Need-generate-requires
 generate-requires c κs = search needs
+
+tell-requires : tie.Need-tell-requires
+tell-requires c κs = search needs
 
 same-length : tie.Need-same-length
 same-length c = search needs
@@ -17,11 +19,9 @@ same-length-2 c = search needs
 
 returns : tie.Need-returns
 returns c =
-    let left = c .before .before .generate .ensures in
-    let is = left .0 in (
-      ap (λ (a : Answer). a .number) is,
-      (ap (λ (a : Answer). a .row) is, (ap (λ (a : Answer). a .conditions) is, (ap (λ (a : Answer). a .words) is, (left .1 .0, left .1 .1 .0)))),
-    )
+    let left = c .before .before .before .before .before .before .before .generate .ensures in
+    let told = told-as (left .0) (c .tell .ensures) in
+    (told .0, (told .1 .0, (told .1 .1 .0, (told .1 .1 .1, (left .1 .0, left .1 .1 .0)))))
 
 pub leqwarti-generate-spec : {M : Type 1} → statement M
-leqwarti-generate-spec = tie.close (tie.spec generate-requires same-length same-length-2 returns)
+leqwarti-generate-spec = tie.close (tie.spec generate-requires tell-requires same-length same-length-2 returns)

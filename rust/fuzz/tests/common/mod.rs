@@ -5,6 +5,7 @@ use std::process::{Command, Stdio};
 
 use fuzz::{Answer, Subject};
 use leqwarti::entries;
+use leqwarti::Record;
 use reference::{Line, Verdict};
 
 const PROGRAM: &str = concat!(env!("CARGO_MANIFEST_DIR"), "/../../target/bin/vcgen");
@@ -21,6 +22,15 @@ fn line(found: entries::Line) -> Line {
     }
 }
 
+fn answer(found: entries::Answer) -> Answer {
+    Answer {
+        number: found.number as u8,
+        row: found.row,
+        conditions: found.conditions,
+        words: found.words,
+    }
+}
+
 impl Subject for Proved {
     fn check(&mut self, words: &[i32]) -> Verdict {
         match entries::check(words) {
@@ -33,13 +43,23 @@ impl Subject for Proved {
     }
 
     fn generate(&mut self, words: &[i32], list: &mut [i32], scratch: &mut [i32]) -> Answer {
-        let answer = entries::generate(words, list, scratch);
-        Answer {
-            number: answer.number as u8,
-            row: answer.row,
-            conditions: answer.conditions,
-            words: answer.words,
-        }
+        answer(entries::generate(words, list, scratch))
+    }
+
+    fn generate_from_records(
+        &mut self,
+        records: &[[i32; 4]],
+        list: &mut [i32],
+        scratch: &mut [i32],
+    ) -> Option<Answer> {
+        let record = |&[kind, first, second, third]: &[i32; 4]| Record {
+            kind,
+            first,
+            second,
+            third,
+        };
+        let records: Vec<Record> = records.iter().map(record).collect();
+        Some(answer(entries::generate_records(&records, list, scratch)))
     }
 
     fn line_at(&mut self, list: &[i32], index: i64) -> Line {
