@@ -62,7 +62,8 @@ abbrev pub Past-formulas : ℕ → Type 0
 Past-formulas n = ((Unit {0} × (n ≡ 16 → ⊥)) × (n ≡ 17 → ⊥)) × (n ≡ 22 → ⊥)
 
 module _ (n : ℕ) (a : ℤ) where
-  operator-left : (w : Row) → Fits (pos n) a w → T (same-sort (sort-of w) Expression) → Past-expressions n → (o : Operator) × (pos n ≡ op-word o)
+  operator-left : (w : Row) → Fits (pos n) a w → T (same-sort (sort-of w) Expression) → Past-expressions n
+      → (o : Operator) × (pos n ≡ op-word o)
   operator-left (Row.Expression (Constant z)) f s p = absurd (p .0 .0 .0 .0 .1 (unspell (f .0)))
   operator-left (Row.Expression (Variable v)) f s p = absurd (p .0 .0 .0 .1 (unspell (f .0)))
   operator-left (Row.Expression (Arithmetic o x y)) f s p = (o, f)
@@ -75,7 +76,8 @@ module _ (n : ℕ) (a : ℤ) where
   operator-left (Row.Script x y z) f s p = absurd s
   operator-left Row.Unknown f s p = absurd s
 
-  relation-left : (w : Row) → Fits (pos n) a w → T (same-sort (sort-of w) Formula) → Past-formulas n → n < 22 → (o : Relation) × (pos n ≡ rel-word o)
+  relation-left : (w : Row) → Fits (pos n) a w → T (same-sort (sort-of w) Formula) → Past-formulas n → n < 22
+      → (o : Relation) × (pos n ≡ rel-word o)
   relation-left (Row.Formula True) f s p h = absurd (p .0 .0 .1 (unspell f))
   relation-left (Row.Formula False) f s p h = absurd (p .0 .1 (unspell f))
   relation-left (Row.Formula (Comparison o x y)) f s p h = (o, f)
@@ -87,7 +89,8 @@ module _ (n : ℕ) (a : ℤ) where
   relation-left (Row.Script x y z) f s p h = absurd s
   relation-left Row.Unknown f s p h = absurd s
 
-  connective-left : (w : Row) → Fits (pos n) a w → T (same-sort (sort-of w) Formula) → Past-formulas n → 22 ≤ n → (o : Connective) × (pos n ≡ conn-word o)
+  connective-left : (w : Row) → Fits (pos n) a w → T (same-sort (sort-of w) Formula) → Past-formulas n → 22 ≤ n
+      → (o : Connective) × (pos n ≡ conn-word o)
   connective-left (Row.Formula True) f s p h = absurd (p .0 .0 .1 (unspell f))
   connective-left (Row.Formula False) f s p h = absurd (p .0 .1 (unspell f))
   connective-left (Row.Formula (Comparison o x y)) f s p h = absurd (let c = relation-below o f in omega linear)
