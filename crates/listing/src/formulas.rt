@@ -1,5 +1,6 @@
 // Where an expression or a formula ends: what a word opens, and the two readers, which call each other.
 
+use script::kinds;
 ghost use mathlib.Core.Path.{_≡_};
 ghost use lib.IntN.{ℤ, pos};
 ghost use lib.Dec.{ltb};
@@ -62,12 +63,12 @@ fn expression_node_of(kind: usize, words: &[i32], at: usize) -> ExpressionNode
     ensures { λ r. ⌜ r ≡ expression-node (row-of kind (getD (now (words .entry)) at (pos 0)) (pos 0) (pos 0)) ⌝ }
 {
     match kind {
-        1 => ExpressionNode::Number,
-        2 => number_below(words, at, 256),
-        3..=7 => ExpressionNode::Arithmetic,
-        8 => ExpressionNode::Negate,
-        9 => number_below(words, at, 2048),
-        10 => ExpressionNode::Choose,
+        kinds::CONSTANT => ExpressionNode::Number,
+        kinds::VARIABLE => number_below(words, at, 256),
+        kinds::PLUS..=kinds::MOD => ExpressionNode::Arithmetic,
+        kinds::NEGATE => ExpressionNode::Negate,
+        kinds::MARK => number_below(words, at, 2048),
+        kinds::CHOOSE => ExpressionNode::Choose,
         _ => ExpressionNode::Nothing,
     }
 }
@@ -77,10 +78,10 @@ fn formula_node_of(kind: usize) -> FormulaNode
     ensures { λ r. ⌜ ((next : ℤ) → r ≡ formula-node (row-of kind next (pos 0) (pos 0))) ⌝ }
 {
     match kind {
-        16..=17 => FormulaNode::Truth,
-        18..=21 => FormulaNode::Comparison,
-        22 => FormulaNode::Not,
-        23..=25 => FormulaNode::Junction,
+        kinds::TRUE..=kinds::FALSE => FormulaNode::Truth,
+        kinds::LESS..=kinds::UNEQUAL => FormulaNode::Comparison,
+        kinds::NOT => FormulaNode::Not,
+        kinds::AND..=kinds::IMPLIES => FormulaNode::Junction,
         _ => FormulaNode::Nothing,
     }
 }

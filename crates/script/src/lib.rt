@@ -1,6 +1,8 @@
 // What the code of every layer shares with the definitions in specs/: the numbers of rows and variables, a row taken
 // apart, an answer, a line of a list; and the functions that take a row apart.
 
+pub mod kinds;
+
 ghost use mathlib.Core.Path.{_≡_};
 ghost use Prim.Native.Nat.{ℕ, _+_, _*_, _<_, _≤_};
 ghost use lib.ListN.{length};
@@ -136,34 +138,34 @@ pub fn row_of(n: usize, a: i32, b: i32, c: i32) -> Row
     let rb = row_number(b);
     let rc = row_number(c);
     match n {
-        1 => Row::Expression(ExpressionRow::Constant(a)),
-        2 => Row::Expression(ExpressionRow::Variable(v)),
-        3 => Row::Expression(ExpressionRow::Arithmetic(Operator::Plus, ra, rb)),
-        4 => Row::Expression(ExpressionRow::Arithmetic(Operator::Minus, ra, rb)),
-        5 => Row::Expression(ExpressionRow::Arithmetic(Operator::Times, ra, rb)),
-        6 => Row::Expression(ExpressionRow::Arithmetic(Operator::Div, ra, rb)),
-        7 => Row::Expression(ExpressionRow::Arithmetic(Operator::Mod, ra, rb)),
-        8 => Row::Expression(ExpressionRow::Negate(ra)),
-        9 => Row::Expression(ExpressionRow::Mark(ra)),
-        10 => Row::Expression(ExpressionRow::Choose(ra, rb, rc)),
-        16 => Row::Formula(FormulaRow::True),
-        17 => Row::Formula(FormulaRow::False),
-        18 => Row::Formula(FormulaRow::Comparison(Relation::Less, ra, rb)),
-        19 => Row::Formula(FormulaRow::Comparison(Relation::AtMost, ra, rb)),
-        20 => Row::Formula(FormulaRow::Comparison(Relation::Equal, ra, rb)),
-        21 => Row::Formula(FormulaRow::Comparison(Relation::Unequal, ra, rb)),
-        22 => Row::Formula(FormulaRow::Not(ra)),
-        23 => Row::Formula(FormulaRow::Junction(Connective::And, ra, rb)),
-        24 => Row::Formula(FormulaRow::Junction(Connective::Or, ra, rb)),
-        25 => Row::Formula(FormulaRow::Junction(Connective::Implies, ra, rb)),
-        32 => Row::Statement(StatementRow::Skip),
-        33 => Row::Statement(StatementRow::Assign(v, rb)),
-        34 => Row::Statement(StatementRow::Sequence(ra, rb)),
-        35 => Row::Statement(StatementRow::If(ra, rb, rc)),
-        36 => Row::Statement(StatementRow::While(ra, rb, rc)),
-        37 => Row::Note(ra, rb),
-        38 => Row::Statement(StatementRow::Assert(ra)),
-        48 => Row::Script(ra, rb, rc),
+        kinds::CONSTANT => Row::Expression(ExpressionRow::Constant(a)),
+        kinds::VARIABLE => Row::Expression(ExpressionRow::Variable(v)),
+        kinds::PLUS => Row::Expression(ExpressionRow::Arithmetic(Operator::Plus, ra, rb)),
+        kinds::MINUS => Row::Expression(ExpressionRow::Arithmetic(Operator::Minus, ra, rb)),
+        kinds::TIMES => Row::Expression(ExpressionRow::Arithmetic(Operator::Times, ra, rb)),
+        kinds::DIV => Row::Expression(ExpressionRow::Arithmetic(Operator::Div, ra, rb)),
+        kinds::MOD => Row::Expression(ExpressionRow::Arithmetic(Operator::Mod, ra, rb)),
+        kinds::NEGATE => Row::Expression(ExpressionRow::Negate(ra)),
+        kinds::MARK => Row::Expression(ExpressionRow::Mark(ra)),
+        kinds::CHOOSE => Row::Expression(ExpressionRow::Choose(ra, rb, rc)),
+        kinds::TRUE => Row::Formula(FormulaRow::True),
+        kinds::FALSE => Row::Formula(FormulaRow::False),
+        kinds::LESS => Row::Formula(FormulaRow::Comparison(Relation::Less, ra, rb)),
+        kinds::AT_MOST => Row::Formula(FormulaRow::Comparison(Relation::AtMost, ra, rb)),
+        kinds::EQUAL => Row::Formula(FormulaRow::Comparison(Relation::Equal, ra, rb)),
+        kinds::UNEQUAL => Row::Formula(FormulaRow::Comparison(Relation::Unequal, ra, rb)),
+        kinds::NOT => Row::Formula(FormulaRow::Not(ra)),
+        kinds::AND => Row::Formula(FormulaRow::Junction(Connective::And, ra, rb)),
+        kinds::OR => Row::Formula(FormulaRow::Junction(Connective::Or, ra, rb)),
+        kinds::IMPLIES => Row::Formula(FormulaRow::Junction(Connective::Implies, ra, rb)),
+        kinds::SKIP => Row::Statement(StatementRow::Skip),
+        kinds::ASSIGN => Row::Statement(StatementRow::Assign(v, rb)),
+        kinds::SEQUENCE => Row::Statement(StatementRow::Sequence(ra, rb)),
+        kinds::IF => Row::Statement(StatementRow::If(ra, rb, rc)),
+        kinds::WHILE => Row::Statement(StatementRow::While(ra, rb, rc)),
+        kinds::NOTE => Row::Note(ra, rb),
+        kinds::ASSERT => Row::Statement(StatementRow::Assert(ra)),
+        kinds::SCRIPT => Row::Script(ra, rb, rc),
         _ => Row::Unknown,
     }
 }

@@ -6,6 +6,7 @@
 
 use script::RowNumber;
 use script::VariableNumber;
+use script::kinds;
 ghost use mathlib.Core.Path.{_≡_};
 ghost use mathlib.Core.List.{[], _∷_};
 ghost use Prim.Native.Nat.{ℕ, _+_, _*_, _<_};
@@ -76,19 +77,21 @@ pub fn write_expression(
     }
     let kind = field(table, r, 0);
     match kind {
-        // a constant
-        1 => return push_two(list, at, 1, table[4 * r.0 + 1]),
-        // a variable
-        2 => return write_variable(table, VariableNumber(field(table, r, 1)), list, path, j, at),
-        // negate
-        8 => {
+        kinds::CONSTANT => return push_two(list, at, 1, table[4 * r.0 + 1]),
+        kinds::VARIABLE => return write_variable(
+            table,
+            VariableNumber(field(table, r, 1)),
+            list,
+            path,
+            j,
+            at,
+        ),
+        kinds::NEGATE => {
             let p = push(list, at, 8);
             return write_expression(table, RowNumber(field(table, r, 1)), list, path, j, p);
         }
-        // a mark
-        9 => return push_two(list, at, 9, field(table, r, 1) as i32),
-        // choose
-        10 => {
+        kinds::MARK => return push_two(list, at, 9, field(table, r, 1) as i32),
+        kinds::CHOOSE => {
             let p = push(list, at, 10);
             let q = write_formula(table, RowNumber(field(table, r, 1)), list, path, j, p);
             let s = write_expression(table, RowNumber(field(table, r, 2)), list, path, j, q);
@@ -122,18 +125,16 @@ pub fn write_formula(
     }
     let kind = field(table, r, 0);
     match kind {
-        // true and false
-        16 => return push(list, at, 16),
-        17 => return push(list, at, 17),
-        // not
-        22 => {
+        kinds::TRUE => return push(list, at, 16),
+        kinds::FALSE => return push(list, at, 17),
+        kinds::NOT => {
             let p = push(list, at, 22);
             return write_formula(table, RowNumber(field(table, r, 1)), list, path, j, p);
         }
         // a relation, whose parts are expressions, or a connective
         _ => {
             let p = push(list, at, kind as i32);
-            if kind < 22 {
+            if kind < kinds::NOT {
                 let q = write_expression(table, RowNumber(field(table, r, 1)), list, path, j, p);
                 return write_expression(table, RowNumber(field(table, r, 2)), list, path, j, q);
             } else {
