@@ -121,7 +121,7 @@ fn number_end(words: &[i32], at: usize) -> usize
 
 // Where the expression that begins at a place ends; where there is none, one word past the end of all. No expression
 // begins there, so what follows a part that is missing is missing too. Parts that come after the present one wait. The words
-// are lent on as a part of themselves: a slice that is passed on as it came is copied whole at each entry, which is slow.
+// are lent on as a part of themselves: lent on as they came, their place and length wait in memory at each call.
 pub fn expression_end(words: &[i32], first: usize) -> usize
     ensures { λ r. ⌜ Expression-ends (now (words .entry)) first r ⌝ }
 {
