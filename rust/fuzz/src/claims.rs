@@ -27,6 +27,9 @@ pub struct Fates {
     pub kept_with_all_true: u64,
     /// Runs that broke the claim, a condition being false in one of their states.
     pub broken: u64,
+    /// Runs that broke the claim, no condition being false as far as could be
+    /// told, but one meeting too large a number.
+    pub broken_untold: u64,
     /// Runs that took too many steps or met too large a number.
     pub broken_off: u64,
 }
@@ -69,7 +72,7 @@ fn all_true(conditions: &[Formula], state: &State, context: &str) -> Result<(), 
 
 /// Runs scripts whose conditions need not hold: templates with a changed
 /// meaning and random scripts in turn. A broken claim is to show in a condition
-/// that is false in some state of the run.
+/// that is false in some state of the run, or cannot be told there.
 pub fn run_any(subject: &mut dyn Subject, seed: u64, cases: u64) -> Result<Fates, String> {
     let mut fates = Fates::default();
     for case in 0..cases {
@@ -116,7 +119,8 @@ impl Fates {
         }
         let ended = matches!(trial.run.end, End::Done | End::Failed(_));
         match (&trial.broken, ended) {
-            (Some(_), _) => self.broken += 1,
+            (Some(_), _) if trial.conditions_true == Some(false) => self.broken += 1,
+            (Some(_), _) => self.broken_untold += 1,
             (None, false) => self.broken_off += 1,
             (None, true) => {
                 self.kept += 1;

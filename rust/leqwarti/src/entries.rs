@@ -113,15 +113,35 @@ pub fn check(table: &[i32]) -> Verdict {
     answer
 }
 
-/// The generator. Whatever both buffers held before the call, after it the
-/// list is followed by zeros and the scratch is all zeros.
-pub fn generate(table: &[i32], list: &mut [i32], scratch: &mut [i32]) -> Answer {
+/// An entry that generates, from a table made of `Row`s.
+type Generator<Row> = unsafe extern "C" fn(
+    *const Row,
+    usize,
+    *mut i32,
+    usize,
+    *mut i32,
+    usize,
+    *mut usize,
+    *mut usize,
+    *mut usize,
+    *mut usize,
+);
+
+/// # Safety
+///
+/// `entry` is one of the library's, and takes rows laid out as `Row` is.
+unsafe fn answer_of<Row>(
+    entry: Generator<Row>,
+    rows: &[Row],
+    list: &mut [i32],
+    scratch: &mut [i32],
+) -> Answer {
     let mut answer = Answer::default();
-    // SAFETY: as in `check`, for every table and every length of the buffers.
+    // SAFETY: as in `check`, for all rows and every length of the buffers.
     unsafe {
-        exported::leqwarti_generate(
-            table.as_ptr(),
-            table.len(),
+        entry(
+            rows.as_ptr(),
+            rows.len(),
             list.as_mut_ptr(),
             list.len(),
             scratch.as_mut_ptr(),
@@ -135,27 +155,18 @@ pub fn generate(table: &[i32], list: &mut [i32], scratch: &mut [i32]) -> Answer 
     answer
 }
 
+/// The generator. Whatever both buffers held before the call, after it the
+/// list is followed by zeros and the scratch is all zeros.
+pub fn generate(table: &[i32], list: &mut [i32], scratch: &mut [i32]) -> Answer {
+    // SAFETY: the entry takes words.
+    unsafe { answer_of(exported::leqwarti_generate, table, list, scratch) }
+}
+
 /// The generator on a table of row records: the answer of [`generate`] on four
 /// words to a row.
 pub fn generate_records(records: &[Record], list: &mut [i32], scratch: &mut [i32]) -> Answer {
-    let mut answer = Answer::default();
-    // SAFETY: as in `check`, for all records and every length of the buffers.
-    // A record is laid out as the library's, which is `repr(C)` too.
-    unsafe {
-        exported::leqwarti_generate_records(
-            records.as_ptr(),
-            records.len(),
-            list.as_mut_ptr(),
-            list.len(),
-            scratch.as_mut_ptr(),
-            scratch.len(),
-            from_mut(&mut answer.number),
-            from_mut(&mut answer.row),
-            from_mut(&mut answer.conditions),
-            from_mut(&mut answer.words),
-        );
-    }
-    answer
+    // SAFETY: the entry takes records, which are `repr(C)` there too.
+    unsafe { answer_of(exported::leqwarti_generate_records, records, list, scratch) }
 }
 
 /// The list reader at an index from the front.
