@@ -23,7 +23,6 @@ use Rattle.script.specs.Trees.{expr-node, formula-node, expr-at, formula-at}
 use Rattle.script.specs.Refusals.{same-sort, in-range}
 use Rattle.theorems.specs.Accepted.{Accepted, both}
 use Rattle.theorems.specs.RowTrees.{expr-is, formula-is}
-use Rattle.writing.specs.declared.Place.{Place}
 use Rattle.writing.specs.Writing.{Wrote}
 use Rattle.writing.specs.Links.{Linked, Links, links-of}
 use Rattle.writing.specs.Paths.{replaceᵉ, replaceᶠ, row-on, under, expr-under, formula-under}
@@ -85,12 +84,12 @@ module _ (t path : List ℤ) (j r : ℕ) {s : Sort} (g : Ready t path j r s) whe
   links-at e = links-of t (g .table) r (g .inside) e
 
   -- what is written at a row that is known
-  pub at-expr : {w : Row} {l l′ : List ℤ} {p q : Place} → row t r ≡ w
+  pub at-expr : {w : Row} {l l′ : List ℤ} {p q : ℕ} → row t r ≡ w
       → Wrote l p (expr-words (replaceᵉ (under t path j) (expr-node (expr-at t) (formula-at t) w))) q l′
       → Wrote l p (expr-under t path j r) q l′
   at-expr e w = rw (expr-is t (g .table) r (g .inside) e) w
 
-  pub at-formula : {w : Row} {l l′ : List ℤ} {p q : Place} → row t r ≡ w
+  pub at-formula : {w : Row} {l l′ : List ℤ} {p q : ℕ} → row t r ≡ w
       → Wrote l p (formula-words (replaceᶠ (under t path j) (formula-node (expr-at t) (formula-at t) w))) q l′
       → Wrote l p (formula-under t path j r) q l′
   at-formula e w = rw (formula-is t (g .table) r (g .inside) e) w

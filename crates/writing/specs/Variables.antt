@@ -9,7 +9,6 @@ use mir.Val.{SFits}
 use mir.Syntax.{w32}
 use Rattle.script.specs.declared.Sort.the-variants.{Expression}
 use Rattle.script.specs.Words.{expr-words}
-use Rattle.writing.specs.declared.Place.{Place}
 use Rattle.writing.specs.Writing.{Wrote}
 use Rattle.writing.specs.Links.{Linked, links-of}
 use Rattle.writing.specs.Nodes.{Assignment, OnPath, Ready, VariableReady, base}
@@ -23,7 +22,7 @@ module _ (t path : List ℤ) (j v : ℕ) (g : VariableReady t path j v) {k : ℕ
   found : Found t (g .table) path v j k
   found = rw is (latest-found t (g .table) path v j (g .along))
 
-  pub wrote-itself : {l l′ : List ℤ} {p q : Place} → k ≡ 0 → Wrote l p (pos 2 ∷ pos v ∷ []) q l′
+  pub wrote-itself : {l l′ : List ℤ} {p q : ℕ} → k ≡ 0 → Wrote l p (pos 2 ∷ pos v ∷ []) q l′
       → Wrote l p (expr-words (under t path j v)) q l′
   unfolding expr-words
   wrote-itself e w = rw (found .itself e) w
@@ -54,6 +53,6 @@ module _ (t path : List ℤ) (j v : ℕ) (g : VariableReady t path j v) {k : ℕ
           let h = on-path in
           (omega linear, record { table = g .table; along = earlier; inside = omega linear; sort = rw read (l .1) })
 
-      pub wrote-value : {l l′ : List ℤ} {p q : Place} → Wrote l p (expr-under t path (k - 1) e) q l′
+      pub wrote-value : {l l′ : List ℤ} {p q : ℕ} → Wrote l p (expr-under t path (k - 1) e) q l′
           → Wrote l p (expr-words (under t path j v)) q l′
       wrote-value w = rw (found .value some) (rw read at w)

@@ -19,31 +19,20 @@ ghost use Rattle.writing.specs.Paths.{under, expr-under, formula-under};
 ghost use Rattle.writing.specs.Nodes.{Ready, VariableReady};
 ghost use Rattle.writing.specs.Latest.{latest};
 
-// Where the next word goes, or that there was no room.
-pub enum Place {
-    At(usize),
-    Full,
-}
-
-// Writes one word.
-pub fn push(list: &mut [i32], at: Place, word: i32) -> Place
+// Writes one word. A place is where the next word goes; past the end of the list it says that there was no room.
+pub fn push(list: &mut [i32], at: usize, word: i32) -> usize
     ensures { λ p. ⌜ Wrote (now (list .entry)) at (word ∷ []) p (now (list .exit)) ⌝ }
 {
-    match at {
-        Place::At(i) => {
-            if i < list.len() {
-                list[i] = word;
-                Place::At(i + 1)
-            } else {
-                Place::Full
-            }
-        }
-        Place::Full => Place::Full,
+    if at < list.len() {
+        list[at] = word;
+        at + 1
+    } else {
+        list.len() + 1
     }
 }
 
 // Writes two words.
-pub fn push_two(list: &mut [i32], at: Place, first: i32, second: i32) -> Place
+pub fn push_two(list: &mut [i32], at: usize, first: i32, second: i32) -> usize
     ensures { λ p. ⌜ Wrote (now (list .entry)) at (first ∷ second ∷ []) p (now (list .exit)) ⌝ }
 {
     let p = push(list, at, first);
@@ -65,15 +54,15 @@ pub fn write_expression(
     list: &mut [i32],
     path: &[i32],
     j: usize,
-    at: Place,
-) -> Place
+    at: usize,
+) -> usize
     requires { ⌜ Ready (now table) (now path) j (r .0) Expression ⌝ }
     ensures { λ p. ⌜ Wrote (now (list .entry)) at
         (expr-under (now (table .entry)) (now (path .entry)) j (r .0))
         p (now (list .exit)) ⌝ }
 {
-    if let Place::Full = at {
-        return Place::Full;
+    if list.len() < at {
+        return at;
     }
     let kind = field(table, r, 0);
     match kind {
@@ -113,15 +102,15 @@ pub fn write_formula(
     list: &mut [i32],
     path: &[i32],
     j: usize,
-    at: Place,
-) -> Place
+    at: usize,
+) -> usize
     requires { ⌜ Ready (now table) (now path) j (r .0) Formula ⌝ }
     ensures { λ p. ⌜ Wrote (now (list .entry)) at
         (formula-under (now (table .entry)) (now (path .entry)) j (r .0))
         p (now (list .exit)) ⌝ }
 {
-    if let Place::Full = at {
-        return Place::Full;
+    if list.len() < at {
+        return at;
     }
     let kind = field(table, r, 0);
     match kind {
@@ -168,8 +157,8 @@ fn write_variable(
     list: &mut [i32],
     path: &[i32],
     j: usize,
-    at: Place,
-) -> Place
+    at: usize,
+) -> usize
     requires { ⌜ VariableReady (now table) (now path) j (v .0) ⌝ }
     ensures { λ p. ⌜ Wrote (now (list .entry)) at
         (expr-words (under (now (table .entry)) (now (path .entry)) j (v .0)))

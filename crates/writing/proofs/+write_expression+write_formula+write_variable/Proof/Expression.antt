@@ -2,6 +2,7 @@
 use Prim.Native.Nat.{ℕ}
 use borrow.Author.Needs.{needs}
 use mathlib.Core.Path.{_≡_, refl}
+use native.Mathlib.Omega.{arith}
 use mir.Val.{SFits}
 use mir.Facts.{toZ-ofZ}
 use mir.Syntax.{w32}
@@ -9,7 +10,7 @@ use lib.IntN.{pos}
 use Rattle.script.specs.Rows.{row-of, row, word}
 use Rattle.script.specs.Laws.{back}
 use Rattle.script.specs.Words.{expr-words}
-use Rattle.writing.specs.Writing.{skipped, then}
+use Rattle.writing.specs.Writing.{stopped, then}
 use Rattle.writing.specs.Paths.{replaceᵉ}
 use Rattle.writing.specs.Nodes.{node-ready, variable-ready, mark-fits, links-at, at-expr}
 use Rattle.writing.specs.Kinds.{of-kind, Operation, operation}
@@ -23,7 +24,7 @@ module _ (t : ℕ) where
   Here = lts.After-field (expression-claims t) (expression-at t) reads.Post
 
   abbrev start : Here → lts.Start (expression-claims t) (expression-at t) reads.Post
-  start c = c .before .before .before
+  start c = c .before .before
 
   -- the row is of the kind k
   row-here : (c : Here) (k : ℕ) → c .field .result ≡ k
@@ -33,7 +34,7 @@ module _ (t : ℕ) where
   row-here c k e = of-kind (start c .args .table .now) _ _ (c .field .ensures) k e
 
   returns : lts.Need-returns (expression-claims t) (expression-at t) reads.Post
-  returns c = skipped (c .enum-told .given .1) refl refl
+  returns c = stopped (omega arith) (c .if1 .taken) refl
 
   -- ---- a constant
 
@@ -44,7 +45,7 @@ module _ (t : ℕ) where
       let read = after-push-two .before in
       let arm = read .before .before .before in
       let here = arm .before in
-      at-expr _ _ _ _ (start here .pre .1) (row-here here 1 (arm .match2 .keys1))
+      at-expr _ _ _ _ (start here .pre .1) (row-here here 1 (arm .match .keys1))
       (rw (back (read .push-two-arg2 .given)) at (after-push-two .push-two .ensures))
 
   -- ---- a variable
@@ -55,7 +56,7 @@ module _ (t : ℕ) where
       let arm = c .before .before in
       let here = arm .before in
       let g = start here .pre in
-      variable-ready _ _ _ _ (g .1) _ (g .0) (row-here here 2 (arm .match2 .keys2)) (c .before .field2 .ensures)
+      variable-ready _ _ _ _ (g .1) _ (g .0) (row-here here 2 (arm .match .keys2)) (c .before .field2 .ensures)
 
   returns-3 : lts.Need-returns-3 (expression-claims t) (expression-at t) reads.Post
   unfolding row-of expr-words replaceᵉ
@@ -64,7 +65,7 @@ module _ (t : ℕ) where
       let read = after-write-variable .before .before in
       let arm = read .before in
       let here = arm .before in
-      at-expr _ _ _ _ (start here .pre .1) (row-here here 2 (arm .match2 .keys2))
+      at-expr _ _ _ _ (start here .pre .1) (row-here here 2 (arm .match .keys2))
       (rw (read .field2 .ensures) at (after-write-variable .write-variable .ensures))
 
   -- ---- a negation
@@ -75,7 +76,7 @@ module _ (t : ℕ) where
       let arm = c .before .before .before .before .before in
       let here = arm .before in
       let g = start here .pre in
-      node-ready _ _ _ _ _ (g .0) (g .1) (links-at _ _ _ _ (g .1) (row-here here 8 (arm .match2 .keys3)) .0) (c .before .field3 .ensures)
+      node-ready _ _ _ _ _ (g .0) (g .1) (links-at _ _ _ _ (g .1) (row-here here 8 (arm .match .keys3)) .0) (c .before .field3 .ensures)
 
   returns-4 : lts.Need-returns-4 (expression-claims t) (expression-at t) reads.Post
   unfolding row-of expr-words replaceᵉ
@@ -85,7 +86,7 @@ module _ (t : ℕ) where
       let after-push = read .before .before in
       let arm = after-push .before .before in
       let here = arm .before in
-      at-expr _ _ _ _ (start here .pre .1) (row-here here 8 (arm .match2 .keys3))
+      at-expr _ _ _ _ (start here .pre .1) (row-here here 8 (arm .match .keys3))
       (then (after-push .push .ensures) (rw (read .field3 .ensures) at (after-write-expression .write-expression .ensures)))
 
   -- ---- a mark
@@ -95,7 +96,7 @@ module _ (t : ℕ) where
   mark-here c =
       let arm = c .before .before in
       let here = arm .before in
-      rw (c .field4 .ensures) (mark-fits _ _ _ _ (start here .pre .1) (row-here here 9 (arm .match2 .keys4)))
+      rw (c .field4 .ensures) (mark-fits _ _ _ _ (start here .pre .1) (row-here here 9 (arm .match .keys4)))
 
   returns-5 : lts.Need-returns-5 (expression-claims t) (expression-at t) reads.Post
   unfolding row-of expr-words replaceᵉ
@@ -104,7 +105,7 @@ module _ (t : ℕ) where
       let read = after-push-two2 .before in
       let arm = read .before .before in
       let here = arm .before in
-      at-expr _ _ _ _ (start here .pre .1) (row-here here 9 (arm .match2 .keys4))
+      at-expr _ _ _ _ (start here .pre .1) (row-here here 9 (arm .match .keys4))
       (rw (toZ-ofZ (mark-here read), read .field4 .ensures) at (after-push-two2 .push-two2 .ensures))
 
   -- ---- a choice
@@ -115,7 +116,7 @@ module _ (t : ℕ) where
       let arm = c .before .before .before .before .before in
       let here = arm .before in
       let g = start here .pre in
-      node-ready _ _ _ _ _ (g .0) (g .1) (links-at _ _ _ _ (g .1) (row-here here 10 (arm .match2 .keys5)) .0) (c .before .field5 .ensures)
+      node-ready _ _ _ _ _ (g .0) (g .1) (links-at _ _ _ _ (g .1) (row-here here 10 (arm .match .keys5)) .0) (c .before .field5 .ensures)
 
   write-expression-requires-2 : lts.Need-write-expression-requires-2 (expression-claims t) (expression-at t) reads.Post
   unfolding row-of
@@ -124,7 +125,7 @@ module _ (t : ℕ) where
       let arm = first .before .before .before .before .before in
       let here = arm .before in
       let g = start here .pre in
-      node-ready _ _ _ _ _ (g .0) (g .1) (links-at _ _ _ _ (g .1) (row-here here 10 (arm .match2 .keys5)) .1 .0) (c .before .field6 .ensures)
+      node-ready _ _ _ _ _ (g .0) (g .1) (links-at _ _ _ _ (g .1) (row-here here 10 (arm .match .keys5)) .1 .0) (c .before .field6 .ensures)
 
   write-expression-requires-3 : lts.Need-write-expression-requires-3 (expression-claims t) (expression-at t) reads.Post
   unfolding row-of
@@ -134,7 +135,7 @@ module _ (t : ℕ) where
       let arm = first .before .before .before .before .before in
       let here = arm .before in
       let g = start here .pre in
-      node-ready _ _ _ _ _ (g .0) (g .1) (links-at _ _ _ _ (g .1) (row-here here 10 (arm .match2 .keys5)) .1 .1 .0) (c .before .field7 .ensures)
+      node-ready _ _ _ _ _ (g .0) (g .1) (links-at _ _ _ _ (g .1) (row-here here 10 (arm .match .keys5)) .1 .1 .0) (c .before .field7 .ensures)
 
   returns-6 : lts.Need-returns-6 (expression-claims t) (expression-at t) reads.Post
   unfolding row-of expr-words replaceᵉ
@@ -148,7 +149,7 @@ module _ (t : ℕ) where
       let after-push2 = first .before .before in
       let arm = after-push2 .before .before in
       let here = arm .before in
-      at-expr _ _ _ _ (start here .pre .1) (row-here here 10 (arm .match2 .keys5))
+      at-expr _ _ _ _ (start here .pre .1) (row-here here 10 (arm .match .keys5))
       (then (after-push2 .push2 .ensures)
       (then (rw (first .field5 .ensures) at (after-write-formula .write-formula .ensures))
       (then (rw (second .field6 .ensures) at (after-write-expression2 .write-expression2 .ensures))
@@ -157,10 +158,10 @@ module _ (t : ℕ) where
   -- ---- an operator
 
   abbrev Rest : Type 0
-  Rest = lts.At-match2-rest (expression-claims t) (expression-at t) reads.Post
+  Rest = lts.At-match-rest (expression-claims t) (expression-at t) reads.Post
 
   operation-here : (c : Rest) → Operation (start (c .before) .args .table .now) (start (c .before) .args .r .0) (c .before .field .result)
-  operation-here c = operation _ _ _ (c .before .field .ensures) (start (c .before) .pre .1 .sort) (c .match2 .rest)
+  operation-here c = operation _ _ _ (c .before .field .ensures) (start (c .before) .pre .1 .sort) (c .match .rest)
 
   cast-push : lts.Need-cast-push (expression-claims t) (expression-at t) reads.Post
   cast-push c = operation-here (c .before) .fits
@@ -196,9 +197,7 @@ module _ (t : ℕ) where
   pub closed : {M : Type 1} → lts.Closed (expression-claims t) (expression-at t) reads.Post M
   closed =
       lts.spec (expression-claims t) (expression-at t) reads.Post
-      (λ c. search needs)
       returns
-      (λ c. search needs)
       (λ c κs. search needs)
       (λ c. search needs)
       (λ c. search needs)

@@ -2,10 +2,11 @@
 use Prim.Native.Nat.{ℕ}
 use borrow.Author.Needs.{needs}
 use mathlib.Core.Path.{_≡_, refl}
+use native.Mathlib.Omega.{arith}
 use mir.Facts.{toZ-ofZ}
 use Rattle.script.specs.Rows.{row-of, row, word}
 use Rattle.script.specs.Words.{expr-words}
-use Rattle.writing.specs.Writing.{skipped, then}
+use Rattle.writing.specs.Writing.{stopped, then}
 use Rattle.writing.specs.Paths.{replaceᵉ}
 use Rattle.writing.specs.Nodes.{node-ready, links-at, at-formula}
 use Rattle.writing.specs.Kinds.{of-kind, pair-fits, Compared, comparison, Joined, junction}
@@ -19,7 +20,7 @@ module _ (t : ℕ) where
   Here = lts.After-field (formula-claims t) (formula-at t) reads.Post
 
   abbrev start : Here → lts.Start (formula-claims t) (formula-at t) reads.Post
-  start c = c .before .before .before
+  start c = c .before .before
 
   -- the row is of the kind k
   row-here : (c : Here) (k : ℕ) → c .field .result ≡ k
@@ -29,7 +30,7 @@ module _ (t : ℕ) where
   row-here c k e = of-kind (start c .args .table .now) _ _ (c .field .ensures) k e
 
   returns : lts.Need-returns (formula-claims t) (formula-at t) reads.Post
-  returns c = skipped (c .enum-told .given .1) refl refl
+  returns c = stopped (omega arith) (c .if1 .taken) refl
 
   -- ---- true and false
 
@@ -39,7 +40,7 @@ module _ (t : ℕ) where
       let after-push = c .before in
       let arm = after-push .before .before in
       let here = arm .before in
-      at-formula _ _ _ _ (start here .pre .1) (row-here here 16 (arm .match2 .keys1)) (after-push .push .ensures)
+      at-formula _ _ _ _ (start here .pre .1) (row-here here 16 (arm .match .keys1)) (after-push .push .ensures)
 
   returns-3 : lts.Need-returns-3 (formula-claims t) (formula-at t) reads.Post
   unfolding row-of expr-words replaceᵉ
@@ -47,7 +48,7 @@ module _ (t : ℕ) where
       let after-push2 = c .before in
       let arm = after-push2 .before .before in
       let here = arm .before in
-      at-formula _ _ _ _ (start here .pre .1) (row-here here 17 (arm .match2 .keys2)) (after-push2 .push2 .ensures)
+      at-formula _ _ _ _ (start here .pre .1) (row-here here 17 (arm .match .keys2)) (after-push2 .push2 .ensures)
 
   -- ---- a negation
 
@@ -57,7 +58,7 @@ module _ (t : ℕ) where
       let arm = c .before .before .before .before .before in
       let here = arm .before in
       let g = start here .pre in
-      node-ready _ _ _ _ _ (g .0) (g .1) (links-at _ _ _ _ (g .1) (row-here here 22 (arm .match2 .keys3)) .0) (c .before .field2 .ensures)
+      node-ready _ _ _ _ _ (g .0) (g .1) (links-at _ _ _ _ (g .1) (row-here here 22 (arm .match .keys3)) .0) (c .before .field2 .ensures)
 
   returns-4 : lts.Need-returns-4 (formula-claims t) (formula-at t) reads.Post
   unfolding row-of expr-words replaceᵉ
@@ -67,23 +68,23 @@ module _ (t : ℕ) where
       let after-push3 = read .before .before in
       let arm = after-push3 .before .before in
       let here = arm .before in
-      at-formula _ _ _ _ (start here .pre .1) (row-here here 22 (arm .match2 .keys3))
+      at-formula _ _ _ _ (start here .pre .1) (row-here here 22 (arm .match .keys3))
       (then (after-push3 .push3 .ensures) (rw (read .field2 .ensures) at (after-write-formula .write-formula .ensures)))
 
   -- ---- a relation or a connective
 
   abbrev Rest : Type 0
-  Rest = lts.At-match2-rest (formula-claims t) (formula-at t) reads.Post
+  Rest = lts.At-match-rest (formula-claims t) (formula-at t) reads.Post
 
   cast-push : lts.Need-cast-push (formula-claims t) (formula-at t) reads.Post
   cast-push c =
       let arm = c .before in
-      pair-fits _ _ _ (arm .before .field .ensures) (start (arm .before) .pre .1 .sort) (arm .match2 .rest)
+      pair-fits _ _ _ (arm .before .field .ensures) (start (arm .before) .pre .1 .sort) (arm .match .rest)
 
   -- ---- a relation
 
   abbrev Then : Type 0
-  Then = lts.Then1 (formula-claims t) (formula-at t) reads.Post
+  Then = lts.Then2 (formula-claims t) (formula-at t) reads.Post
 
   abbrev then-rest : Then → Rest
   then-rest c = c .before .before .before .before
@@ -92,7 +93,7 @@ module _ (t : ℕ) where
   then-start c = start (then-rest c .before)
 
   compared : (c : Then) → Compared (then-start c .args .table .now) (then-start c .args .r .0) (then-rest c .before .field .result)
-  compared c = comparison _ _ _ (then-rest c .before .field .ensures) (then-start c .pre .1 .sort) (then-rest c .match2 .rest) (c .if1 .taken)
+  compared c = comparison _ _ _ (then-rest c .before .field .ensures) (then-start c .pre .1 .sort) (then-rest c .match .rest) (c .if2 .taken)
 
   write-expression-requires : lts.Need-write-expression-requires (formula-claims t) (formula-at t) reads.Post
   write-expression-requires c κs =
@@ -123,7 +124,7 @@ module _ (t : ℕ) where
   -- ---- a connective
 
   abbrev Else : Type 0
-  Else = lts.Else1 (formula-claims t) (formula-at t) reads.Post
+  Else = lts.Else2 (formula-claims t) (formula-at t) reads.Post
 
   abbrev else-rest : Else → Rest
   else-rest c = c .before .before .before .before
@@ -132,7 +133,7 @@ module _ (t : ℕ) where
   else-start c = start (else-rest c .before)
 
   joined : (c : Else) → Joined (else-start c .args .table .now) (else-start c .args .r .0) (else-rest c .before .field .result)
-  joined c = junction _ _ _ (else-rest c .before .field .ensures) (else-start c .pre .1 .sort) (else-rest c .match2 .rest) (c .if1 .left)
+  joined c = junction _ _ _ (else-rest c .before .field .ensures) (else-start c .pre .1 .sort) (else-rest c .match .rest) (c .if2 .left)
 
   write-formula-requires-2 : lts.Need-write-formula-requires-2 (formula-claims t) (formula-at t) reads.Post
   write-formula-requires-2 c κs =
@@ -163,9 +164,7 @@ module _ (t : ℕ) where
   pub closed : {M : Type 1} → lts.Closed (formula-claims t) (formula-at t) reads.Post M
   closed =
       lts.spec (formula-claims t) (formula-at t) reads.Post
-      (λ c. search needs)
       returns
-      (λ c. search needs)
       (λ c κs. search needs)
       (λ c κs. search needs)
       (λ c. search needs)
