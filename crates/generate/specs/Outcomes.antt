@@ -20,7 +20,6 @@ use Rattle.script.specs.Refusals.{verdict, accepted, refused}
 use Rattle.script.specs.declared.Answer.{Answer}
 use Rattle.theorems.specs.Accepted.{passed}
 use Rattle.lines.specs.declared.Progress.{Progress}
-use Rattle.lines.specs.declared.Progress.the-variants.{At, Full}
 use Rattle.lines.specs.Spelled.{Whole, whole, cut}
 use Rattle.script.specs.Generated.{Outcome, zeros, refusal, refuse, plan, room, scratch-need, outcome-for, outcome}
 
@@ -97,24 +96,22 @@ module _ (t l : List ℤ) (n : ℕ) (cleared : l ≡ zeros (length l)) (roomy : 
   abbrev Left : Answer → List ℤ → Type 0
   Left a l′ = (a ≡ fitted (tree t) (length l) 0 .answer) × (l′ ≡ fitted (tree t) (length l) 0 .list)
 
-  pub planned : {p : Progress} {l′ : List ℤ} {w c : ℕ} → Whole (take n l) (conditions (tree t)) p l′ → p ≡ At w c
-      → Left (record { number = 0; row = 0; conditions = c; words = w }) (l′ ++ drop n l)
-  planned {l′ = l′} {w = w} {c = c} (whole h e s) a =
+  pub planned : {p : Progress} {l′ : List ℤ} → Whole (take n l) (conditions (tree t)) p l′ → p .at ≤ n
+      → Left (record { number = 0; row = 0; conditions = p .count; words = p .at }) (l′ ++ drop n l)
+  planned (whole h e c s) a =
       let k : length (list-words (conditions (tree t))) ≤ n = omega (arith, front) in
       let f = with-room (tree t) (length l) 0 (omega arith) in
-      let x : w ≡ length (list-words (conditions (tree t))) = cc in
-      let y : c ≡ length (conditions (tree t)) = cc in
-      (rw (f, x, y), rw (f, s) (front-written l n (length l) (list-words (conditions (tree t))) cleared in-list k))
-  planned (cut h e s) a = absurd (let z : _≡_ {A = ℕ} 0 1 = cc in omega arith)
+      (rw (f, e, c), rw (f, s) (front-written l n (length l) (list-words (conditions (tree t))) cleared in-list k))
+  planned (cut h e s) a = absurd (omega (arith, front))
 
-  pub unwritten : {p : Progress} {l′ : List ℤ} → Whole (take n l) (conditions (tree t)) p l′ → p ≡ Full → Left (refusal 12 0) (zeros (length l))
-  unwritten (whole h e s) a = absurd (let z : _≡_ {A = ℕ} 0 1 = cc in omega arith)
+  pub unwritten : {p : Progress} {l′ : List ℤ} → Whole (take n l) (conditions (tree t)) p l′ → n < p .at → Left (refusal 12 0) (zeros (length l))
+  unwritten (whole h e c s) a = absurd (omega (arith, front))
   unwritten (cut h e s) a =
       let f = no-room (tree t) (length l) 0 (omega (arith, front)) in
       (rw f, rw f)
 
   pub kept-length : {p : Progress} {l′ : List ℤ} → Whole (take n l) (conditions (tree t)) p l′ → length (l′ ++ drop n l) ≡ length l
-  kept-length (whole h e s) = rw (s, length-append) (omega (arith, length-sets (take n l) 0 (list-words (conditions (tree t))), front, length-drop n l))
+  kept-length (whole h e c s) = rw (s, length-append) (omega (arith, length-sets (take n l) 0 (list-words (conditions (tree t))), front, length-drop n l))
   kept-length (cut h e s) = rw length-append (omega (arith, front, length-drop n l))
 
 -- ---- 11, and what follows where scratch is long enough

@@ -1,5 +1,4 @@
 // The generator: it lists the conditions of a script, for every table, list and scratch.
-use lines::Progress;
 use script::Answer;
 use table::Verdict;
 ghost use mathlib.Core.Path.{_≡_};
@@ -48,17 +47,15 @@ fn write_plan(table: &[i32], list: &mut [i32]) -> Answer
 {
     let n = room(list.len());
     let progress = walking::write_list(table, &mut list[..n]);
-    match progress {
-        Progress::At(words, conditions) => Answer {
-            number: 0,
-            row: 0,
-            conditions,
-            words,
-        },
-        Progress::Full => {
-            clear(list);
-            refuse(12, 0)
-        }
+    if n < progress.at {
+        clear(list);
+        return refuse(12, 0);
+    }
+    Answer {
+        number: 0,
+        row: 0,
+        conditions: progress.count,
+        words: progress.at,
     }
 }
 
