@@ -116,7 +116,7 @@ impl<'a> Writer<'a> {
         self.path.len() as u16
     }
 
-    /// A number that no other path has had.
+    /// The number of the path; no two paths have the same.
     #[inline(always)]
     pub fn version(&self) -> u32 {
         let last = self.path.len().wrapping_sub(1);
@@ -166,11 +166,8 @@ impl<'a> Writer<'a> {
             let [kind, first, second, third] = rows[usize::from(row)];
             match kind {
                 2 => {
-                    let mut assignment = self.latest[usize::from(first as u8)];
-                    while assignment > seen {
-                        let passed = self.path.get(usize::from(assignment) - 1);
-                        assignment = passed.map_or(0, |passed| passed.before);
-                    }
+                    let latest = self.latest[usize::from(first as u8)];
+                    let assignment = latest_of(&self.path, latest, seen);
                     match self.path.get(usize::from(assignment).wrapping_sub(1)) {
                         None => put_two(list, &mut at, 2, first)?,
                         Some(passed) if passed.written.length > 0 => {
@@ -227,6 +224,17 @@ impl<'a> Writer<'a> {
             };
         }
     }
+}
+
+/// The latest assignment among the first `seen`, back from one that may be later
+/// to the same variable; 0 for none.
+#[inline(always)]
+fn latest_of(path: &Stack<Passed, MOST_ROWS>, mut assignment: u16, seen: u16) -> u16 {
+    while assignment > seen {
+        let passed = path.get(usize::from(assignment) - 1);
+        assignment = passed.map_or(0, |passed| passed.before);
+    }
+    assignment
 }
 
 #[inline(always)]
