@@ -6,12 +6,13 @@
 
 use crate::{Line, LONGEST_LIST};
 
-/// The largest number after a constant, a variable and a mark.
-const LARGEST: [Option<u32>; 10] = {
-    let mut largest = [None; 10];
-    largest[1] = Some(u32::MAX);
-    largest[2] = Some(255);
-    largest[9] = Some(2_047);
+/// The largest number after a constant, a variable and a mark; no number is as
+/// small as that of another kind.
+const LARGEST: [i64; 10] = {
+    let mut largest = [-1; 10];
+    largest[1] = u32::MAX as i64;
+    largest[2] = 255;
+    largest[9] = 2_047;
     largest
 };
 
@@ -75,8 +76,8 @@ fn expressions(words: &[i32], reading: Reading, count: usize) -> Option<Reading>
                 awaited += 1;
             }
             _ => {
-                let largest = (*LARGEST.get(kind as usize)?)?;
-                if *words.get(at + 1)? as u32 > largest {
+                let number = *words.get(at + 1)? as u32;
+                if i64::from(number) > *LARGEST.get(kind as usize)? {
                     return None;
                 }
                 awaited -= 1;
