@@ -1,129 +1,34 @@
-//! Times the proved code beside the plain one and prints the ratios: below 1
-//! the proved code is the faster. Both are given the same inputs in turn, the
-//! proved code the same buffers again and again, not cleared in between.
+//! Times the proved code beside the peer, which is written by hand for speed,
+//! and beside the second implementation, which is written to be plain; both are
+//! unproved. A ratio below 1 says that the proved code is the faster. All are
+//! given the same inputs in turn, and buffers of their own again and again, not
+//! cleared in between.
+//!
+//! The floor is what any of them must do: clear both buffers and copy the words
+//! of the list; for what only reads, add up all words once.
+//!
+//! `--rounds N` for fewer rounds or more.
 
 mod clock;
+mod contests;
 mod scripts;
+mod timing;
 
-use std::hint::black_box;
-
-use clock::{processor_time, Nanoseconds};
+use contests::{
+    time_checking, time_generating, time_generating_at_the_need, time_reading_at, time_reading_back,
+};
 use fuzz::scripts::EXAMPLE_A;
-use leqwarti::{entries, LARGEST_SCRATCH, LONGEST_LIST};
+use leqwarti::{LARGEST_SCRATCH, LONGEST_LIST};
+use timing::Stopwatch;
 
-/// How often both are timed; the median counts.
-const ROUNDS: usize = 31;
+const USUAL_ROUNDS: usize = 31;
 
-/// A round calls each so often that it lasts about so long.
-const ROUND: Nanoseconds = 4e6;
-
-/// The time of one call.
-fn timed(calls: u32, work: &mut dyn FnMut()) -> Nanoseconds {
-    let begun = processor_time();
-    for _ in 0..calls {
-        work();
+fn rounds(arguments: &[String]) -> Option<usize> {
+    match arguments {
+        [] => Some(USUAL_ROUNDS),
+        [option, count] if option == "--rounds" => count.parse().ok().filter(|count| *count > 0),
+        _ => None,
     }
-    (processor_time() - begun) / f64::from(calls)
-}
-
-fn calls_in_a_round(work: &mut dyn FnMut()) -> u32 {
-    let one = timed(1, work).min(timed(3, work)).max(1.0);
-    ((ROUND / one) as u32).max(1)
-}
-
-fn median(mut times: Vec<Nanoseconds>) -> Nanoseconds {
-    times.sort_by(f64::total_cmp);
-    times[times.len() / 2]
-}
-
-fn compare(name: &str, proved: &mut dyn FnMut(), plain: &mut dyn FnMut()) {
-    let calls = (calls_in_a_round(proved), calls_in_a_round(plain));
-    let (mut of_proved, mut of_plain) = (Vec::new(), Vec::new());
-    for _ in 0..ROUNDS {
-        of_proved.push(timed(calls.0, proved));
-        of_plain.push(timed(calls.1, plain));
-    }
-    let (proved, plain) = (median(of_proved), median(of_plain));
-    let ratio = proved / plain;
-    println!(
-        "{name:<48} {:>11.2} {:>11.2} {ratio:>7.2}",
-        proved / 1e3,
-        plain / 1e3
-    );
-}
-
-/// The generator on a table, with a list buffer and a scratch of these lengths.
-fn compare_generators(name: &str, table: &[i32], list_length: usize, scratch_length: usize) {
-    let (mut list, mut scratch) = (vec![0; list_length], vec![0; scratch_length]);
-    let answer = entries::generate(table, &mut list, &mut scratch);
-    let outcome = match answer.number {
-        0 => format!("{} words", answer.words),
-        number => format!("refused {number}"),
-    };
-    compare(
-        &format!("{name} ({outcome})"),
-        &mut || {
-            black_box(entries::generate(black_box(table), &mut list, &mut scratch));
-        },
-        &mut || {
-            black_box(reference::generate(
-                black_box(table),
-                list_length,
-                scratch_length,
-            ));
-        },
-    );
-}
-
-fn compare_generators_at_the_need(name: &str, table: &[i32]) {
-    let need = reference::need(table).expect("an accepted table");
-    let list_length = need.words.unwrap_or(LONGEST_LIST);
-    compare_generators(name, table, list_length, need.scratch(list_length));
-}
-
-fn compare_checks(name: &str, table: &[i32]) {
-    compare(
-        name,
-        &mut || {
-            black_box(entries::check(black_box(table)));
-        },
-        &mut || {
-            black_box(reference::check(black_box(table)));
-        },
-    );
-}
-
-/// Every condition, walking back.
-fn compare_walks(name: &str, list: &[i32]) {
-    let steps = reference::lines(list).expect("a list").len();
-    compare(
-        name,
-        &mut || {
-            let list = black_box(list);
-            let mut place = entries::first_place(list);
-            for _ in 0..steps {
-                black_box(entries::step(list, &mut place));
-            }
-        },
-        &mut || {
-            let mut reader = reference::ListReader::new(black_box(list));
-            for _ in 0..steps {
-                black_box(reader.step());
-            }
-        },
-    );
-}
-
-fn compare_lines(name: &str, list: &[i32], index: i32) {
-    compare(
-        name,
-        &mut || {
-            black_box(entries::line_at(black_box(list), index));
-        },
-        &mut || {
-            black_box(reference::line_at(black_box(list), i64::from(index)));
-        },
-    );
 }
 
 fn list_of(table: &[i32]) -> Vec<i32> {
@@ -138,22 +43,70 @@ fn list_of_short_conditions() -> Vec<i32> {
     list
 }
 
-fn compare_generating() {
-    compare_generators("example A, the program's room", &EXAMPLE_A, 512, 5_120);
-    compare_generators_at_the_need("example A", &EXAMPLE_A);
-    compare_generators_at_the_need("50 loops", &scripts::loops(50));
-    compare_generators_at_the_need("8 branches", &scripts::branches(8));
-    compare_generators_at_the_need("12 branches", &scripts::branches(12));
-    compare_generators_at_the_need("deep expression", &scripts::deep_expression(1_000));
-    compare_generators_at_the_need("300 assignments", &scripts::assignments_passed(300, 1));
-    compare_generators_at_the_need(
-        "350 assignments passed 200 times",
-        &scripts::assignments_passed(350, 200),
+fn time_lists(watch: &Stopwatch) {
+    time_generating(
+        watch,
+        "example A, the program's room",
+        &EXAMPLE_A,
+        512,
+        5_120,
     );
-    compare_generators_at_the_need("a full list", &scripts::full_list());
+    let tables = [
+        ("example A", EXAMPLE_A.to_vec()),
+        ("50 loops", scripts::loops(50)),
+        ("8 branches", scripts::branches(8)),
+        ("deep expression", scripts::deep_expression(1_000)),
+        ("300 assignments", scripts::assignments_passed(300, 1)),
+        (
+            "350 assignments passed 200 times",
+            scripts::assignments_passed(350, 200),
+        ),
+        ("a full list", scripts::full_list()),
+    ];
+    for (name, table) in tables {
+        time_generating_at_the_need(watch, name, &table);
+    }
 }
 
-fn compare_reading() {
+/// Scripts whose lists double with every branch: the time is bounded by the
+/// room times the rows, however long the list would be.
+fn time_exponential_lists(watch: &Stopwatch) {
+    let tables = [
+        ("12 branches", scripts::branches(12)),
+        ("24 branches", scripts::branches(24)),
+        (
+            "24 branches, 200 skips",
+            scripts::branches_then_skips(24, 200),
+        ),
+        (
+            "24 branches, 800 skips",
+            scripts::branches_then_skips(24, 800),
+        ),
+    ];
+    for (name, table) in tables {
+        time_generating_at_the_need(watch, name, &table);
+    }
+}
+
+fn time_refusals(watch: &Stopwatch) {
+    let huge = scripts::branches(150);
+    let mut faulty = huge.clone();
+    let last_row = faulty.len() - 4;
+    faulty[last_row] = 49;
+    let rows = format!("{} rows", huge.len() / 4);
+    let too_long = [16; 8_196];
+    let tables = [
+        (rows.clone(), &huge[..]),
+        (format!("{rows}, the last one faulty"), &faulty),
+        ("2,049 rows".to_string(), &too_long),
+    ];
+    for (name, table) in tables {
+        time_generating(watch, &name, table, LONGEST_LIST, LARGEST_SCRATCH);
+    }
+    time_checking(watch, &format!("{rows} checked"), &huge);
+}
+
+fn time_readings(watch: &Stopwatch) {
     let lists = [
         ("50 loops", list_of(&scripts::loops(50))),
         ("one condition", list_of(&scripts::full_list())),
@@ -161,32 +114,21 @@ fn compare_reading() {
     ];
     for (name, list) in &lists {
         let name = format!("{name} ({} words)", list.len());
-        compare_walks(&format!("read back: {name}"), list);
-        compare_lines(&format!("read at an index: {name}"), list, 0);
+        time_reading_back(watch, &format!("read back: {name}"), list);
+        time_reading_at(watch, &format!("read at an index: {name}"), list, 0);
     }
 }
 
-fn compare_refusing() {
-    let huge = scripts::branches(150);
-    let mut faulty = huge.clone();
-    let last_row = faulty.len() - 4;
-    faulty[last_row] = 49;
-    let rows = huge.len() / 4;
-    let name = format!("{rows} rows");
-    compare_generators(&name, &huge, LONGEST_LIST, LARGEST_SCRATCH);
-    let name = format!("{rows} rows, the last one faulty");
-    compare_generators(&name, &faulty, LONGEST_LIST, LARGEST_SCRATCH);
-    compare_checks(&format!("{rows} rows checked"), &huge);
-    let too_long = [16; 8_196];
-    compare_generators("2,049 rows", &too_long, LONGEST_LIST, LARGEST_SCRATCH);
-}
-
 fn main() {
-    println!(
-        "{:<48} {:>11} {:>11} {:>7}",
-        "microseconds", "proved", "plain", "ratio"
-    );
-    compare_generating();
-    compare_reading();
-    compare_refusing();
+    let arguments: Vec<String> = std::env::args().skip(1).collect();
+    let Some(rounds) = rounds(&arguments) else {
+        eprintln!("usage: bench [--rounds N]");
+        std::process::exit(2)
+    };
+    let watch = Stopwatch { rounds };
+    watch.print_head();
+    time_lists(&watch);
+    time_exponential_lists(&watch);
+    time_refusals(&watch);
+    time_readings(&watch);
 }

@@ -62,6 +62,21 @@ pub fn branches(count: i32) -> Vec<i32> {
     laid_out(arena, statement)
 }
 
+/// Branches of skips, with more skips after them: each way through the branches
+/// passes them all for a word or two.
+pub fn branches_then_skips(branches: i32, skips: i32) -> Vec<i32> {
+    let mut arena = Arena::default();
+    let mut statements = Vec::new();
+    for _ in 0..branches {
+        let guard = arena.leaf(16);
+        let (then, otherwise) = (arena.leaf(32), arena.leaf(32));
+        statements.push(arena.three(35, guard, then, otherwise));
+    }
+    statements.extend((0..skips).map(|_| arena.leaf(32)));
+    let statement = in_sequence(&mut arena, statements);
+    laid_out(arena, statement)
+}
+
 /// One assignment of an expression with so many sums, each a part of the next.
 pub fn deep_expression(sums: i32) -> Vec<i32> {
     let mut arena = Arena::default();

@@ -9,6 +9,7 @@ pub mod arena;
 pub mod claims;
 pub mod compare;
 pub mod inputs;
+pub mod lent;
 pub mod limits;
 pub mod mutate;
 pub mod prng;

@@ -1,0 +1,135 @@
+//! What the contestants do: generate, check, read.
+
+use std::hint::black_box;
+
+use leqwarti::{entries, LONGEST_LIST};
+
+use crate::timing::{Contestants, Stopwatch};
+
+/// The generator on a table, with a list buffer and a scratch of these lengths.
+/// The floor clears both and copies the words of the list.
+pub fn time_generating(
+    watch: &Stopwatch,
+    name: &str,
+    table: &[i32],
+    list_length: usize,
+    scratch_length: usize,
+) {
+    let buffers = || (vec![0; list_length], vec![0; scratch_length]);
+    let (mut list, mut scratch) = buffers();
+    let answer = entries::generate(table, &mut list, &mut scratch);
+    let outcome = match answer.number {
+        0 => format!("{} words", answer.words),
+        number => format!("refused {number}"),
+    };
+    let written = list[..answer.words].to_vec();
+    let (mut peer_list, mut peer_scratch) = buffers();
+    let (mut floor_list, mut floor_scratch) = buffers();
+    watch.print_times(
+        &format!("{name} ({outcome})"),
+        Contestants {
+            proved: &mut || {
+                black_box(entries::generate(black_box(table), &mut list, &mut scratch));
+            },
+            peer: &mut || {
+                black_box(peer::generate(
+                    black_box(table),
+                    &mut peer_list,
+                    &mut peer_scratch,
+                ));
+            },
+            second: &mut || {
+                black_box(reference::generate(
+                    black_box(table),
+                    list_length,
+                    scratch_length,
+                ));
+            },
+            floor: &mut || {
+                black_box(&mut floor_list).fill(0);
+                black_box(&mut floor_scratch).fill(0);
+                black_box(&mut floor_list)[..written.len()].copy_from_slice(&written);
+            },
+        },
+    );
+}
+
+/// With the room that the list needs, or the largest where that is too small.
+pub fn time_generating_at_the_need(watch: &Stopwatch, name: &str, table: &[i32]) {
+    let need = reference::need(table).expect("an accepted table");
+    let list_length = need.words.unwrap_or(LONGEST_LIST);
+    time_generating(watch, name, table, list_length, need.scratch(list_length));
+}
+
+/// The floor of what only reads: all words once.
+fn add_up(words: &[i32]) {
+    let sum = |sum: i32, word: &i32| sum.wrapping_add(*word);
+    black_box(black_box(words).iter().fold(0, sum));
+}
+
+pub fn time_checking(watch: &Stopwatch, name: &str, table: &[i32]) {
+    watch.print_times(
+        name,
+        Contestants {
+            proved: &mut || {
+                black_box(entries::check(black_box(table)));
+            },
+            peer: &mut || {
+                black_box(peer::check(black_box(table)));
+            },
+            second: &mut || {
+                black_box(reference::check(black_box(table)));
+            },
+            floor: &mut || add_up(table),
+        },
+    );
+}
+
+/// Every condition, walking back.
+pub fn time_reading_back(watch: &Stopwatch, name: &str, list: &[i32]) {
+    let steps = reference::lines(list).expect("a list").len();
+    watch.print_times(
+        name,
+        Contestants {
+            proved: &mut || {
+                let list = black_box(list);
+                let mut place = entries::first_place(list);
+                for _ in 0..steps {
+                    black_box(entries::step(list, &mut place));
+                }
+            },
+            peer: &mut || {
+                let list = black_box(list);
+                let mut place = peer::first_place(list);
+                for _ in 0..steps {
+                    black_box(peer::step(list, &mut place));
+                }
+            },
+            second: &mut || {
+                let mut reader = reference::ListReader::new(black_box(list));
+                for _ in 0..steps {
+                    black_box(reader.step());
+                }
+            },
+            floor: &mut || add_up(list),
+        },
+    );
+}
+
+pub fn time_reading_at(watch: &Stopwatch, name: &str, list: &[i32], index: i32) {
+    watch.print_times(
+        name,
+        Contestants {
+            proved: &mut || {
+                black_box(entries::line_at(black_box(list), index));
+            },
+            peer: &mut || {
+                black_box(peer::line_at(black_box(list), index));
+            },
+            second: &mut || {
+                black_box(reference::line_at(black_box(list), i64::from(index)));
+            },
+            floor: &mut || add_up(list),
+        },
+    );
+}

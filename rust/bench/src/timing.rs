@@ -1,0 +1,86 @@
+//! Times the contestants of a case in turn and prints a row of the table.
+
+use crate::clock::{processor_time, Nanoseconds};
+
+/// A round calls a contestant so often that it lasts about so long.
+const ROUND: Nanoseconds = 4e6;
+
+/// The four that do the same work.
+pub struct Contestants<'a> {
+    pub proved: &'a mut dyn FnMut(),
+    pub peer: &'a mut dyn FnMut(),
+    /// The second implementation.
+    pub second: &'a mut dyn FnMut(),
+    /// What any of them must do at least.
+    pub floor: &'a mut dyn FnMut(),
+}
+
+/// Prints rows of times, each the median of so many rounds.
+pub struct Stopwatch {
+    pub rounds: usize,
+}
+
+impl Stopwatch {
+    pub fn print_head(&self) {
+        println!(
+            "Microseconds of processor time; medians of {} rounds.",
+            self.rounds
+        );
+        println!();
+        println!("| case | proved | peer | proved / peer | floor | second | proved / second |");
+        println!("|---|--:|--:|--:|--:|--:|--:|");
+    }
+
+    pub fn print_times(&self, case: &str, contestants: Contestants) {
+        let Contestants {
+            proved,
+            peer,
+            second,
+            floor,
+        } = contestants;
+        let [proved, peer, second, floor] = self.medians([proved, peer, second, floor]);
+        let (by_peer, by_second) = (proved / peer, proved / second);
+        println!(
+            "| {case:<48} | {} | {} | {by_peer:>5.2} | {} | {} | {by_second:>5.2} |",
+            microseconds(proved),
+            microseconds(peer),
+            microseconds(floor),
+            microseconds(second),
+        );
+    }
+
+    /// The time of one call of each.
+    fn medians<const N: usize>(&self, mut works: [&mut dyn FnMut(); N]) -> [Nanoseconds; N] {
+        let calls = works.each_mut().map(|work| calls_in_a_round(*work));
+        let mut times = [const { Vec::new() }; N];
+        for _ in 0..self.rounds {
+            for ((work, calls), times) in works.iter_mut().zip(calls).zip(&mut times) {
+                times.push(timed(calls, *work));
+            }
+        }
+        times.map(median)
+    }
+}
+
+fn microseconds(time: Nanoseconds) -> String {
+    format!("{:>9.2}", time / 1e3)
+}
+
+/// The time of one call.
+fn timed(calls: u32, work: &mut dyn FnMut()) -> Nanoseconds {
+    let begun = processor_time();
+    for _ in 0..calls {
+        work();
+    }
+    (processor_time() - begun) / f64::from(calls)
+}
+
+fn calls_in_a_round(work: &mut dyn FnMut()) -> u32 {
+    let one = timed(1, work).min(timed(3, work)).max(1.0);
+    ((ROUND / one) as u32).max(1)
+}
+
+fn median(mut times: Vec<Nanoseconds>) -> Nanoseconds {
+    times.sort_by(f64::total_cmp);
+    times[times.len() / 2]
+}

@@ -1,0 +1,132 @@
+//! The yardstick beside the proved library, word for word: a faster answer that
+//! is another answer would be no measure.
+
+use std::collections::BTreeMap;
+
+use fuzz::lent::{same, Lent};
+use fuzz::{seed_from_environment, tell, Input, Prng};
+use leqwarti::entries;
+
+/// About 21 in 32 are tables, and 9 are lists.
+const CASES: u64 = 100_000;
+
+/// How often each number was given.
+type Tally = BTreeMap<usize, u64>;
+
+fn verdict(found: peer::Verdict) -> entries::Verdict {
+    let peer::Verdict { number, row } = found;
+    entries::Verdict { number, row }
+}
+
+fn answer(found: peer::Answer) -> entries::Answer {
+    let peer::Answer {
+        number,
+        row,
+        conditions,
+        words,
+    } = found;
+    entries::Answer {
+        number,
+        row,
+        conditions,
+        words,
+    }
+}
+
+fn line(found: peer::Line) -> entries::Line {
+    let peer::Line {
+        number,
+        kind,
+        row,
+        start,
+        end,
+    } = found;
+    entries::Line {
+        number,
+        kind,
+        row,
+        start,
+        end,
+    }
+}
+
+fn compare_table(
+    table: &[i32],
+    list_len: usize,
+    scratch_len: usize,
+    tables: &mut Tally,
+    lists: &mut Tally,
+) -> Result<(), String> {
+    same("check", entries::check(table), verdict(peer::check(table)))?;
+
+    let (mut list, mut scratch) = (Lent::new(list_len), Lent::new(scratch_len));
+    let expected = entries::generate(table, list.words(), scratch.words());
+    *tables.entry(expected.number).or_default() += 1;
+    let (mut peer_list, mut peer_scratch) = (Lent::new(list_len), Lent::new(scratch_len));
+    let found = peer::generate(table, peer_list.words(), peer_scratch.words());
+    same("generate", expected, answer(found))?;
+    peer_list.same("list", list.words())?;
+    peer_scratch.same("scratch", scratch.words())?;
+
+    if expected.number != 0 {
+        return Ok(());
+    }
+    compare_list(&list.words()[..expected.words], lists)
+}
+
+fn compare_list(list: &[i32], lists: &mut Tally) -> Result<(), String> {
+    let count = list.last().copied().unwrap_or(0);
+    for index in [-1, 0, 1, count / 2, count.wrapping_sub(1), count, i32::MAX] {
+        let expected = entries::line_at(list, index);
+        *lists.entry(expected.number).or_default() += 1;
+        let name = format!("line at {index}");
+        same(&name, expected, line(peer::line_at(list, index)))?;
+    }
+    let mut place = entries::first_place(list);
+    same("first place", place, peer::first_place(list))?;
+    compare_steps(list, &mut place)?;
+    // From places where no reader comes to stand, too.
+    for mut place in [list.len(), list.len() / 2, 3, usize::MAX] {
+        compare_steps(list, &mut place)?;
+    }
+    Ok(())
+}
+
+/// Steps from a place until one is refused.
+fn compare_steps(list: &[i32], place: &mut usize) -> Result<(), String> {
+    let mut peer_place = *place;
+    loop {
+        let name = format!("step from {place}");
+        let expected = entries::step(list, place);
+        same(&name, expected, line(peer::step(list, &mut peer_place)))?;
+        same(&name, *place, peer_place)?;
+        if expected.number != 0 {
+            return Ok(());
+        }
+    }
+}
+
+#[test]
+fn not_one_difference() {
+    let seed = seed_from_environment();
+    let (mut tables, mut lists) = (Tally::new(), Tally::new());
+    for case in 0..CASES {
+        let input = Input::any(&mut Prng::for_case(seed, case));
+        let result = match &input {
+            Input::Table {
+                words,
+                list_len,
+                scratch_len,
+            } => compare_table(words, *list_len, *scratch_len, &mut tables, &mut lists),
+            Input::List(list) => compare_list(list, &mut lists),
+            Input::Bytes(_) => Ok(()),
+        };
+        if let Err(what) = result {
+            panic!("seed {seed}, case {case}: {what}\n{}", input.text());
+        }
+    }
+    tell(format!("tables {tables:?}, lists {lists:?}"));
+    assert!(tables.values().sum::<u64>() >= 50_000);
+    assert!(tables.keys().copied().eq(0..=12));
+    assert!(lists.keys().copied().eq([0, 20, 21]));
+}

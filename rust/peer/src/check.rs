@@ -1,0 +1,224 @@
+//! Numbers 1 to 10. One pass over the rows tells whether one is faulty (2 to
+//! 6), which rows are linked (7), whether a frozen name or a mark occurs at all
+//! (8 and 9), and how deep each row nests (10).
+
+use crate::faults::fault;
+use crate::names::check_names;
+use crate::stack::{Stack, Storage};
+use crate::{Row, Verdict, MOST_ROWS};
+
+/// The state of a row: its sort, and whether it is linked.
+type State = u8;
+
+const EXPRESSION: State = 1;
+const FORMULA: State = 2;
+const STATEMENT: State = 3;
+const NOTE: State = 4;
+const SCRIPT: State = 5;
+const LINKED: State = 8;
+
+/// What the generator wants to know of an accepted table.
+pub struct Accepted {
+    pub nesting: usize,
+    pub has_loops: bool,
+}
+
+/// The check of a table.
+#[inline(never)]
+pub fn check(table: &[i32]) -> Verdict {
+    match rows_of(table).and_then(check_rows) {
+        Ok(_) => Verdict::default(),
+        Err(verdict) => verdict,
+    }
+}
+
+pub fn rows_of(table: &[i32]) -> Result<&[Row], Verdict> {
+    match table.as_chunks() {
+        (rows, []) if (1..=MOST_ROWS).contains(&rows.len()) => Ok(rows),
+        _ => Err(Verdict { number: 1, row: 0 }),
+    }
+}
+
+#[inline(always)]
+pub fn check_rows(rows: &[Row]) -> Result<Accepted, Verdict> {
+    let mut states = Storage::<_, MOST_ROWS>::new();
+    let mut nesting = Storage::<_, MOST_ROWS>::new();
+    let mut checker = Checker {
+        states: states.stack(),
+        nesting: nesting.filled(rows.len(), 0),
+        has_names: false,
+        has_loops: false,
+    };
+    for (row, &fields) in rows.iter().enumerate() {
+        match checker.state(fields) {
+            Ok(state) => checker.states.push(state),
+            Err(Faulty) => return Err(fault(rows, row)),
+        }
+    }
+    let last = rows.len() - 1;
+    let [kind, _, statement, _] = rows[last];
+    if kind != 48 {
+        return Err(Verdict {
+            number: 7,
+            row: last,
+        });
+    }
+    let states = checker.states.as_slice();
+    let in_all = states[..last].iter().fold(LINKED, |all, state| all & state);
+    if in_all != LINKED {
+        let loose = states.iter().position(|state| state & LINKED == 0);
+        return Err(Verdict {
+            number: 7,
+            row: loose.unwrap_or(last),
+        });
+    }
+    if checker.has_names {
+        check_names(rows)?;
+    }
+    let nesting = checker.nesting[statement as usize];
+    if nesting > 8 {
+        return Err(Verdict { number: 10, row: 0 });
+    }
+    Ok(Accepted {
+        nesting: nesting.into(),
+        has_loops: checker.has_loops,
+    })
+}
+
+struct Faulty;
+
+struct Checker<'a> {
+    /// Those of the rows so far.
+    states: Stack<'a, State, MOST_ROWS>,
+    /// How deep each row of the table nests, as far as it is a statement so far.
+    nesting: &'a mut [u16],
+    has_names: bool,
+    has_loops: bool,
+}
+
+impl Checker<'_> {
+    /// The state of the next row; its parts are linked from now on.
+    #[inline(always)]
+    fn state(&mut self, [kind, first, second, third]: Row) -> Result<State, Faulty> {
+        use {EXPRESSION as E, FORMULA as F, STATEMENT as S};
+        Ok(match kind {
+            1 => {
+                good(second | third == 0)?;
+                E
+            }
+            2 => {
+                good((first as u32 <= 255) & (second | third == 0))?;
+                self.has_names |= first > 127;
+                E
+            }
+            3..=7 => {
+                self.link([(first, E), (second, E)], third)?;
+                E
+            }
+            8 => {
+                self.link([(first, E)], second | third)?;
+                E
+            }
+            9 => {
+                good(((first as u32 as usize) < self.nesting.len()) & (second | third == 0))?;
+                self.has_names = true;
+                E
+            }
+            10 => {
+                self.link([(first, F), (second, E), (third, E)], 0)?;
+                E
+            }
+            16 | 17 => {
+                good(first | second | third == 0)?;
+                F
+            }
+            18..=21 => {
+                self.link([(first, E), (second, E)], third)?;
+                F
+            }
+            22 => {
+                self.link([(first, F)], second | third)?;
+                F
+            }
+            23..=25 => {
+                self.link([(first, F), (second, F)], third)?;
+                F
+            }
+            32 => {
+                good(first | second | third == 0)?;
+                S
+            }
+            33 => {
+                good(first as u32 <= 255)?;
+                self.has_names |= first > 127;
+                self.link([(second, E)], third)?;
+                S
+            }
+            34 => {
+                self.link([(first, S), (second, S)], third)?;
+                self.nest(self.deeper(first, second));
+                S
+            }
+            35 => {
+                self.link([(first, F), (second, S), (third, S)], 0)?;
+                self.nest(self.deeper(second, third) + 1);
+                S
+            }
+            36 => {
+                self.link([(first, F), (second, NOTE), (third, S)], 0)?;
+                self.nest(self.nesting[third as usize] + 1);
+                self.has_loops = true;
+                S
+            }
+            37 => {
+                self.link([(first, F), (second, E)], third)?;
+                NOTE
+            }
+            38 => {
+                self.link([(first, F)], second | third)?;
+                S
+            }
+            48 => {
+                self.link([(first, F), (second, S), (third, F)], 0)?;
+                SCRIPT
+            }
+            _ => return Err(Faulty),
+        })
+    }
+
+    /// Links rows that must have these sorts and not be linked.
+    #[inline(always)]
+    fn link<const N: usize>(
+        &mut self,
+        parts: [(i32, State); N],
+        unused: i32,
+    ) -> Result<(), Faulty> {
+        let mut differs = 0;
+        for (link, sort) in parts {
+            let state = self.states.get_mut(link as u32 as usize).ok_or(Faulty)?;
+            differs |= *state ^ sort;
+            *state = sort | LINKED;
+        }
+        good((differs == 0) & (unused == 0))
+    }
+
+    #[inline(always)]
+    fn deeper(&self, one: i32, other: i32) -> u16 {
+        self.nesting[one as usize].max(self.nesting[other as usize])
+    }
+
+    /// Says how deep the next row nests.
+    #[inline(always)]
+    fn nest(&mut self, nesting: u16) {
+        self.nesting[self.states.len()] = nesting;
+    }
+}
+
+#[inline(always)]
+fn good(holds: bool) -> Result<(), Faulty> {
+    if holds {
+        Ok(())
+    } else {
+        Err(Faulty)
+    }
+}

@@ -1,0 +1,57 @@
+//! A yardstick for the proved library: document 01 written by hand for speed.
+//!
+//! Nothing of it is proved. `fuzz/tests/peer.rs` compares it with the proved
+//! library word for word, and the benchmark times the library beside it; it has
+//! no other use.
+//!
+//! [`check`] reads the table once, and again only where a frozen name or a mark
+//! occurs. [`generate`] writes the list from front to back, keeps no formula,
+//! and copies what stands in the list already. The reader goes over the words
+//! of a line once. Nothing is taken from the heap, and no working memory is
+//! cleared; the module `stack` has the only `unsafe` code.
+
+mod check;
+mod faults;
+mod generate;
+mod names;
+mod reader;
+mod spell;
+mod stack;
+mod weakest;
+
+pub use check::check;
+pub use generate::generate;
+pub use reader::{first_place, line_at, step};
+
+/// A row of the table: kind, first, second, third.
+type Row = [i32; 4];
+
+const MOST_ROWS: usize = 2_048;
+
+const LONGEST_LIST: usize = 16_384;
+
+/// Number and row, both 0 for an accepted table.
+#[derive(Clone, Copy, Debug, Default, PartialEq, Eq)]
+pub struct Verdict {
+    pub number: usize,
+    pub row: usize,
+}
+
+/// What the generator answers beside its buffers.
+#[derive(Clone, Copy, Debug, Default, PartialEq, Eq)]
+pub struct Answer {
+    pub number: usize,
+    pub row: usize,
+    pub conditions: usize,
+    pub words: usize,
+}
+
+/// What the list reader answers: the formula stands from `start` up to `end`.
+#[derive(Clone, Copy, Debug, Default, PartialEq, Eq)]
+pub struct Line {
+    pub number: usize,
+    pub kind: usize,
+    pub row: usize,
+    pub start: usize,
+    pub end: usize,
+}
