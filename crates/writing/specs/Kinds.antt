@@ -9,8 +9,6 @@ use native.Mathlib.Omega.{arith as linear}
 use borrow.Author.Tests.{ltb-true, ltb-false}
 use lib.Dec.{T, ltb}
 use lib.IntN.{ℤ, pos}
-use mir.Val.{SFits}
-use mir.Syntax.{w32}
 use Rattle.script.specs.declared.Operator.{Operator}
 use Rattle.script.specs.declared.Operator.the-variants.{Plus, Minus, Times, Div, Mod}
 use Rattle.script.specs.declared.Relation.{Relation}
@@ -109,7 +107,7 @@ module _ (t : List ℤ) (r n : ℕ) where
   pub record Paired {O : Type 0} (of : O → ℤ) (node : O → Row) : Type 0 where
     pub op : O
     pub spelled : pos n ≡ of op
-    pub fits : SFits w32 (pos n)
+    pub small : n < 64
     pub is : row t r ≡ node op
 
   abbrev pub Operation : Type 0
@@ -138,23 +136,23 @@ module _ (t : List ℤ) (r n : ℕ) where
     operation s p =
         let f = operator-left n (word t r 1) (row t r) fits-here s p in
         let l = operator-below (f .0) (f .1) in
-        record { op = f .0; spelled = f .1; fits = record { sfits = omega linear }; is = spelled-by (f .1) ∙ operator-row _ _ _ (f .0) }
+        record { op = f .0; spelled = f .1; small = omega linear; is = spelled-by (f .1) ∙ operator-row _ _ _ (f .0) }
 
     pub comparison : T (same-sort (sort-of (row t r)) Formula) → Past-formulas n → n < 22 → Compared
     comparison s p h =
         let f = relation-left n (word t r 1) (row t r) fits-here s p h in
-        record { op = f .0; spelled = f .1; fits = record { sfits = omega linear }; is = spelled-by (f .1) ∙ relation-row _ _ _ (f .0) }
+        record { op = f .0; spelled = f .1; small = omega linear; is = spelled-by (f .1) ∙ relation-row _ _ _ (f .0) }
 
     pub junction : T (same-sort (sort-of (row t r)) Formula) → Past-formulas n → 22 ≤ n → Joined
     junction s p h =
         let f = connective-left n (word t r 1) (row t r) fits-here s p h in
         let l = connective-within (f .0) (f .1) in
-        record { op = f .0; spelled = f .1; fits = record { sfits = omega linear }; is = spelled-by (f .1) ∙ connective-row _ _ _ (f .0) }
+        record { op = f .0; spelled = f .1; small = omega linear; is = spelled-by (f .1) ∙ connective-row _ _ _ (f .0) }
 
     -- whether a relation or a connective
-    pub pair-fits : T (same-sort (sort-of (row t r)) Formula) → Past-formulas n → SFits w32 (pos n)
-    pair-fits s p = by (ltb n 22) refl
+    pub pair-small : T (same-sort (sort-of (row t r)) Formula) → Past-formulas n → n < 64
+    pair-small s p = by (ltb n 22) refl
       where
-        by : (b : Bool) → ltb n 22 ≡ b → SFits w32 (pos n)
-        by true e = comparison s p (ltb-true n 22 e) .fits
-        by false e = junction s p (ltb-false n 22 e) .fits
+        by : (b : Bool) → ltb n 22 ≡ b → n < 64
+        by true e = comparison s p (ltb-true n 22 e) .small
+        by false e = junction s p (ltb-false n 22 e) .small
