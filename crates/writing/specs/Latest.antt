@@ -77,20 +77,19 @@ module _ (t : List ℤ) (ok : Accepted t) where
       unfolding under
       found-none e = record { within = omega linear; itself = λ h. same ∙ rw e; value = λ h. absurd (h refl) }
 
-      module _ (more : 0 < k) where
-        step : under t path k v
-            ≡ cond (eqb v (target-on t path (k - 1))) (replaceᵉ (under t path (k - 1)) (expr-at t (value-on t path (k - 1)))) (under t path (k - 1) v)
-        step = under-step k more (along .assigns (k - 1) (omega linear))
+      pub found-here : 0 < k → v ≡ target-on t path (k - 1) → Found t path v j k
+      found-here more e =
+          let step = under-step k more (along .assigns (k - 1) (omega linear)) in
+          record {
+            within = within;
+            itself = λ h. absurd (omega linear);
+            value = λ h. same ∙ (step ∙ rw (eq-eqb v (target-on t path (k - 1)) e));
+          }
 
-        pub found-here : v ≡ target-on t path (k - 1) → Found t path v j k
-        found-here e = record {
-          within = within;
-          itself = λ h. absurd (omega linear);
-          value = λ h. same ∙ (step ∙ rw (eq-eqb v (target-on t path (k - 1)) e));
-        }
-
-        pub same-earlier : (v ≡ target-on t path (k - 1) → ⊥) → under t path j v ≡ under t path (k - 1) v
-        same-earlier e = same ∙ (step ∙ rw (ne-eqb v (target-on t path (k - 1)) e))
+      pub same-earlier : 0 < k → (v ≡ target-on t path (k - 1) → ⊥) → under t path j v ≡ under t path (k - 1) v
+      same-earlier more e =
+          let step = under-step k more (along .assigns (k - 1) (omega linear)) in
+          same ∙ (step ∙ rw (ne-eqb v (target-on t path (k - 1)) e))
 
 -- ---- what is written for the variable
 

@@ -1,6 +1,6 @@
 -- What the writers of expressions and formulas ask, and what is known of a node from it. The measure of a node at row r under
 -- j assignments is `base j + (r + 1)`. Assumes nothing.
-use Prim.Native.Nat.{ℕ, _+_, _*_, _≤_, _<_}
+use Prim.Native.Nat.{ℕ, _*_, _≤_, _<_}
 use mathlib.Core.Path.{_≡_}
 use mathlib.Core.Bool.{true}
 use mathlib.Core.List.{List}
@@ -51,9 +51,6 @@ ranged-as : (t : List ℤ) → Accepted t → (r : ℕ) {w : Row} → r < rows t
 ranged-as t ok r h e = rw e at (ok .ranged r h)
 
 module _ {t path : List ℤ} {j r : ℕ} {s : Sort} (g : Ready t path j r s) where
-  pub in-table : 4 * r + 3 < length t
-  in-table = let h = g .inside in let k = g .table .fours in omega linear
-
   pub variable-small : {v : VariableNumber} → row t r ≡ Row.Expression (Variable v) → v .0 < variables
   variable-small {v} e = ltb→lt (v .0) variables (both (ltb (v .0) variables) true (ranged-as t (g .table) r (g .inside) e) .0)
 

@@ -17,7 +17,7 @@ use Rattle.writing.specs.Links.{Linked, Links}
 use Rattle.writing.specs.Nodes.{Ready, base, variable-small, mark-small, links-at, at-expr, at-formula}
 use Rattle.writing.specs.Paths.{replaceᵉ, under, expr-under, formula-under}
 use Rattle.writing.specs.Latest.{value-on, Found, wrote-itself, value-ready, value-falls, wrote-value}
-use Rattle.writing.specs.Kinds.{of-kind, Past-expressions, Past-formulas, Operation, operation, Compared, comparison, Joined, junction, pair-small}
+use Rattle.writing.specs.Kinds.{of-kind, Past-expressions, Past-formulas, Operation, operation, operation-small, Compared, comparison, Joined, junction, pair-small}
 
 -- the node of sort s at row r under j assignments, with the words `part`; m is the measure at the start
 pub record Turn (t path : List ℤ) (s : Sort) (m : ℕ) (whole l₀ : List ℤ) (p₀ : ℕ) (part : List ℤ) (j r p : ℕ) (l : List ℤ) : Type 0 where
@@ -137,7 +137,7 @@ module _ {t path whole l₀ l : List ℤ} {m p₀ j r p : ℕ} (g : Turn t path 
     operator = operation t r k read (g .ready .sort) past
 
     pub operator-fits : k < 64
-    operator-fits = operator .small
+    operator-fits = operation-small t r k read operator
 
     module _ {a b : ℕ} (ha : a ≡ field-number (word t r 1)) (hb : b ≡ field-number (word t r 2)) where
       pub operands : Linked t r a Expression × Linked t r b Expression

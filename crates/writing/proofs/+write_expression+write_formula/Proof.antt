@@ -5,9 +5,9 @@ mod Expression
 mod Formula
 use Rattle.writing.proofs.+write_expression+write_formula.{statement}
 use Rattle.writing.proofs.+write_expression+write_formula.Tie.{close}
-use Rattle.writing.proofs.+write_expression+write_formula.Proof.Claims.{μ-expression, μ-formula}
+use Rattle.writing.proofs.+write_expression+write_formula.Proof.Claims.{μ}
 use Rattle.writing.proofs.+write_expression+write_formula.Proof.Expression as expression
 use Rattle.writing.proofs.+write_expression+write_formula.Proof.Formula as formula
 
 pub +write-expression+write-formula-spec : {M : Type 1} → statement M
-+write-expression+write-formula-spec = close μ-expression μ-formula (λ t. expression.closed t) (λ t. formula.closed t)
++write-expression+write-formula-spec = close μ μ (λ t. expression.closed t) (λ t. formula.closed t)

@@ -7,10 +7,9 @@ use Rattle.writing.specs.Nodes.{base}
 use Rattle.writing.specs.Paths.{expr-under, formula-under}
 use Rattle.writing.specs.Turns.{Turn}
 use Rattle.writing.proofs.write_expression.Reads as expression
-use Rattle.writing.proofs.write_expression.Kinds as expression-kinds
+use Rattle.writing.proofs.write_expression.Kinds as kinds
 use Rattle.writing.proofs.+write_expression+write_formula.Lts-write_expression as expression-lts
 use Rattle.writing.proofs.write_formula.Reads as formula
-use Rattle.writing.proofs.write_formula.Kinds as formula-kinds
 use Rattle.writing.proofs.+write_expression+write_formula.Lts-write_formula as formula-lts
 use Rattle.script.proofs.field_number.Reads as field-number-reads
 use Rattle.writing.proofs.field.Reads as field-reads
@@ -20,23 +19,15 @@ use Rattle.writing.proofs.push_kind.Reads as push-kind-reads
 use Rattle.writing.proofs.push_mark.Reads as push-mark-reads
 use Rattle.writing.proofs.push_variable.Reads as push-variable-reads
 
-abbrev pub μ-expression : Measures 3 expression-kinds.ps ℕ
-μ-expression κs a = base (a .1 .1 .1 .1 .0) + (a .1 .0 .0 + 1)
+-- the two take the same arguments
+abbrev pub μ : Measures 3 kinds.ps ℕ
+μ κs a = base (a .1 .1 .1 .1 .0) + (a .1 .0 .0 + 1)
 
-abbrev pub μ-formula : Measures 3 formula-kinds.ps ℕ
-μ-formula κs a = base (a .1 .1 .1 .1 .0) + (a .1 .0 .0 + 1)
+abbrev pub at : In 3 kinds.ps → ℕ → In 3 kinds.ps
+at pre t = and 3 kinds.ps (is 3 kinds.ps μ t) pre
 
-abbrev pub expression-at : ℕ → In 3 expression-kinds.ps
-expression-at t = and 3 expression-kinds.ps (is 3 expression-kinds.ps μ-expression t) expression.Pre
-
-abbrev pub expression-below : ℕ → In 3 expression-kinds.ps
-expression-below t = and 3 expression-kinds.ps (falls 3 expression-kinds.ps _<_ μ-expression t) expression.Pre
-
-abbrev pub formula-at : ℕ → In 3 formula-kinds.ps
-formula-at t = and 3 formula-kinds.ps (is 3 formula-kinds.ps μ-formula t) formula.Pre
-
-abbrev pub formula-below : ℕ → In 3 formula-kinds.ps
-formula-below t = and 3 formula-kinds.ps (falls 3 formula-kinds.ps _<_ μ-formula t) formula.Pre
+abbrev below : In 3 kinds.ps → ℕ → In 3 kinds.ps
+below pre t = and 3 kinds.ps (falls 3 kinds.ps _<_ μ t) pre
 
 abbrev pub expression-claims : ℕ → expression-lts.Claims
 expression-claims t = (
@@ -54,9 +45,9 @@ expression-claims t = (
   push-kind-reads.Learnt,
   push-mark-reads.Asked,
   push-mark-reads.Learnt,
-  formula-below t,
+  below formula.Pre t,
   formula.Post,
-  expression-below t,
+  below expression.Pre t,
   expression.Post,
 )
 
@@ -66,9 +57,9 @@ formula-claims t = (
   field-reads.Learnt,
   push-kind-reads.Asked,
   push-kind-reads.Learnt,
-  expression-below t,
+  below expression.Pre t,
   expression.Post,
-  formula-below t,
+  below formula.Pre t,
   formula.Post,
 )
 

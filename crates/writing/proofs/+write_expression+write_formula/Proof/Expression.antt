@@ -9,183 +9,165 @@ use Rattle.writing.specs.Latest.{value-on, row-inside, field-read, value
 use Rattle.writing.specs.Turns.{begun, full, part-falls, part-ready, constant-written, variable-fits, variable-written, value-turn, negated, negate-turn, mark-fits, mark-written, chosen, choose-turn, operator-fits, operands, operator-turn}
 use Rattle.writing.proofs.write_expression.Reads as reads
 use Rattle.writing.proofs.+write_expression+write_formula.Lts-write_expression as lts
-use Rattle.writing.proofs.+write_expression+write_formula.Proof.Claims.{expression-claims, expression-at, expression-turn, expression-left}
+use Rattle.writing.proofs.+write_expression+write_formula.Proof.Claims.{at, expression-claims, expression-turn, expression-left}
 
 module _ (t : ℕ) where
   -- ---- a constant
 
-  returns : lts.Need-returns (expression-claims t) (expression-at t) reads.Post expression-turn expression-left
+  returns : lts.Need-returns (expression-claims t) (at reads.Pre t) reads.Post expression-turn expression-left
   returns c =
       let pushed = c .before in
       let value = pushed .before in
-      let arm = value .before .before in
-      let read = arm .before in
-      constant-written (read .before .before .loop .inv) (read .field .ensures) (arm .match .keys1) (rw (back (value .push-constant-arg2 .given)) at (pushed .push-constant .ensures))
+      let arm = value .before .before in let read = arm .before in let g = read .before .before .loop .inv in
+      constant-written g (read .field .ensures) (arm .match .keys1) (rw (back (value .push-constant-arg2 .given)) at (pushed .push-constant .ensures))
 
   -- ---- a variable, and the value of the latest assignment to it
 
-  push-variable-requires : lts.Need-push-variable-requires (expression-claims t) (expression-at t) reads.Post expression-turn expression-left
+  push-variable-requires : lts.Need-push-variable-requires (expression-claims t) (at reads.Pre t) reads.Post expression-turn expression-left
   push-variable-requires c κs =
       let named = c .before .before .before in
-      let arm = named .before in
-      let read = arm .before in
-      variable-fits (read .before .before .loop .inv) (read .field .ensures) (arm .match .keys2) (named .field2 .ensures)
+      let arm = named .before in let read = arm .before in let g = read .before .before .loop .inv in
+      variable-fits g (read .field .ensures) (arm .match .keys2) (named .field2 .ensures)
 
-  returns-2 : lts.Need-returns-2 (expression-claims t) (expression-at t) reads.Post expression-turn expression-left
+  returns-2 : lts.Need-returns-2 (expression-claims t) (at reads.Pre t) reads.Post expression-turn expression-left
   returns-2 c =
       let pushed = c .before in
       let none = pushed .before .before in
       let found = none .before in
       let named = found .before in
-      let arm = named .before in
-      let read = arm .before in
-      variable-written (read .before .before .loop .inv) (read .field .ensures) (arm .match .keys2) (named .field2 .ensures) (found .latest .ensures) (none .if1 .taken)
+      let arm = named .before in let read = arm .before in let g = read .before .before .loop .inv in
+      variable-written g (read .field .ensures) (arm .match .keys2) (named .field2 .ensures) (found .latest .ensures) (none .if1 .taken)
       (pushed .push-variable .ensures)
 
   -- where an assignment to it was found
-  abbrev start : lts.Else1 (expression-claims t) (expression-at t) reads.Post expression-turn expression-left → lts.At-loop (expression-claims t) (expression-at t) reads.Post expression-turn expression-left
-  start c = c .before .before .before .before .before .before
+  abbrev loop : lts.Else1 (expression-claims t) (at reads.Pre t) reads.Post expression-turn expression-left
+      → lts.At-loop (expression-claims t) (at reads.Pre t) reads.Post expression-turn expression-left
+  loop c = c .before .before .before .before .before .before
 
-  field-requires-3 : lts.Need-field-requires-3 (expression-claims t) (expression-at t) reads.Post expression-turn expression-left
+  field-requires-3 : lts.Need-field-requires-3 (expression-claims t) (at reads.Pre t) reads.Post expression-turn expression-left
   field-requires-3 c κs =
       let some = c .before .before in
-      let g = start some .loop .inv .ready in
+      let g = loop some .loop .inv .ready in
       let within = some .before .latest .ensures .within in
-      let inside = row-inside _ (start some .before .args .path .now) _ (c .field-number .ensures) (back (c .before .field-number-arg .given)) in
+      let inside = row-inside _ (loop some .before .args .path .now) _ (c .field-number .ensures) (back (c .before .field-number-arg .given)) in
       (inside _ (g .table) (g .along) (omega arith), omega arith)
 
-  value : (c : lts.After-field3 (expression-claims t) (expression-at t) reads.Post expression-turn expression-left)
+  value : (c : lts.After-field3 (expression-claims t) (at reads.Pre t) reads.Post expression-turn expression-left)
       → let some = c .before .before .before in
-      c .field3 .result ≡ value-on (start some .before .args .table .now) (start some .before .args .path .now) (some .before .latest .result - 1)
+      c .field3 .result ≡ value-on (loop some .before .args .table .now) (loop some .before .args .path .now) (some .before .latest .result - 1)
   value c =
       let some = c .before .before .before in
-      field-read (start some .before .args .table .now) (start some .before .args .path .now) (some .before .latest .result - 1)
+      field-read (loop some .before .args .table .now) (loop some .before .args .path .now) (some .before .latest .result - 1)
       (c .before .field-number .ensures) (back (c .before .before .field-number-arg .given)) 2 (c .field3 .ensures)
 
-  loop-less : lts.Need-loop-less (expression-claims t) (expression-at t) reads.Post expression-turn expression-left
+  loop-less : lts.Need-loop-less (expression-claims t) (at reads.Pre t) reads.Post expression-turn expression-left
   loop-less c =
       let some = c .before .before .before in
-      value-falls (start some .loop .inv .ready) (some .before .latest .ensures) (some .if1 .left) (value c)
+      value-falls (loop some .loop .inv .ready) (some .before .latest .ensures) (some .if1 .left) (value c)
 
-  loop-again : lts.Need-loop-again (expression-claims t) (expression-at t) reads.Post expression-turn expression-left
+  loop-again : lts.Need-loop-again (expression-claims t) (at reads.Pre t) reads.Post expression-turn expression-left
   loop-again c =
       let some = c .before .before .before in
       let found = some .before in
       let named = found .before in
-      let arm = named .before in
-      let read = arm .before in
-      value-turn (read .before .before .loop .inv) (read .field .ensures) (arm .match .keys2) (named .field2 .ensures) (found .latest .ensures) (some .if1 .left) (value c)
+      let arm = named .before in let read = arm .before in let g = read .before .before .loop .inv in
+      value-turn g (read .field .ensures) (arm .match .keys2) (named .field2 .ensures) (found .latest .ensures) (some .if1 .left) (value c)
 
   -- ---- a negation
 
-  loop-less-2 : lts.Need-loop-less-2 (expression-claims t) (expression-at t) reads.Post expression-turn expression-left
+  loop-less-2 : lts.Need-loop-less-2 (expression-claims t) (at reads.Pre t) reads.Post expression-turn expression-left
   loop-less-2 c =
-      let arm = c .before .before .before .before in
-      let read = arm .before in
-      let g = read .before .before .loop .inv in
+      let arm = c .before .before .before .before in let read = arm .before in let g = read .before .before .loop .inv in
       part-falls g _ (negated g (read .field .ensures) (arm .match .keys3) (c .field4 .ensures) .0)
 
-  loop-again-2 : lts.Need-loop-again-2 (expression-claims t) (expression-at t) reads.Post expression-turn expression-left
+  loop-again-2 : lts.Need-loop-again-2 (expression-claims t) (at reads.Pre t) reads.Post expression-turn expression-left
   loop-again-2 c =
       let pushed = c .before .before in
-      let arm = pushed .before .before in
-      let read = arm .before in
-      negate-turn (read .before .before .loop .inv) (read .field .ensures) (arm .match .keys3) (c .field4 .ensures) (pushed .push-kind .ensures)
+      let arm = pushed .before .before in let read = arm .before in let g = read .before .before .loop .inv in
+      negate-turn g (read .field .ensures) (arm .match .keys3) (c .field4 .ensures) (pushed .push-kind .ensures)
 
   -- ---- a mark
 
-  push-mark-requires : lts.Need-push-mark-requires (expression-claims t) (expression-at t) reads.Post expression-turn expression-left
+  push-mark-requires : lts.Need-push-mark-requires (expression-claims t) (at reads.Pre t) reads.Post expression-turn expression-left
   push-mark-requires c κs =
-      let arm = c .before .before in
-      let read = arm .before in
-      mark-fits (read .before .before .loop .inv) (read .field .ensures) (arm .match .keys4) (c .field5 .ensures)
+      let arm = c .before .before in let read = arm .before in let g = read .before .before .loop .inv in
+      mark-fits g (read .field .ensures) (arm .match .keys4) (c .field5 .ensures)
 
-  returns-3 : lts.Need-returns-3 (expression-claims t) (expression-at t) reads.Post expression-turn expression-left
+  returns-3 : lts.Need-returns-3 (expression-claims t) (at reads.Pre t) reads.Post expression-turn expression-left
   returns-3 c =
       let pushed = c .before in
       let named = pushed .before in
-      let arm = named .before .before in
-      let read = arm .before in
-      mark-written (read .before .before .loop .inv) (read .field .ensures) (arm .match .keys4) (named .field5 .ensures) (pushed .push-mark .ensures)
+      let arm = named .before .before in let read = arm .before in let g = read .before .before .loop .inv in
+      mark-written g (read .field .ensures) (arm .match .keys4) (named .field5 .ensures) (pushed .push-mark .ensures)
 
   -- ---- a choice
 
-  write-formula-requires : lts.Need-write-formula-requires (expression-claims t) (expression-at t) reads.Post expression-turn expression-left
+  write-formula-requires : lts.Need-write-formula-requires (expression-claims t) (at reads.Pre t) reads.Post expression-turn expression-left
   write-formula-requires c κs =
       let first = c .before in
-      let arm = first .before .before .before .before in
-      let read = arm .before in
-      let at = read .before .before in
-      part-ready (at .loop .inv) (at .before .pre .0) (chosen (read .before .before .loop .inv) (read .field .ensures) (arm .match .keys5) (first .field6 .ensures) refl refl .0)
+      let arm = first .before .before .before .before in let read = arm .before in let g = read .before .before .loop .inv in
+      part-ready g (read .before .before .before .pre .0) (chosen g (read .field .ensures) (arm .match .keys5) (first .field6 .ensures) refl refl .0)
 
-  write-expression-requires : lts.Need-write-expression-requires (expression-claims t) (expression-at t) reads.Post expression-turn expression-left
+  write-expression-requires : lts.Need-write-expression-requires (expression-claims t) (at reads.Pre t) reads.Post expression-turn expression-left
   write-expression-requires c κs =
       let second = c .before in
       let arm = second .before .before .before .before .before .before .before .before in
-      let read = arm .before in
-      let at = read .before .before in
-      part-ready (at .loop .inv) (at .before .pre .0) (chosen (read .before .before .loop .inv) (read .field .ensures) (arm .match .keys5) refl (second .field7 .ensures) refl .1)
+      let read = arm .before in let g = read .before .before .loop .inv in
+      part-ready g (read .before .before .before .pre .0) (chosen g (read .field .ensures) (arm .match .keys5) refl (second .field7 .ensures) refl .1)
 
-  loop-less-3 : lts.Need-loop-less-3 (expression-claims t) (expression-at t) reads.Post expression-turn expression-left
+  loop-less-3 : lts.Need-loop-less-3 (expression-claims t) (at reads.Pre t) reads.Post expression-turn expression-left
   loop-less-3 c =
       let arm = c .before .before .before .before .before .before .before .before .before .before .before .before in
-      let read = arm .before in
-      let g = read .before .before .loop .inv in
+      let read = arm .before in let g = read .before .before .loop .inv in
       part-falls g _ (chosen g (read .field .ensures) (arm .match .keys5) refl refl (c .field8 .ensures) .2 .0)
 
-  loop-again-3 : lts.Need-loop-again-3 (expression-claims t) (expression-at t) reads.Post expression-turn expression-left
+  loop-again-3 : lts.Need-loop-again-3 (expression-claims t) (at reads.Pre t) reads.Post expression-turn expression-left
   loop-again-3 c =
       let first-written = c .before .before in
       let second = first-written .before .before in
       let by-written = second .before .before in
       let first = by-written .before .before in
       let pushed = first .before .before in
-      let arm = pushed .before .before in
-      let read = arm .before in
-      choose-turn (read .before .before .loop .inv) (read .field .ensures) (arm .match .keys5) (first .field6 .ensures) (second .field7 .ensures)
+      let arm = pushed .before .before in let read = arm .before in let g = read .before .before .loop .inv in
+      choose-turn g (read .field .ensures) (arm .match .keys5) (first .field6 .ensures) (second .field7 .ensures)
       (c .field8 .ensures) (pushed .push-kind2 .ensures) (by-written .write-formula .ensures) (first-written .write-expression .ensures)
 
   -- ---- an operator
 
-  push-kind-requires-3 : lts.Need-push-kind-requires-3 (expression-claims t) (expression-at t) reads.Post expression-turn expression-left
+  push-kind-requires-3 : lts.Need-push-kind-requires-3 (expression-claims t) (at reads.Pre t) reads.Post expression-turn expression-left
   push-kind-requires-3 c κs =
-      let arm = c .before in
-      let read = arm .before in
-      operator-fits (read .before .before .loop .inv) (read .field .ensures) (arm .match .rest)
+      let arm = c .before in let read = arm .before in let g = read .before .before .loop .inv in
+      operator-fits g (read .field .ensures) (arm .match .rest)
 
-  write-expression-requires-2 : lts.Need-write-expression-requires-2 (expression-claims t) (expression-at t) reads.Post expression-turn expression-left
+  write-expression-requires-2 : lts.Need-write-expression-requires-2 (expression-claims t) (at reads.Pre t) reads.Post expression-turn expression-left
   write-expression-requires-2 c κs =
       let first = c .before in
-      let arm = first .before .before .before .before in
-      let read = arm .before in
-      let at = read .before .before in
-      part-ready (at .loop .inv) (at .before .pre .0) (operands (read .before .before .loop .inv) (read .field .ensures) (arm .match .rest) (first .field9 .ensures) refl .0)
+      let arm = first .before .before .before .before in let read = arm .before in let g = read .before .before .loop .inv in
+      part-ready g (read .before .before .before .pre .0) (operands g (read .field .ensures) (arm .match .rest) (first .field9 .ensures) refl .0)
 
-  loop-less-4 : lts.Need-loop-less-4 (expression-claims t) (expression-at t) reads.Post expression-turn expression-left
+  loop-less-4 : lts.Need-loop-less-4 (expression-claims t) (at reads.Pre t) reads.Post expression-turn expression-left
   loop-less-4 c =
       let arm = c .before .before .before .before .before .before .before .before in
-      let read = arm .before in
-      let g = read .before .before .loop .inv in
+      let read = arm .before in let g = read .before .before .loop .inv in
       part-falls g _ (operands g (read .field .ensures) (arm .match .rest) refl (c .field10 .ensures) .1 .0)
 
-  loop-again-4 : lts.Need-loop-again-4 (expression-claims t) (expression-at t) reads.Post expression-turn expression-left
+  loop-again-4 : lts.Need-loop-again-4 (expression-claims t) (at reads.Pre t) reads.Post expression-turn expression-left
   loop-again-4 c =
       let written = c .before .before in
       let first = written .before .before in
       let pushed = first .before .before in
-      let arm = pushed .before .before in
-      let read = arm .before in
-      operator-turn (read .before .before .loop .inv) (read .field .ensures) (arm .match .rest) (first .field9 .ensures) (c .field10 .ensures)
+      let arm = pushed .before .before in let read = arm .before in let g = read .before .before .loop .inv in
+      operator-turn g (read .field .ensures) (arm .match .rest) (first .field9 .ensures) (c .field10 .ensures)
       (pushed .push-kind3 .ensures) (written .write-expression2 .ensures)
 
   -- ---- no room is left
 
-  returns-4 : lts.Need-returns-4 (expression-claims t) (expression-at t) reads.Post expression-turn expression-left
+  returns-4 : lts.Need-returns-4 (expression-claims t) (at reads.Pre t) reads.Post expression-turn expression-left
   returns-4 c = full (c .before .loop .inv) (c .loop-test .left)
 
-  pub closed : {M : Type 1} → lts.Closed (expression-claims t) (expression-at t) reads.Post M
+  pub closed : {M : Type 1} → lts.Closed (expression-claims t) (at reads.Pre t) reads.Post M
   closed =
-      lts.spec (expression-claims t) (expression-at t) reads.Post
+      lts.spec (expression-claims t) (at reads.Pre t) reads.Post
       expression-turn
       expression-left
       (λ c. begun (c .pre .1))
