@@ -1,16 +1,13 @@
 -- The row of a node by its kind, where n is the number in its first word (`of-kind`); and the kinds that are left once those
--- with other parts were passed over: an operator (`operation`), a relation (`comparison`), a connective (`junction`).
+-- with other parts were passed over: an operator (`operation`), a relation (`comparison`) or a connective (`junction`).
 -- Assumes nothing.
 use Prim.Native.Nat.{ℕ, _≤_, _<_}
-use mathlib.Core.Path.{_≡_, refl, sym, ap, _∙_}
-use mathlib.Core.Bool.{Bool, true, false}
+use mathlib.Core.Path.{_≡_, sym, ap, _∙_}
+use mathlib.Core.Logic.{_⊎_, inl, inr, ⊎-elim}
 use mathlib.Core.List.{List}
 use native.Mathlib.Omega.{arith as linear}
-use borrow.Author.Tests.{ltb-true, ltb-false}
-use lib.Dec.{T, ltb}
+use lib.Dec.{T}
 use lib.IntN.{ℤ, pos}
-use mir.Val.{SFits}
-use mir.Syntax.{w32}
 use Rattle.script.specs.declared.Operator.{Operator}
 use Rattle.script.specs.declared.Operator.the-variants.{Plus, Minus, Times, Div, Mod}
 use Rattle.script.specs.declared.Relation.{Relation}
@@ -76,31 +73,18 @@ module _ (n : ℕ) (a : ℤ) where
   operator-left (Row.Script x y z) f s p = absurd s
   operator-left Row.Unknown f s p = absurd s
 
-  relation-left : (w : Row) → Fits (pos n) a w → T (same-sort (sort-of w) Formula) → Past-formulas n → n < 22
-      → (o : Relation) × (pos n ≡ rel-word o)
-  relation-left (Row.Formula True) f s p h = absurd (p .0 .0 .1 (unspell f))
-  relation-left (Row.Formula False) f s p h = absurd (p .0 .1 (unspell f))
-  relation-left (Row.Formula (Comparison o x y)) f s p h = (o, f)
-  relation-left (Row.Formula (Not x)) f s p h = absurd (p .1 (unspell f))
-  relation-left (Row.Formula (Junction o x y)) f s p h = absurd (let c = connective-within o f in omega linear)
-  relation-left (Row.Expression w) f s p h = absurd s
-  relation-left (Row.Statement w) f s p h = absurd s
-  relation-left (Row.Note i v) f s p h = absurd s
-  relation-left (Row.Script x y z) f s p h = absurd s
-  relation-left Row.Unknown f s p h = absurd s
-
-  connective-left : (w : Row) → Fits (pos n) a w → T (same-sort (sort-of w) Formula) → Past-formulas n → 22 ≤ n
-      → (o : Connective) × (pos n ≡ conn-word o)
-  connective-left (Row.Formula True) f s p h = absurd (p .0 .0 .1 (unspell f))
-  connective-left (Row.Formula False) f s p h = absurd (p .0 .1 (unspell f))
-  connective-left (Row.Formula (Comparison o x y)) f s p h = absurd (let c = relation-below o f in omega linear)
-  connective-left (Row.Formula (Not x)) f s p h = absurd (p .1 (unspell f))
-  connective-left (Row.Formula (Junction o x y)) f s p h = (o, f)
-  connective-left (Row.Expression w) f s p h = absurd s
-  connective-left (Row.Statement w) f s p h = absurd s
-  connective-left (Row.Note i v) f s p h = absurd s
-  connective-left (Row.Script x y z) f s p h = absurd s
-  connective-left Row.Unknown f s p h = absurd s
+  pair-left : (w : Row) → Fits (pos n) a w → T (same-sort (sort-of w) Formula) → Past-formulas n
+      → ((o : Relation) × (pos n ≡ rel-word o)) ⊎ ((o : Connective) × (pos n ≡ conn-word o))
+  pair-left (Row.Formula True) f s p = absurd (p .0 .0 .1 (unspell f))
+  pair-left (Row.Formula False) f s p = absurd (p .0 .1 (unspell f))
+  pair-left (Row.Formula (Comparison o x y)) f s p = inl (o, f)
+  pair-left (Row.Formula (Not x)) f s p = absurd (p .1 (unspell f))
+  pair-left (Row.Formula (Junction o x y)) f s p = inr (o, f)
+  pair-left (Row.Expression w) f s p = absurd s
+  pair-left (Row.Statement w) f s p = absurd s
+  pair-left (Row.Note i v) f s p = absurd s
+  pair-left (Row.Script x y z) f s p = absurd s
+  pair-left Row.Unknown f s p = absurd s
 
 -- ---- the row
 
@@ -109,7 +93,6 @@ module _ (t : List ℤ) (r n : ℕ) where
   pub record Paired {O : Type 0} (of : O → ℤ) (node : O → Row) : Type 0 where
     pub op : O
     pub spelled : pos n ≡ of op
-    pub fits : SFits w32 (pos n)
     pub is : row t r ≡ node op
 
   abbrev pub Operation : Type 0
@@ -137,24 +120,26 @@ module _ (t : List ℤ) (r n : ℕ) where
     pub operation : T (same-sort (sort-of (row t r)) Expression) → Past-expressions n → Operation
     operation s p =
         let f = operator-left n (word t r 1) (row t r) fits-here s p in
-        let l = operator-below (f .0) (f .1) in
-        record { op = f .0; spelled = f .1; fits = record { sfits = omega linear }; is = spelled-by (f .1) ∙ operator-row _ _ _ (f .0) }
+        record { op = f .0; spelled = f .1; is = spelled-by (f .1) ∙ operator-row _ _ _ (f .0) }
 
-    pub comparison : T (same-sort (sort-of (row t r)) Formula) → Past-formulas n → n < 22 → Compared
-    comparison s p h =
-        let f = relation-left n (word t r 1) (row t r) fits-here s p h in
-        record { op = f .0; spelled = f .1; fits = record { sfits = omega linear }; is = spelled-by (f .1) ∙ relation-row _ _ _ (f .0) }
+    pub operation-small : Operation → n < 64
+    operation-small o = let l = operator-below (o .op) (o .spelled) in omega linear
 
-    pub junction : T (same-sort (sort-of (row t r)) Formula) → Past-formulas n → 22 ≤ n → Joined
-    junction s p h =
-        let f = connective-left n (word t r 1) (row t r) fits-here s p h in
-        let l = connective-within (f .0) (f .1) in
-        record { op = f .0; spelled = f .1; fits = record { sfits = omega linear }; is = spelled-by (f .1) ∙ connective-row _ _ _ (f .0) }
+    module _ (s : T (same-sort (sort-of (row t r)) Formula)) (p : Past-formulas n) where
+      pair : ((o : Relation) × (pos n ≡ rel-word o)) ⊎ ((o : Connective) × (pos n ≡ conn-word o))
+      pair = pair-left n (word t r 1) (row t r) fits-here s p
 
-    -- whether a relation or a connective
-    pub pair-fits : T (same-sort (sort-of (row t r)) Formula) → Past-formulas n → SFits w32 (pos n)
-    pair-fits s p = by (ltb n 22) refl
-      where
-        by : (b : Bool) → ltb n 22 ≡ b → SFits w32 (pos n)
-        by true e = comparison s p (ltb-true n 22 e) .fits
-        by false e = junction s p (ltb-false n 22 e) .fits
+      pub pair-small : n < 64
+      pair-small = ⊎-elim (λ f. let l = relation-below (f .0) (f .1) in omega linear) (λ f. let l = connective-within (f .0) (f .1) in omega linear) pair
+
+      pub comparison : n < 22 → Compared
+      comparison h =
+          ⊎-elim (λ f. record { op = f .0; spelled = f .1; is = spelled-by (f .1) ∙ relation-row _ _ _ (f .0) })
+          (λ f. absurd (let l = connective-within (f .0) (f .1) in omega linear))
+          pair
+
+      pub junction : 22 ≤ n → Joined
+      junction h =
+          ⊎-elim (λ f. absurd (let l = relation-below (f .0) (f .1) in omega linear))
+          (λ f. record { op = f .0; spelled = f .1; is = spelled-by (f .1) ∙ connective-row _ _ _ (f .0) })
+          pair

@@ -4,4 +4,4 @@ pub mod Paths
 pub mod Nodes
 pub mod Kinds
 pub mod Latest
-pub mod Variables
+pub mod Turns

@@ -1,15 +1,13 @@
--- What the writers of expressions and formulas ask, and that it is asked of their parts too. The measure of a node at row r
--- under j assignments is `base j + (r + 1)`, and of a variable `base j`. Assumes nothing.
-use Prim.Native.Nat.{ℕ, _+_, _*_, _≤_, _<_}
+-- What the writers of expressions and formulas ask, and what is known of a node from it. The measure of a node at row r under
+-- j assignments is `base j + (r + 1)`. Assumes nothing.
+use Prim.Native.Nat.{ℕ, _*_, _≤_, _<_}
 use mathlib.Core.Path.{_≡_}
 use mathlib.Core.Bool.{true}
 use mathlib.Core.List.{List}
 use native.Mathlib.Omega.{arith as linear}
 use lib.Dec.{T, ltb, ltb→lt}
-use lib.IntN.{ℤ, pos}
+use lib.IntN.{ℤ}
 use lib.ListN.{length}
-use mir.Val.{SFits}
-use mir.Syntax.{w32}
 use Rattle.script.specs.declared.RowNumber.{RowNumber}
 use Rattle.script.specs.declared.VariableNumber.{VariableNumber}
 use Rattle.script.specs.declared.ExpressionRow.the-variants.{Variable, Mark}
@@ -24,7 +22,7 @@ use Rattle.script.specs.Refusals.{same-sort, in-range}
 use Rattle.theorems.specs.Accepted.{Accepted, both}
 use Rattle.theorems.specs.RowTrees.{expr-is, formula-is}
 use Rattle.writing.specs.Writing.{Wrote}
-use Rattle.writing.specs.Links.{Linked, Links, links-of}
+use Rattle.writing.specs.Links.{Links, links-of}
 use Rattle.writing.specs.Paths.{replaceᵉ, replaceᶠ, row-on, under, expr-under, formula-under}
 
 -- ---- what the writers ask
@@ -46,39 +44,21 @@ pub record Ready (t path : List ℤ) (j r : ℕ) (s : Sort) : Type 0 where
   pub inside : r < rows t
   pub sort : T (same-sort (sort-of (row t r)) s)
 
-pub record VariableReady (t path : List ℤ) (j v : ℕ) : Type 0 where
-  pub table : Accepted t
-  pub along : OnPath t path j
-  pub small : v < variables
-
 abbrev pub base : ℕ → ℕ
 base j = j * 4096
 
 ranged-as : (t : List ℤ) → Accepted t → (r : ℕ) {w : Row} → r < rows t → row t r ≡ w → T (in-range t (fields w))
 ranged-as t ok r h e = rw e at (ok .ranged r h)
 
--- ---- a node
+module _ {t path : List ℤ} {j r : ℕ} {s : Sort} (g : Ready t path j r s) where
+  pub variable-small : {v : VariableNumber} → row t r ≡ Row.Expression (Variable v) → v .0 < variables
+  variable-small {v} e = ltb→lt (v .0) variables (both (ltb (v .0) variables) true (ranged-as t (g .table) r (g .inside) e) .0)
 
--- a part at row a, that was read as n
-pub node-ready : (t path : List ℤ) (j r k : ℕ) {n a : ℕ} {s s′ : Sort} → base j + (r + 1) ≡ k → Ready t path j r s → Linked t r a s′ → n ≡ a
-    → (base j + (n + 1) < k) × Ready t path j n s′
-node-ready t path j r k e g h m =
-    let i = g .inside in
-    let l = h .0 in
-    (omega linear, record { table = g .table; along = g .along; inside = omega linear; sort = rw m (h .1) })
-
-module _ (t path : List ℤ) (j r : ℕ) {s : Sort} (g : Ready t path j r s) where
-  pub variable-ready : (k : ℕ) {n : ℕ} {v : VariableNumber} → base j + (r + 1) ≡ k → row t r ≡ Row.Expression (Variable v) → n ≡ v .0
-      → (base j < k) × VariableReady t path j n
-  variable-ready k {n} {v} m e i =
-      let b = ltb→lt (v .0) 256 (both (ltb (v .0) 256) true (ranged-as t (g .table) r (g .inside) e) .0) in
-      (omega linear, record { table = g .table; along = g .along; small = omega linear })
-
-  pub mark-fits : {m : RowNumber} → row t r ≡ Row.Expression (Mark m) → SFits w32 (pos (m .0))
-  mark-fits {m} e =
+  pub mark-small : {m : RowNumber} → row t r ≡ Row.Expression (Mark m) → m .0 < 2048
+  mark-small {m} e =
       let b : m .0 < rows t = ltb→lt (m .0) (rows t) (both (ltb (m .0) (rows t)) true (ranged-as t (g .table) r (g .inside) e) .0) in
       let n = g .table .short in
-      record { sfits = omega linear }
+      omega linear
 
   pub links-at : {w : Row} → row t r ≡ w → Links t r (parts w)
   links-at e = links-of t (g .table) r (g .inside) e

@@ -2,7 +2,7 @@
 -- assignment replaces a variable, and replacing one after another is replacing all at once: `under` says by what, and
 -- `assign-passed` that an assignment which is put on the path need not be carried out. Assumes nothing.
 use Prim.Native.Nat.{ℕ, zero, suc}
-use mathlib.Core.Path.{_≡_, refl, ap}
+use mathlib.Core.Path.{_≡_, refl}
 use mathlib.Core.Bool.{Bool, true, false, cond}
 use mathlib.Core.List.{List}
 use lib.Dec.{eqb}
@@ -113,9 +113,3 @@ none-passedᵉ t path x = same-expr x
 pub none-passed : (t path : List ℤ) (f : Formula) → replaceᶠ (under t path 0) f ≡ f
 unfolding under
 none-passed t path f = same-formula f
-
-pub expr-plain : (t path : List ℤ) (r : ℕ) → expr-under t path 0 r ≡ expr-words (expr-at t r)
-expr-plain t path r = ap expr-words (none-passedᵉ t path (expr-at t r))
-
-pub formula-plain : (t path : List ℤ) (r : ℕ) → formula-under t path 0 r ≡ formula-words (formula-at t r)
-formula-plain t path r = ap formula-words (none-passed t path (formula-at t r))
