@@ -80,6 +80,9 @@ pub record Script (t : List ℤ) (r : ℕ) : Type 0 where
 pub in-table : (t : List ℤ) {r : ℕ} → Accepted t → r < rows t → 4 * r + 3 < length t
 in-table t ok h = let f = ok .fours in omega linear
 
+pub low : (t : List ℤ) {r : ℕ} → Accepted t → r < rows t → r < 2048
+low t ok h = let s = ok .short in omega linear
+
 pub row-fits : (t : List ℤ) (r : ℕ) → Accepted t → r < rows t → SFits w32 (pos r)
 row-fits t r ok h = let s = ok .short in record { sfits = omega linear }
 

@@ -29,14 +29,13 @@ returns c =
     let row = i .before .before in
     let both = row .before .before in
     let guard = both .before .before in
-    wrote-entered _ _ _ (guard .field .ensures) (row .invariant .ensures) (both .push .ensures) (i .write-formula .ensures) (b .write-formula2 .ensures)
+    wrote-entered _ _ _ (guard .field .ensures) (row .invariant .ensures) (both .push-kind .ensures) (i .write-formula .ensures) (b .write-formula2 .ensures)
 
 pub write-entered-spec : {M : Type 1} → statement M
 write-entered-spec =
     tie.close
     (tie.spec
     field-requires
-    (λ c. search needs)
     (λ c κs. search needs)
     (λ c κs. search needs)
     write-formula-requires

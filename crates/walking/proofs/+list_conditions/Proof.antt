@@ -16,7 +16,7 @@ use Rattle.lines.specs.Listed.{listed-length}
 use Rattle.walking.specs.Walks.{Turned, begun, in-table, listed-at-full, leaf-lined, second-walking, first-lower, first-turned}
 use Rattle.walking.specs.Walks.{then-walking, else-lower, else-turned}
 use Rattle.walking.specs.Bodies.{exit-ready, floor-ready, body-walking, step-ready, loop-lined}
-use Rattle.following.proofs.field.Reads as field-reads
+use Rattle.writing.proofs.field.Reads as field-reads
 use Rattle.lines.proofs.write_exit.Reads as write-exit-reads
 use Rattle.lines.proofs.write_floor.Reads as write-floor-reads
 use Rattle.lines.proofs.write_step.Reads as write-step-reads
