@@ -23,7 +23,7 @@ use Rattle.theorems.specs.Accepted.{Accepted}
 use Rattle.theorems.specs.Kinds.{assigned}
 use Rattle.theorems.specs.RowTrees.{stmt-is}
 use Rattle.writing.specs.Writing.{Wrote}
-use Rattle.writing.specs.Links.{Linked, links-of}
+use Rattle.writing.specs.Links.{links-of}
 use Rattle.writing.specs.Nodes.{Assignment, OnPath, Ready, base}
 use Rattle.writing.specs.Paths.{replaceᵉ, row-on, under, expr-under}
 

@@ -9,14 +9,14 @@ use script::VariableNumber;
 use script::kinds;
 ghost use mathlib.Core.Path.{_≡_};
 ghost use mathlib.Core.List.{[], _∷_};
-ghost use Prim.Native.Nat.{ℕ, _+_, _*_, _<_};
+ghost use Prim.Native.Nat.{_+_, _*_, _<_};
 ghost use lib.IntN.{pos};
 ghost use lib.ListN.{length};
 ghost use Rattle.script.specs.declared.Sort.the-variants.{Expression, Formula};
 ghost use Rattle.script.specs.Rows.{field-number, word, variables};
+ghost use Rattle.theorems.specs.Accepted.{Accepted};
 ghost use Rattle.writing.specs.Writing.{Wrote};
 ghost use Rattle.writing.specs.Paths.{expr-under, formula-under};
-ghost use Rattle.theorems.specs.Accepted.{Accepted};
 ghost use Rattle.writing.specs.Nodes.{OnPath, Ready};
 ghost use Rattle.writing.specs.Latest.{Found};
 
