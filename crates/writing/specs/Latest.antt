@@ -1,19 +1,20 @@
 -- What a variable stands for under a path (`Found`): itself, where no assignment on the path is to it; else the value of the
 -- latest that is, under the path before that one. Assumes nothing.
 use Prim.Native.Nat.{ℕ, zero, suc, _+_, _-_, _*_, _≤_, _<_}
-use mathlib.Core.Path.{_≡_, refl, _∙_}
+use mathlib.Core.Path.{_≡_, refl, sym, ap, _∙_}
 use mathlib.Core.Bool.{cond}
 use mathlib.Core.List.{List, [], _∷_}
 use native.Mathlib.Omega.{arith as linear}
 use borrow.Author.Tests.{eq-eqb, ne-eqb}
-use lib.Dec.{eqb}
-use lib.IntN.{ℤ, pos}
+use lib.Dec.{T, eqb}
+use lib.IntN.{ℤ, pos, negsuc, natAbs}
+use lib.Signed.{nonNeg}
 use lib.ListN.{length, getD}
 use Rattle.script.specs.declared.StatementRow.the-variants.{Assign}
 use Rattle.script.specs.declared.Row.the-variants as Row
 use Rattle.script.specs.declared.Sort.{Sort}
 use Rattle.script.specs.declared.Sort.the-variants.{Expression}
-use Rattle.script.specs.Rows.{field-number, row-no, var-no, row, word}
+use Rattle.script.specs.Rows.{field-number, row-no, var-no, row, rows, variables, word}
 use Rattle.script.specs.Laws.{row-is}
 use Rattle.script.specs.Syntax.{var}
 use Rattle.script.specs.Words.{expr-words}
@@ -22,7 +23,7 @@ use Rattle.theorems.specs.Accepted.{Accepted}
 use Rattle.theorems.specs.Kinds.{assigned}
 use Rattle.theorems.specs.RowTrees.{stmt-is}
 use Rattle.writing.specs.Writing.{Wrote}
-use Rattle.writing.specs.Links.{Linked, links-of}
+use Rattle.writing.specs.Links.{links-of}
 use Rattle.writing.specs.Nodes.{Assignment, OnPath, Ready, base}
 use Rattle.writing.specs.Paths.{replaceᵉ, row-on, under, expr-under}
 
@@ -41,17 +42,39 @@ pub record Found (t path : List ℤ) (v j k : ℕ) : Type 0 where
 
 -- ---- the words that are read
 
-module _ (t path : List ℤ) (i : ℕ) {r : ℕ} {z : ℤ} (row : r ≡ field-number z) (there : z ≡ getD path i (pos 0)) where
-  pub row-inside : (j : ℕ) → Accepted t → OnPath t path j → i < j → 4 * r + 3 < length t
-  row-inside j ok p h =
-      let a = p .assigns i h .inside in
-      let b = ok .fours in
-      let e : r ≡ row-on path i = rw (row, there) in
-      omega linear
+positive : (z : ℤ) (m : ℕ) → field-number z < m → m ≤ 4096 → z ≡ pos (field-number z)
+positive (pos n) m h l = refl
+positive (negsuc n) m h l = absurd (omega linear)
 
-  -- the field f of the row
-  pub field-read : (f : ℕ) {n : ℕ} → n ≡ field-number (word t r f) → n ≡ field-number (word t (row-on path i) f)
-  field-read f h = rw (h, row, there)
+-- z is the word of the row at place i
+pub record Placed (t path : List ℤ) (i : ℕ) (z : ℤ) : Type 0 where
+  pub plain : T (nonNeg z)
+  pub is : natAbs z ≡ row-on path i
+  pub small : natAbs z < 2048
+  pub inside : 4 * natAbs z + 3 < length t
+
+module _ (t path : List ℤ) (i j : ℕ) (ok : Accepted t) (along : OnPath t path j) (before : i < j) where
+  pub placed : {z : ℤ} → z ≡ getD path i (pos 0) → Placed t path i z
+  placed {z} there =
+      let a = along .assigns i before .inside in
+      let b = ok .fours in
+      let c = ok .short in
+      let e = positive (getD path i (pos 0)) (rows t) a (omega linear) in
+      rw (there, e) (record { plain = tt; is = refl; small = omega linear; inside = omega linear })
+
+module _ {t path : List ℤ} {i : ℕ} {z : ℤ} (there : Placed t path i z) where
+  pub value-read : {n : ℕ} → n ≡ field-number (word t (natAbs z) 2) → n ≡ value-on t path i
+  value-read h = rw (there .is) at h
+
+  -- whether the assignment there is to v, by the word of its target
+
+  pub target-hit : (v : ℕ) → getD t (4 * natAbs z + 1) (pos 0) ≡ pos v → v ≡ target-on t path i
+  target-hit v e = ap field-number (sym e) ∙ rw (there .is)
+
+  pub target-miss : (v : ℕ) → v < variables → (getD t (4 * natAbs z + 1) (pos 0) ≡ pos v → ⊥) → v ≡ target-on t path i → ⊥
+  target-miss v small other e =
+      let f : field-number (getD t (4 * natAbs z + 1) (pos 0)) ≡ v = rw (there .is) (sym e) in
+      other (positive (getD t (4 * natAbs z + 1) (pos 0)) variables (omega linear) (omega linear) ∙ ap pos f)
 
 -- ---- going back, one assignment at a time
 

@@ -7,13 +7,12 @@ use mathlib.Core.List.{List, [], _∷_}
 use native.Mathlib.Omega.{arith as linear}
 use lib.IntN.{ℤ, pos}
 use lib.ListN.{length}
-use Rattle.script.specs.declared.Row.{Row}
 use Rattle.script.specs.declared.Sort.{Sort}
 use Rattle.script.specs.declared.Sort.the-variants.{Expression, Formula}
 use Rattle.script.specs.Words.{expr-words}
-use Rattle.script.specs.Rows.{field-number, row-of, row, parts, variables, word}
+use Rattle.script.specs.Rows.{field-number, row-of, variables, word}
 use Rattle.writing.specs.Writing.{Wrote, stopped, then}
-use Rattle.writing.specs.Links.{Linked, Links}
+use Rattle.writing.specs.Links.{Linked}
 use Rattle.writing.specs.Nodes.{Ready, base, variable-small, mark-small, links-at, at-expr, at-formula}
 use Rattle.writing.specs.Paths.{replaceᵉ, under, expr-under, formula-under}
 use Rattle.writing.specs.Latest.{value-on, Found, wrote-itself, value-ready, value-falls, wrote-value}

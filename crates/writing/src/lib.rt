@@ -9,14 +9,14 @@ use script::VariableNumber;
 use script::kinds;
 ghost use mathlib.Core.Path.{_≡_};
 ghost use mathlib.Core.List.{[], _∷_};
-ghost use Prim.Native.Nat.{ℕ, _+_, _*_, _<_};
+ghost use Prim.Native.Nat.{_+_, _*_, _<_};
 ghost use lib.IntN.{pos};
 ghost use lib.ListN.{length};
 ghost use Rattle.script.specs.declared.Sort.the-variants.{Expression, Formula};
 ghost use Rattle.script.specs.Rows.{field-number, word, variables};
+ghost use Rattle.theorems.specs.Accepted.{Accepted};
 ghost use Rattle.writing.specs.Writing.{Wrote};
 ghost use Rattle.writing.specs.Paths.{expr-under, formula-under};
-ghost use Rattle.theorems.specs.Accepted.{Accepted};
 ghost use Rattle.writing.specs.Nodes.{OnPath, Ready};
 ghost use Rattle.writing.specs.Latest.{Found};
 
@@ -79,15 +79,16 @@ pub fn field(table: &[i32], r: usize, f: usize) -> usize
     script::field_number(table[4 * r + f])
 }
 
-// How many of the first j assignments of the path are left, going back to the latest that assigns v; 0 where none does.
+// How many of the first j assignments of the path are left, going back to the latest that assigns v; 0 where none does. A
+// long path is searched for each variable: words are compared as they stand.
 fn latest(table: &[i32], v: VariableNumber, path: &[i32], j: usize) -> usize
-    requires { ⌜ Accepted (now table) × OnPath (now table) (now path) j ⌝ }
+    requires { ⌜ Accepted (now table) × OnPath (now table) (now path) j × (v .0 < variables) ⌝ }
     ensures { λ k. ⌜ Found (now (table .entry)) (now (path .entry)) (v .0) j k ⌝ }
 {
     let mut k = j;
     while 0 < k {
-        let r = script::field_number(path[k - 1]);
-        if v.0 == field(table, r, 1) {
+        let r = path[k - 1] as usize;
+        if table[4 * r + 1] == v.0 as i32 {
             return k;
         }
         k -= 1;
@@ -123,7 +124,7 @@ pub fn write_expression(
                     return push_variable(list, p, v);
                 }
                 let i = k - 1;
-                row = field(table, script::field_number(path[i]), 2);
+                row = field(table, path[i] as usize, 2);
                 seen = i;
             }
             kinds::NEGATE => {

@@ -3,7 +3,7 @@ use borrow.Author.Needs.{needs}
 use mathlib.Core.Path.{refl}
 use native.Mathlib.Omega.{arith}
 use mir.Facts.{toZ-ofZ}
-use Rattle.writing.specs.Writing.{Wrote, fitted, stopped}
+use Rattle.writing.specs.Writing.{fitted, stopped}
 use Rattle.writing.proofs.push.Statement.{statement}
 use Rattle.writing.proofs.push.Tie as tie
 

@@ -11,7 +11,6 @@ use Rattle.writing.proofs.write_expression.Kinds as kinds
 use Rattle.writing.proofs.+write_expression+write_formula.Lts-write_expression as expression-lts
 use Rattle.writing.proofs.write_formula.Reads as formula
 use Rattle.writing.proofs.+write_expression+write_formula.Lts-write_formula as formula-lts
-use Rattle.script.proofs.field_number.Reads as field-number-reads
 use Rattle.writing.proofs.field.Reads as field-reads
 use Rattle.writing.proofs.latest.Reads as latest-reads
 use Rattle.writing.proofs.push_constant.Reads as push-constant-reads
@@ -39,8 +38,6 @@ expression-claims t = (
   latest-reads.Learnt,
   push-variable-reads.Asked,
   push-variable-reads.Learnt,
-  field-number-reads.Asked,
-  field-number-reads.Learnt,
   push-kind-reads.Asked,
   push-kind-reads.Learnt,
   push-mark-reads.Asked,

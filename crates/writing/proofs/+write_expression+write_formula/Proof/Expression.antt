@@ -1,11 +1,15 @@
 -- `writing::write_expression`, arm by arm. Assumes nothing.
 use Prim.Native.Nat.{ℕ, _-_}
 use borrow.Author.Needs.{needs}
-use mathlib.Core.Path.{_≡_, refl}
+use mathlib.Core.Path.{refl}
 use native.Mathlib.Omega.{arith}
+use lib.IntN.{pos}
+use lib.ListN.{getD}
+use mir.Val.{toZ, ofZ}
+use mir.Syntax.{w32}
 use Rattle.script.specs.Laws.{back}
 use Rattle.writing.specs.Writing.{wrote-length}
-use Rattle.writing.specs.Latest.{value-on, row-inside, field-read, value-falls}
+use Rattle.writing.specs.Latest.{Placed, placed, value-read, value-falls}
 use Rattle.writing.specs.Turns.{begun, full, part-falls, part-ready, constant-written, variable-fits, variable-written, value-turn, negated, negate-turn, mark-fits, mark-written, chosen, choose-turn, operator-fits, operands, operator-turn}
 use Rattle.writing.proofs.write_expression.Reads as reads
 use Rattle.writing.proofs.+write_expression+write_formula.Lts-write_expression as lts
@@ -22,6 +26,11 @@ module _ (t : ℕ) where
       constant-written g (read .field .ensures) (arm .match .keys1) (rw (back (value .push-constant-arg2 .given)) at (pushed .push-constant .ensures))
 
   -- ---- a variable, and the value of the latest assignment to it
+
+  latest-requires : lts.Need-latest-requires (expression-claims t) (at reads.Pre t) reads.Post expression-turn expression-left
+  latest-requires c κs =
+      let arm = c .before in let read = arm .before in let g = read .before .before .loop .inv in
+      (g .ready .table, g .ready .along, variable-fits g (read .field .ensures) (arm .match .keys2) (c .field2 .ensures))
 
   push-variable-requires : lts.Need-push-variable-requires (expression-claims t) (at reads.Pre t) reads.Post expression-turn expression-left
   push-variable-requires c κs =
@@ -44,34 +53,29 @@ module _ (t : ℕ) where
       → lts.At-loop (expression-claims t) (at reads.Pre t) reads.Post expression-turn expression-left
   loop c = c .before .before .before .before .before .before
 
-  field-requires-3 : lts.Need-field-requires-3 (expression-claims t) (at reads.Pre t) reads.Post expression-turn expression-left
-  field-requires-3 c κs =
-      let some = c .before .before in
+  row : (c : lts.After-field-arg (expression-claims t) (at reads.Pre t) reads.Post expression-turn expression-left)
+      → let some = c .before in
+      let path = loop some .before .args .path .now in
+      let i = some .before .latest .result - 1 in
+      Placed (loop some .before .args .table .now) path i (toZ w32 (ofZ w32 (getD path i (pos 0))))
+  row c =
+      let some = c .before in
       let g = loop some .loop .inv .ready in
       let within = some .before .latest .ensures .within in
-      let inside = row-inside _ (loop some .before .args .path .now) _ (c .field-number .ensures) (back (c .before .field-number-arg .given)) in
-      (inside _ (g .table) (g .along) (omega arith), omega arith)
-
-  value : (c : lts.After-field3 (expression-claims t) (at reads.Pre t) reads.Post expression-turn expression-left)
-      → let some = c .before .before .before in
-      c .field3 .result ≡ value-on (loop some .before .args .table .now) (loop some .before .args .path .now) (some .before .latest .result - 1)
-  value c =
-      let some = c .before .before .before in
-      field-read (loop some .before .args .table .now) (loop some .before .args .path .now) (some .before .latest .result - 1)
-      (c .before .field-number .ensures) (back (c .before .before .field-number-arg .given)) 2 (c .field3 .ensures)
+      placed _ _ _ _ (g .table) (g .along) (omega arith) (back (c .field-arg .given))
 
   loop-less : lts.Need-loop-less (expression-claims t) (at reads.Pre t) reads.Post expression-turn expression-left
   loop-less c =
-      let some = c .before .before .before in
-      value-falls (loop some .loop .inv .ready) (some .before .latest .ensures) (some .if1 .left) (value c)
+      let some = c .before .before in
+      value-falls (loop some .loop .inv .ready) (some .before .latest .ensures) (some .if1 .left) (value-read (row (c .before)) (c .field3 .ensures))
 
   loop-again : lts.Need-loop-again (expression-claims t) (at reads.Pre t) reads.Post expression-turn expression-left
   loop-again c =
-      let some = c .before .before .before in
+      let some = c .before .before in
       let found = some .before in
       let named = found .before in
       let arm = named .before in let read = arm .before in let g = read .before .before .loop .inv in
-      value-turn g (read .field .ensures) (arm .match .keys2) (named .field2 .ensures) (found .latest .ensures) (some .if1 .left) (value c)
+      value-turn g (read .field .ensures) (arm .match .keys2) (named .field2 .ensures) (found .latest .ensures) (some .if1 .left) (value-read (row (c .before)) (c .field3 .ensures))
 
   -- ---- a negation
 
@@ -180,15 +184,15 @@ module _ (t : ℕ) where
       (λ c. wrote-length (returns c))
       returns
       (λ c κs. search needs)
-      (λ c κs. search needs)
+      latest-requires
       push-variable-requires
       (λ c. wrote-length (returns-2 c))
       returns-2
       (λ c. search needs)
       (λ c. search needs)
       (λ c. search needs)
-      (λ c κs. search needs)
-      field-requires-3
+      (λ c. (row c .plain, omega (arith, row c)))
+      (λ c κs. (row c .inside, omega arith))
       loop-less
       loop-again
       (λ c κs. search needs)
