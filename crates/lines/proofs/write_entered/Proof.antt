@@ -1,5 +1,6 @@
 -- `lines::write_entered` meets its contract: the words of each part, one run after another. Assumes nothing.
 use borrow.Author.Needs.{needs}
+use lib.Dec.{lit≤}
 use native.Mathlib.Omega.{arith}
 use Rattle.weakest.specs.Loops.{guard-linked, invariant-linked, loop-in-table}
 use Rattle.lines.specs.Loops.{node-ready, wrote-entered}
@@ -36,7 +37,7 @@ write-entered-spec =
     tie.close
     (tie.spec
     field-requires
-    (λ c κs. search needs)
+    (λ c κs. lit≤ tt)
     (λ c κs. search needs)
     write-formula-requires
     write-formula-requires-2
