@@ -4,12 +4,13 @@
 
 use crate::faults::fault;
 use crate::names::check_names;
-use crate::stack::{Stack, Storage};
+use crate::stack::Storage;
 use crate::{Row, Verdict, MOST_ROWS};
 
 /// The state of a row: its sort, and whether it is linked.
 type State = u8;
 
+const NOT_SEEN: State = 0;
 const EXPRESSION: State = 1;
 const FORMULA: State = 2;
 const STATEMENT: State = 3;
@@ -44,37 +45,22 @@ pub fn check_rows(rows: &[Row]) -> Result<Accepted, Verdict> {
     let mut states = Storage::<_, MOST_ROWS>::new();
     let mut nesting = Storage::<_, MOST_ROWS>::new();
     let mut checker = Checker {
-        states: states.stack(),
+        states: states.filled(rows.len(), NOT_SEEN),
         nesting: nesting.filled(rows.len(), 0),
         has_names: false,
         has_loops: false,
     };
     for (row, &fields) in rows.iter().enumerate() {
-        match checker.state(fields) {
-            Ok(state) => checker.states.push(state),
+        match checker.state(row, fields) {
+            Ok(state) => checker.states[row] = state,
             Err(Faulty) => return Err(fault(rows, row)),
         }
     }
-    let last = rows.len() - 1;
-    let [kind, _, statement, _] = rows[last];
-    if kind != 48 {
-        return Err(Verdict {
-            number: 7,
-            row: last,
-        });
-    }
-    let states = checker.states.as_slice();
-    let in_all = states[..last].iter().fold(LINKED, |all, state| all & state);
-    if in_all != LINKED {
-        let loose = states.iter().position(|state| state & LINKED == 0);
-        return Err(Verdict {
-            number: 7,
-            row: loose.unwrap_or(last),
-        });
-    }
+    check_links(rows, checker.states)?;
     if checker.has_names {
         check_names(rows)?;
     }
+    let [_, _, statement, _] = rows[rows.len() - 1];
     let nesting = checker.nesting[statement as usize];
     if nesting > 8 {
         return Err(Verdict { number: 10, row: 0 });
@@ -85,21 +71,37 @@ pub fn check_rows(rows: &[Row]) -> Result<Accepted, Verdict> {
     })
 }
 
+/// Number 7.
+#[inline(always)]
+fn check_links(rows: &[Row], states: &[State]) -> Result<(), Verdict> {
+    let last = rows.len() - 1;
+    let number = 7;
+    if rows[last][0] != 48 {
+        return Err(Verdict { number, row: last });
+    }
+    let states = &states[..last];
+    if states.iter().fold(LINKED, |all, state| all & state) == LINKED {
+        return Ok(());
+    }
+    let loose = states.iter().position(|state| state & LINKED == 0);
+    let row = loose.unwrap_or(last);
+    Err(Verdict { number, row })
+}
+
 struct Faulty;
 
 struct Checker<'a> {
-    /// Those of the rows so far.
-    states: Stack<'a, State, MOST_ROWS>,
-    /// How deep each row of the table nests, as far as it is a statement so far.
+    states: &'a mut [State],
+    /// How deep each statement nests.
     nesting: &'a mut [u16],
     has_names: bool,
     has_loops: bool,
 }
 
 impl Checker<'_> {
-    /// The state of the next row; its parts are linked from now on.
+    /// The state of a row; its parts are linked from now on.
     #[inline(always)]
-    fn state(&mut self, [kind, first, second, third]: Row) -> Result<State, Faulty> {
+    fn state(&mut self, row: usize, [kind, first, second, third]: Row) -> Result<State, Faulty> {
         use {EXPRESSION as E, FORMULA as F, STATEMENT as S};
         Ok(match kind {
             1 => {
@@ -120,7 +122,7 @@ impl Checker<'_> {
                 E
             }
             9 => {
-                good(((first as u32 as usize) < self.nesting.len()) & (second | third == 0))?;
+                good(((first as u32 as usize) < self.states.len()) & (second | third == 0))?;
                 self.has_names = true;
                 E
             }
@@ -156,17 +158,17 @@ impl Checker<'_> {
             }
             34 => {
                 self.link([(first, S), (second, S)], third)?;
-                self.nest(self.deeper(first, second));
+                self.nesting[row] = self.deeper(first, second);
                 S
             }
             35 => {
                 self.link([(first, F), (second, S), (third, S)], 0)?;
-                self.nest(self.deeper(second, third) + 1);
+                self.nesting[row] = self.deeper(second, third) + 1;
                 S
             }
             36 => {
                 self.link([(first, F), (second, NOTE), (third, S)], 0)?;
-                self.nest(self.nesting[third as usize] + 1);
+                self.nesting[row] = self.nesting[third as usize] + 1;
                 self.has_loops = true;
                 S
             }
@@ -186,7 +188,8 @@ impl Checker<'_> {
         })
     }
 
-    /// Links rows that must have these sorts and not be linked.
+    /// Links rows that must have these sorts and not be linked; a row that is
+    /// not seen has none.
     #[inline(always)]
     fn link<const N: usize>(
         &mut self,
@@ -205,12 +208,6 @@ impl Checker<'_> {
     #[inline(always)]
     fn deeper(&self, one: i32, other: i32) -> u16 {
         self.nesting[one as usize].max(self.nesting[other as usize])
-    }
-
-    /// Says how deep the next row nests.
-    #[inline(always)]
-    fn nest(&mut self, nesting: u16) {
-        self.nesting[self.states.len()] = nesting;
     }
 }
 
