@@ -7,7 +7,8 @@ use crate::names::check_names;
 use crate::stack::Storage;
 use crate::{Row, Verdict, MOST_ROWS};
 
-/// The state of a row: its sort, and whether it is linked.
+/// The state of a row: its sort, whether it is linked, and how deep it nests (of
+/// statements only, and up to 9 levels).
 type State = u8;
 
 const NOT_SEEN: State = 0;
@@ -17,6 +18,8 @@ const STATEMENT: State = 3;
 const NOTE: State = 4;
 const SCRIPT: State = 5;
 const LINKED: State = 8;
+const LEVEL: State = 16;
+const NESTING: State = 0xF0;
 
 /// What the generator wants to know of an accepted table.
 pub struct Accepted {
@@ -43,15 +46,13 @@ pub fn rows_of(table: &[i32]) -> Result<&[Row], Verdict> {
 #[inline(always)]
 pub fn check_rows(rows: &[Row]) -> Result<Accepted, Verdict> {
     let mut states = Storage::<_, MOST_ROWS>::new();
-    let mut nesting = Storage::<_, MOST_ROWS>::new();
     let mut checker = Checker {
         states: states.filled(rows.len(), NOT_SEEN),
-        nesting: nesting.filled(rows.len(), 0),
         has_names: false,
         has_loops: false,
     };
     for (row, &fields) in rows.iter().enumerate() {
-        match checker.state(row, fields) {
+        match checker.state(fields) {
             Ok(state) => checker.states[row] = state,
             Err(Faulty) => return Err(fault(rows, row)),
         }
@@ -61,7 +62,7 @@ pub fn check_rows(rows: &[Row]) -> Result<Accepted, Verdict> {
         check_names(rows)?;
     }
     let [_, _, statement, _] = rows[rows.len() - 1];
-    let nesting = checker.nesting[statement as usize];
+    let nesting = checker.states[statement as usize] / LEVEL;
     if nesting > 8 {
         return Err(Verdict { number: 10, row: 0 });
     }
@@ -92,8 +93,6 @@ struct Faulty;
 
 struct Checker<'a> {
     states: &'a mut [State],
-    /// How deep each statement nests.
-    nesting: &'a mut [u16],
     has_names: bool,
     has_loops: bool,
 }
@@ -101,7 +100,7 @@ struct Checker<'a> {
 impl Checker<'_> {
     /// The state of a row; its parts are linked from now on.
     #[inline(always)]
-    fn state(&mut self, row: usize, [kind, first, second, third]: Row) -> Result<State, Faulty> {
+    fn state(&mut self, [kind, first, second, third]: Row) -> Result<State, Faulty> {
         use {EXPRESSION as E, FORMULA as F, STATEMENT as S};
         Ok(match kind {
             1 => {
@@ -157,20 +156,17 @@ impl Checker<'_> {
                 S
             }
             34 => {
-                self.link([(first, S), (second, S)], third)?;
-                self.nesting[row] = self.deeper(first, second);
-                S
+                let [before, after] = self.link([(first, S), (second, S)], third)?;
+                S | before.max(after)
             }
             35 => {
-                self.link([(first, F), (second, S), (third, S)], 0)?;
-                self.nesting[row] = self.deeper(second, third) + 1;
-                S
+                let [_, then, other] = self.link([(first, F), (second, S), (third, S)], 0)?;
+                S | deeper(then.max(other))
             }
             36 => {
-                self.link([(first, F), (second, NOTE), (third, S)], 0)?;
-                self.nesting[row] = self.nesting[third as usize] + 1;
+                let [_, _, body] = self.link([(first, F), (second, NOTE), (third, S)], 0)?;
                 self.has_loops = true;
-                S
+                S | deeper(body)
             }
             37 => {
                 self.link([(first, F), (second, E)], third)?;
@@ -188,27 +184,32 @@ impl Checker<'_> {
         })
     }
 
-    /// Links rows that must have these sorts and not be linked; a row that is
-    /// not seen has none.
+    /// Links rows that must have these sorts and not be linked (a row that is not
+    /// seen has none): how deep each nests.
     #[inline(always)]
     fn link<const N: usize>(
         &mut self,
         parts: [(i32, State); N],
         unused: i32,
-    ) -> Result<(), Faulty> {
-        let mut differs = 0;
-        for (link, sort) in parts {
+    ) -> Result<[State; N], Faulty> {
+        let (mut nesting, mut differs) = ([0; N], 0);
+        for (part, (link, sort)) in parts.into_iter().enumerate() {
             let state = self.states.get_mut(link as u32 as usize).ok_or(Faulty)?;
-            differs |= *state ^ sort;
-            *state = sort | LINKED;
+            if sort == STATEMENT {
+                nesting[part] = *state & NESTING;
+            }
+            differs |= *state ^ (sort | nesting[part]);
+            *state = sort | nesting[part] | LINKED;
         }
-        good((differs == 0) & (unused == 0))
+        good((differs == 0) & (unused == 0))?;
+        Ok(nesting)
     }
+}
 
-    #[inline(always)]
-    fn deeper(&self, one: i32, other: i32) -> u16 {
-        self.nesting[one as usize].max(self.nesting[other as usize])
-    }
+/// One level more, of 9 at most.
+#[inline(always)]
+fn deeper(nesting: State) -> State {
+    nesting.min(8 * LEVEL) + LEVEL
 }
 
 #[inline(always)]
