@@ -1,63 +1,233 @@
-//! The stack that the proved library needs: its functions call themselves as
-//! deep as scripts and formulas nest. Too short a stack ends the process.
+//! The stack that the proved library needs. Too short a stack ends the process,
+//! so every entry runs on every input in another process: this test again, with
+//! the stack, the entry and the input named in a variable.
 
-use fuzz::limits::limit_words;
-use fuzz::{seed_from_environment, Prng};
-use leqwarti::Plan;
+mod deep;
 
-/// What a thread of Rust's has by default.
-const TWO_MEBIBYTES: usize = 2 << 20;
+use std::os::unix::process::ExitStatusExt;
+use std::process::{Command, Stdio};
 
-fn on_a_small_stack(work: impl FnOnce() + Send + 'static) {
-    let thread = std::thread::Builder::new().stack_size(TWO_MEBIBYTES);
-    thread
-        .spawn(work)
-        .expect("a thread")
-        .join()
-        .expect("no panic");
-}
+use deep::{cases, tables_by_chance, Case, Input};
+use fuzz::tell;
+use leqwarti::{entries, Plan, Record, LARGEST_SCRATCH, LONGEST_LIST};
 
-/// A list of one condition, main, with this formula.
-fn list_of(formula: Vec<i32>) -> Vec<i32> {
-    let length = formula.len() as i32;
-    [formula, vec![4, 0, length, 1]].concat()
-}
+/// What every entry must run on.
+const STACK: usize = 512 << 10;
 
-/// Formulas of at most 16,380 words that nest as deep as words allow.
-fn deepest_formulas() -> Vec<Vec<i32>> {
-    const WORDS: usize = 16_380;
-    let zeros = |count: usize| [1, 0].repeat(count);
-    let (sums, ands, choices) = ((WORDS - 5) / 3, (WORDS - 1) / 2, (WORDS - 1) / 8);
-    vec![
-        [vec![22; WORDS - 1], vec![16]].concat(),
-        [vec![20], vec![8; WORDS - 5], zeros(2)].concat(),
-        [vec![20], vec![3; sums], zeros(sums + 2)].concat(),
-        [vec![20], [3, 1, 0].repeat(sums), zeros(2)].concat(),
-        [vec![25; ands], vec![16; ands + 1]].concat(),
-        [[25, 16].repeat(ands), vec![16]].concat(),
-        [[20, 10].repeat(choices), vec![16], zeros(3 * choices)].concat(),
-    ]
-}
+/// Names one run: the stack's bytes, the entry, the case.
+const RUN_VARIABLE: &str = "VCGEN_STACK_RUN";
 
-#[test]
-fn the_deepest_lists_are_read() {
-    on_a_small_stack(|| {
-        for formula in deepest_formulas() {
-            let plan = Plan::read(list_of(formula.clone())).expect("a list");
-            let condition = plan.conditions().next().expect("a condition");
-            assert_eq!(condition.formula.words(), formula);
-            assert!(condition.formula.to_string().len() > formula.len());
+/// An entry, called with words, that must answer this number.
+type Entry = (&'static str, fn(&[i32], usize));
+
+const TABLE_ENTRIES: [Entry; 4] = [
+    ("check", |table, number| {
+        // The check knows nothing of rooms.
+        let expected = if number > 10 { 0 } else { number };
+        assert_eq!(entries::check(table).number, expected);
+    }),
+    ("generate", |table, number| {
+        let (mut list, mut scratch) = buffers();
+        let answer = entries::generate(table, &mut list, &mut scratch);
+        assert_eq!(answer.number, number);
+    }),
+    ("generate_records", |table, number| {
+        let record = |&[kind, first, second, third]: &[i32; 4]| Record {
+            kind,
+            first,
+            second,
+            third,
+        };
+        let records: Vec<Record> = table.as_chunks().0.iter().map(record).collect();
+        let (mut list, mut scratch) = buffers();
+        let answer = entries::generate_records(&records, &mut list, &mut scratch);
+        assert_eq!(answer.number, number);
+    }),
+    ("plan", |table, number| match leqwarti::plan(table) {
+        Ok(plan) => {
+            assert_eq!(number, 0);
+            write_out(&plan);
         }
-    });
+        Err(refusal) => assert_eq!(usize::from(refusal.reason.number()), number),
+    }),
+];
+
+const LIST_ENTRIES: [Entry; 4] = [
+    ("line_at", |list, number| {
+        assert_eq!(entries::line_at(list, 0).number, number);
+    }),
+    ("first_place", |list, number| {
+        let place = if number == 0 { list.len() - 1 } else { 1 };
+        assert_eq!(entries::first_place(list), place);
+    }),
+    ("step", |list, number| {
+        let mut place = list.len() - 1;
+        assert_eq!(entries::step(list, &mut place).number, number);
+    }),
+    ("Plan::read", |list, number| {
+        let plan = Plan::read(list.to_vec());
+        assert_eq!(plan.is_ok(), number == 0);
+        if let Ok(plan) = plan {
+            write_out(&plan);
+        }
+    }),
+];
+
+fn buffers() -> (Vec<i32>, Vec<i32>) {
+    (vec![0; LONGEST_LIST], vec![0; LARGEST_SCRATCH])
+}
+
+fn write_out(plan: &Plan) {
+    for condition in plan {
+        assert!(!condition.formula.to_string().is_empty());
+    }
+}
+
+impl Input {
+    fn entries(&self) -> &'static [Entry] {
+        match self {
+            Input::Table { .. } | Input::TablesByChance => &TABLE_ENTRIES,
+            Input::List { .. } => &LIST_ENTRIES,
+        }
+    }
+
+    /// The words to call an entry with, and the number that it must answer.
+    fn calls(self) -> Vec<(Vec<i32>, usize)> {
+        match self {
+            Input::Table { words, number } | Input::List { words, number } => vec![(words, number)],
+            Input::TablesByChance => {
+                let with_number = |words: Vec<i32>| {
+                    let number = number_by_peer(&words);
+                    (words, number)
+                };
+                tables_by_chance().map(with_number).collect()
+            }
+        }
+    }
+}
+
+/// The generator's number, from code that does not nest.
+fn number_by_peer(table: &[i32]) -> usize {
+    let (mut list, mut scratch) = buffers();
+    peer::generate(table, &mut list, &mut scratch).number
 }
 
 #[test]
-fn the_deepest_tables_are_answered() {
-    let seed = seed_from_environment();
-    on_a_small_stack(move || {
-        let tables = (0..400).map(|case| limit_words(&mut Prng::for_case(seed, case)));
-        let planned = tables.filter(|words| leqwarti::plan(words).is_ok()).count();
-        println!("{planned} of 400 planned");
-        assert!((100..400).contains(&planned));
-    });
+fn the_cases_are_what_they_say() {
+    for Case { name, input } in cases() {
+        match input {
+            Input::Table { words, number } => assert_eq!(number_by_peer(&words), number, "{name}"),
+            Input::List { words, number } => {
+                assert_eq!(words.len(), LONGEST_LIST, "{name}");
+                assert_eq!(peer::line_at(&words, 0).number, number, "{name}");
+            }
+            Input::TablesByChance => {}
+        }
+    }
+}
+
+/// Every entry, where one is named in the variable.
+const ALL: &str = "all";
+
+/// Does nothing unless the variable names a run.
+#[test]
+fn one_run() {
+    let Ok(run) = std::env::var(RUN_VARIABLE) else {
+        return;
+    };
+    let mut names = run.splitn(3, ';');
+    let mut name = || names.next().expect("three names");
+    let (stack, entry, case) = (name().parse().expect("a number"), name(), name());
+    let case = cases().into_iter().find(|found| found.name == case);
+    let input = case.expect("a case").input;
+    let entries = input.entries().iter();
+    let entries: Vec<&Entry> = entries
+        .filter(|found| entry == ALL || found.0 == entry)
+        .collect();
+    let calls = input.calls();
+    let work = move || {
+        for (words, number) in &calls {
+            entries.iter().for_each(|(_, call)| call(words, *number));
+        }
+    };
+    let thread = std::thread::Builder::new().stack_size(stack);
+    let thread = thread.spawn(work).expect("a thread");
+    thread.join().expect("no panic");
+}
+
+/// Whether the entry runs on this stack; a wrong answer ends this test.
+fn runs(case: &Case, entry: &str, stack: usize) -> bool {
+    let this = std::env::current_exe().expect("this test's file");
+    let run = Command::new(this)
+        .args(["--exact", "one_run", "--nocapture"])
+        .env(RUN_VARIABLE, format!("{stack};{entry};{}", case.name))
+        .stdout(Stdio::null())
+        .stderr(Stdio::null())
+        .status();
+    let status = run.expect("a run of this test");
+    let was_ended = status.signal().is_some();
+    assert!(
+        status.success() || was_ended,
+        "a wrong answer of {entry}: {}",
+        case.name
+    );
+    status.success()
+}
+
+#[test]
+fn every_entry_runs_on_512_kibibytes() {
+    let mut ended = Vec::new();
+    for case in cases() {
+        if runs(&case, ALL, STACK) {
+            continue;
+        }
+        let entries = case.input.entries().iter().map(|(name, _)| *name);
+        let entries: Vec<&str> = entries.filter(|entry| !runs(&case, entry, STACK)).collect();
+        ended.push(format!("{}: {}", case.name, entries.join(", ")));
+    }
+    assert!(
+        ended.is_empty(),
+        "{} inputs need more stack:\n{}",
+        ended.len(),
+        ended.join("\n")
+    );
+}
+
+/// Prints the stack that each entry needs for each case, in KiB.
+#[test]
+#[ignore = "a measurement"]
+fn smallest_stacks() {
+    for case in cases() {
+        let needs = case.input.entries().iter().map(|(entry, _)| {
+            let smallest = smallest_stack(&case, entry);
+            format!("{entry} {smallest}")
+        });
+        let needs: Vec<String> = needs.collect();
+        tell(format!("| {} | {} |", case.name, needs.join(" | ")));
+    }
+}
+
+/// The fewest KiB that the entry runs on, a multiple of 16.
+fn smallest_stack(case: &Case, entry: &str) -> usize {
+    const UNIT: usize = 16;
+    let runs = |units: usize| runs(case, entry, (units * UNIT) << 10);
+    let mut enough = 1;
+    while !runs(enough) {
+        enough *= 2;
+        assert!(
+            enough < 1 << 16,
+            "{entry} ends on a gibibyte: {}",
+            case.name
+        );
+    }
+    let mut too_few = enough / 2;
+    while enough - too_few > 1 {
+        let middle = (enough + too_few) / 2;
+        if runs(middle) {
+            enough = middle;
+        } else {
+            too_few = middle;
+        }
+    }
+    enough * UNIT
 }

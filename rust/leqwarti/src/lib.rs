@@ -43,9 +43,8 @@
 //!
 //! The check, the generator and the list reader are functions of a static
 //! library whose contracts are proved; this crate adds types, and the text of
-//! formulas and refusals, which are not. The functions call themselves as deep
-//! as scripts and formulas nest; the 2 MiB of stack that a thread of Rust's has
-//! by default are enough for the deepest.
+//! formulas and refusals, which are not. A stack of 512 KiB is enough for the
+//! deepest scripts and lists (a thread of Rust's has 2 MiB by default).
 
 mod condition;
 pub mod entries;

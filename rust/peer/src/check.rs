@@ -4,18 +4,22 @@
 
 use crate::faults::fault;
 use crate::names::check_names;
-use crate::stack::{Stack, Storage};
+use crate::stack::Storage;
 use crate::{Row, Verdict, MOST_ROWS};
 
-/// The state of a row: its sort, and whether it is linked.
+/// The state of a row: its sort, whether it is linked, and how deep it nests (of
+/// statements only, and up to 9 levels).
 type State = u8;
 
+const NOT_SEEN: State = 0;
 const EXPRESSION: State = 1;
 const FORMULA: State = 2;
 const STATEMENT: State = 3;
 const NOTE: State = 4;
 const SCRIPT: State = 5;
 const LINKED: State = 8;
+const LEVEL: State = 16;
+const NESTING: State = 0xF0;
 
 /// What the generator wants to know of an accepted table.
 pub struct Accepted {
@@ -42,40 +46,23 @@ pub fn rows_of(table: &[i32]) -> Result<&[Row], Verdict> {
 #[inline(always)]
 pub fn check_rows(rows: &[Row]) -> Result<Accepted, Verdict> {
     let mut states = Storage::<_, MOST_ROWS>::new();
-    let mut nesting = Storage::<_, MOST_ROWS>::new();
     let mut checker = Checker {
-        states: states.stack(),
-        nesting: nesting.filled(rows.len(), 0),
+        states: states.filled(rows.len(), NOT_SEEN),
         has_names: false,
         has_loops: false,
     };
     for (row, &fields) in rows.iter().enumerate() {
         match checker.state(fields) {
-            Ok(state) => checker.states.push(state),
+            Ok(state) => checker.states[row] = state,
             Err(Faulty) => return Err(fault(rows, row)),
         }
     }
-    let last = rows.len() - 1;
-    let [kind, _, statement, _] = rows[last];
-    if kind != 48 {
-        return Err(Verdict {
-            number: 7,
-            row: last,
-        });
-    }
-    let states = checker.states.as_slice();
-    let in_all = states[..last].iter().fold(LINKED, |all, state| all & state);
-    if in_all != LINKED {
-        let loose = states.iter().position(|state| state & LINKED == 0);
-        return Err(Verdict {
-            number: 7,
-            row: loose.unwrap_or(last),
-        });
-    }
+    check_links(rows, checker.states)?;
     if checker.has_names {
         check_names(rows)?;
     }
-    let nesting = checker.nesting[statement as usize];
+    let [_, _, statement, _] = rows[rows.len() - 1];
+    let nesting = checker.states[statement as usize] / LEVEL;
     if nesting > 8 {
         return Err(Verdict { number: 10, row: 0 });
     }
@@ -85,19 +72,33 @@ pub fn check_rows(rows: &[Row]) -> Result<Accepted, Verdict> {
     })
 }
 
+/// Number 7.
+#[inline(always)]
+fn check_links(rows: &[Row], states: &[State]) -> Result<(), Verdict> {
+    let last = rows.len() - 1;
+    let number = 7;
+    if rows[last][0] != 48 {
+        return Err(Verdict { number, row: last });
+    }
+    let states = &states[..last];
+    if states.iter().fold(LINKED, |all, state| all & state) == LINKED {
+        return Ok(());
+    }
+    let loose = states.iter().position(|state| state & LINKED == 0);
+    let row = loose.unwrap_or(last);
+    Err(Verdict { number, row })
+}
+
 struct Faulty;
 
 struct Checker<'a> {
-    /// Those of the rows so far.
-    states: Stack<'a, State, MOST_ROWS>,
-    /// How deep each row of the table nests, as far as it is a statement so far.
-    nesting: &'a mut [u16],
+    states: &'a mut [State],
     has_names: bool,
     has_loops: bool,
 }
 
 impl Checker<'_> {
-    /// The state of the next row; its parts are linked from now on.
+    /// The state of a row; its parts are linked from now on.
     #[inline(always)]
     fn state(&mut self, [kind, first, second, third]: Row) -> Result<State, Faulty> {
         use {EXPRESSION as E, FORMULA as F, STATEMENT as S};
@@ -120,7 +121,7 @@ impl Checker<'_> {
                 E
             }
             9 => {
-                good(((first as u32 as usize) < self.nesting.len()) & (second | third == 0))?;
+                good(((first as u32 as usize) < self.states.len()) & (second | third == 0))?;
                 self.has_names = true;
                 E
             }
@@ -155,20 +156,17 @@ impl Checker<'_> {
                 S
             }
             34 => {
-                self.link([(first, S), (second, S)], third)?;
-                self.nest(self.deeper(first, second));
-                S
+                let [before, after] = self.link([(first, S), (second, S)], third)?;
+                S | before.max(after)
             }
             35 => {
-                self.link([(first, F), (second, S), (third, S)], 0)?;
-                self.nest(self.deeper(second, third) + 1);
-                S
+                let [_, then, other] = self.link([(first, F), (second, S), (third, S)], 0)?;
+                S | deeper(then.max(other))
             }
             36 => {
-                self.link([(first, F), (second, NOTE), (third, S)], 0)?;
-                self.nest(self.nesting[third as usize] + 1);
+                let [_, _, body] = self.link([(first, F), (second, NOTE), (third, S)], 0)?;
                 self.has_loops = true;
-                S
+                S | deeper(body)
             }
             37 => {
                 self.link([(first, F), (second, E)], third)?;
@@ -186,32 +184,32 @@ impl Checker<'_> {
         })
     }
 
-    /// Links rows that must have these sorts and not be linked.
+    /// Links rows that must have these sorts and not be linked (a row that is not
+    /// seen has none): how deep each nests.
     #[inline(always)]
     fn link<const N: usize>(
         &mut self,
         parts: [(i32, State); N],
         unused: i32,
-    ) -> Result<(), Faulty> {
-        let mut differs = 0;
-        for (link, sort) in parts {
+    ) -> Result<[State; N], Faulty> {
+        let (mut nesting, mut differs) = ([0; N], 0);
+        for (part, (link, sort)) in parts.into_iter().enumerate() {
             let state = self.states.get_mut(link as u32 as usize).ok_or(Faulty)?;
-            differs |= *state ^ sort;
-            *state = sort | LINKED;
+            if sort == STATEMENT {
+                nesting[part] = *state & NESTING;
+            }
+            differs |= *state ^ (sort | nesting[part]);
+            *state = sort | nesting[part] | LINKED;
         }
-        good((differs == 0) & (unused == 0))
+        good((differs == 0) & (unused == 0))?;
+        Ok(nesting)
     }
+}
 
-    #[inline(always)]
-    fn deeper(&self, one: i32, other: i32) -> u16 {
-        self.nesting[one as usize].max(self.nesting[other as usize])
-    }
-
-    /// Says how deep the next row nests.
-    #[inline(always)]
-    fn nest(&mut self, nesting: u16) {
-        self.nesting[self.states.len()] = nesting;
-    }
+/// One level more, of 9 at most.
+#[inline(always)]
+fn deeper(nesting: State) -> State {
+    nesting.min(8 * LEVEL) + LEVEL
 }
 
 #[inline(always)]

@@ -7,8 +7,9 @@
 //! [`check`] reads the table once, and again only where a frozen name or a mark
 //! occurs. [`generate`] writes the list from front to back, keeps no formula,
 //! and copies what stands in the list already. The reader goes over the words
-//! of a line once. Nothing is taken from the heap, and no working memory is
-//! cleared; the module `stack` has the only `unsafe` code.
+//! of a line once. Nothing is taken from the heap, and working memory is cleared
+//! only as far as the table has rows; the module `stack` has the only `unsafe`
+//! code.
 
 mod check;
 mod faults;

@@ -1,4 +1,5 @@
-//! Working memory that is never cleared: what was not written cannot be read.
+//! Working memory that is not cleared before its use: what was not written
+//! cannot be read.
 
 use std::mem::MaybeUninit;
 
@@ -36,11 +37,6 @@ impl<T: Copy, const SIZE: usize> Stack<'_, T, SIZE> {
     #[inline(always)]
     pub fn len(&self) -> usize {
         self.length
-    }
-
-    pub fn as_slice(&self) -> &[T] {
-        // SAFETY: the places below the length are written.
-        unsafe { self.values[..self.length].assume_init_ref() }
     }
 
     #[inline(always)]

@@ -1,0 +1,110 @@
+//! Deep lists of 16,384 words, well-formed and torn.
+
+use super::{Case, Input};
+
+const READ: usize = 0;
+const TORN: usize = 20;
+
+/// The words of a formula that is alone in the longest list.
+const WORDS: usize = 16_380;
+
+pub fn cases() -> Vec<Case> {
+    let case = |name: String, words, number| Case {
+        name,
+        input: Input::List { words, number },
+    };
+    let whole = whole_formulas()
+        .map(|(name, formula)| case(format!("list of {name}"), list_of(&formula), READ));
+    let torn = TORN_WORDS.map(|(name, first, repeated)| {
+        let formula = repeat(first, repeated, WORDS);
+        case(format!("torn list {name}"), list_of(&formula), TORN)
+    });
+    let bare = TORN_WORDS.map(|(name, first, repeated)| {
+        let words = repeat(first, repeated, WORDS + 4);
+        case(format!("words {name}"), words, TORN)
+    });
+    whole.into_iter().chain(torn).chain(bare).collect()
+}
+
+/// A list of one condition, main, with this formula.
+fn list_of(formula: &[i32]) -> Vec<i32> {
+    [formula, &[4, 0, formula.len() as i32, 1]].concat()
+}
+
+fn repeat(first: &[i32], repeated: &[i32], length: usize) -> Vec<i32> {
+    let words = first.iter().chain(repeated.iter().cycle());
+    words.copied().take(length).collect()
+}
+
+/// First words, and those that are repeated after them.
+type TornWords = (&'static str, &'static [i32], &'static [i32]);
+
+const TORN_WORDS: [TornWords; 12] = [
+    ("20 10 20 10", &[], &[20, 10]),
+    ("10 20 10 20", &[], &[10, 20]),
+    ("10 10", &[], &[10]),
+    ("20 10 10", &[20], &[10]),
+    ("22 22", &[], &[22]),
+    ("23 23", &[], &[23]),
+    ("23 16 23 16", &[], &[23, 16]),
+    ("3 3", &[], &[3]),
+    ("20 3 3", &[20], &[3]),
+    ("20 3 1 0 3 1 0", &[20], &[3, 1, 0]),
+    ("20 8 8", &[20], &[8]),
+    ("20 10 16 10 16", &[20], &[10, 16]),
+];
+
+/// Formulas of at most so many words that nest as deep as words allow; padded
+/// with nots in front.
+fn whole_formulas() -> [(&'static str, Vec<i32>); 13] {
+    let zeros = |count: usize| [1, 0].repeat(count);
+    let (sums, twos) = ((WORDS - 5) / 3, (WORDS - 1) / 2);
+    let (by_comparison, of_a_side) = ((WORDS - 5) / 8, (WORDS - 5) / 4);
+    let formulas = [
+        ("nots", [vec![22; WORDS - 1], vec![16]].concat()),
+        ("ands leaning left", left(23, twos)),
+        ("ands leaning right", right(23, twos)),
+        ("ors leaning left", left(24, twos)),
+        ("ors leaning right", right(24, twos)),
+        ("implications leaning left", left(25, twos)),
+        ("implications leaning right", right(25, twos)),
+        ("negates", [vec![20], vec![8; WORDS - 5], zeros(2)].concat()),
+        (
+            "pluses leaning left",
+            [vec![20], vec![3; sums], zeros(sums + 2)].concat(),
+        ),
+        (
+            "pluses leaning right",
+            [vec![20], [3, 1, 0].repeat(sums), zeros(2)].concat(),
+        ),
+        (
+            "chooses by a comparison",
+            [
+                [20, 10].repeat(by_comparison),
+                vec![16],
+                zeros(3 * by_comparison),
+            ]
+            .concat(),
+        ),
+        (
+            "chooses of the first",
+            [vec![20], [10, 16].repeat(of_a_side), zeros(of_a_side + 2)].concat(),
+        ),
+        (
+            "chooses of the second",
+            [vec![20], [10, 16, 1, 0].repeat(of_a_side), zeros(2)].concat(),
+        ),
+    ];
+    formulas.map(|(name, formula)| {
+        let padding = vec![22; WORDS - formula.len()];
+        (name, [padding, formula].concat())
+    })
+}
+
+fn left(kind: i32, count: usize) -> Vec<i32> {
+    [vec![kind; count], vec![16; count + 1]].concat()
+}
+
+fn right(kind: i32, count: usize) -> Vec<i32> {
+    [[kind, 16].repeat(count), vec![16]].concat()
+}
