@@ -10,7 +10,8 @@ ghost use Rattle.script.specs.Refusals.{verdict};
 ghost use Rattle.script.specs.Generated.{outcome};
 ghost use Rattle.editor.specs.Flat.{flat};
 ghost use Rattle.script.specs.Listing.{line-at, first-place, step-back, next-place};
-ghost use Rattle.exports.specs.Told.{Told};
+ghost use Rattle.script.specs.Promise.{Demand-3};
+ghost use Rattle.exports.specs.Told.{Told, answer-of};
 ghost use Rattle.exports.specs.Verdicts.{number-of, row-of};
 
 // The verdict on a table: number and row, both 0 where it is accepted.
@@ -126,6 +127,7 @@ pub extern "C" fn leqwarti_generate(
     ensures words { λ _. ⌜ now (words .exit) ≡ outcome (now (table .entry)) (length (now (list .entry))) (length (now (scratch .entry))) .answer .words ⌝ }
     ensures list { λ _. ⌜ now (list .exit) ≡ outcome (now (table .entry)) (length (now (list .entry))) (length (now (scratch .entry))) .list ⌝ }
     ensures scratch { λ _. ⌜ now (scratch .exit) ≡ outcome (now (table .entry)) (length (now (list .entry))) (length (now (scratch .entry))) .scratch ⌝ }
+    ensures demand { λ _. ⌜ Demand-3 (now (table .entry)) (answer-of (now (number .exit)) (now (row .exit)) (now (conditions .exit)) (now (words .exit))) (now (list .exit)) ⌝ }
 {
     let answer = generate::generate(table, list, scratch);
     tell(answer, number, row, conditions, words)
@@ -148,6 +150,7 @@ pub extern "C" fn leqwarti_generate_records(
     ensures words { λ _. ⌜ now (words .exit) ≡ outcome (flat (now (records .entry))) (length (now (list .entry))) (length (now (scratch .entry))) .answer .words ⌝ }
     ensures list { λ _. ⌜ now (list .exit) ≡ outcome (flat (now (records .entry))) (length (now (list .entry))) (length (now (scratch .entry))) .list ⌝ }
     ensures scratch { λ _. ⌜ now (scratch .exit) ≡ outcome (flat (now (records .entry))) (length (now (list .entry))) (length (now (scratch .entry))) .scratch ⌝ }
+    ensures demand { λ _. ⌜ Demand-3 (flat (now (records .entry))) (answer-of (now (number .exit)) (now (row .exit)) (now (conditions .exit)) (now (words .exit))) (now (list .exit)) ⌝ }
 {
     let answer = editor::generate_records(records, list, scratch);
     tell(answer, number, row, conditions, words)

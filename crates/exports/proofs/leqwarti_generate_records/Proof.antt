@@ -49,7 +49,7 @@ use Rattle.editor.proofs.Record as R
 use Rattle.script.specs.declared.Answer.{Answer}
 use Rattle.script.proofs.Answer as S
 use Rattle.script.proofs.Answer.Laws as S′
-use Rattle.exports.specs.Told.{Told, told-as}
+use Rattle.exports.specs.Told.{Told, told-as, told-demand}
 use Rattle.editor.proofs.generate_records as gen
 use Rattle.editor.proofs.generate_records.Symbol as gen-def
 use Rattle.editor.proofs.generate_records.Symbol.{name as #editor·generate-records}
@@ -167,7 +167,8 @@ module _ {M : Type 1} (𝓤 : URA M) (H : Heap 𝓤) (A : Atoms 𝓤) (W : Given
       suffices ! _ (ends-at 𝓤 H A f.ended stayed (f.clauses 𝓤 H A mem run) W (((κ₀, (κ₁, (κ₂, κs))), (q₀, (q₁, (q₂, qs))), tt, a, at), tt) vunit tt
       (tt, (l, (s, ns))) (tt, (ll, (ls, (tt, (tt, (tt, (tt, tt)))))))) $
       suffices ! _ (said 𝓤 (both 𝓤 (is 𝓤 (told .0)) (both 𝓤 (is 𝓤 (told .1 .0)) (both 𝓤 (is 𝓤 (told .1 .1 .0))
-      (both 𝓤 (is 𝓤 (told .1 .1 .1)) (both 𝓤 (is 𝓤 (e .1 .0)) (is 𝓤 (e .1 .1 .0)))))))) $
+      (both 𝓤 (is 𝓤 (told .1 .1 .1)) (both 𝓤 (is 𝓤 (e .1 .0)) (both 𝓤 (is 𝓤 (e .1 .1 .0))
+      (is 𝓤 (told-demand (flat (now rows)) l t (e .1 .1 .1)))))))))) $
       split ! $ move ! (1 ∷ []) $ split ! $ move ! (1 ∷ []) $ split ! $ move ! (0 ∷ 4 ∷ []) $ join ! $ move ! (2 ∷ 0 ∷ []) $ join ! $
       move ! (2 ∷ 0 ∷ []) $ join ! $ frame ! $
       -- […; the rows; the list's last words; the scratch's; the four last numbers]
