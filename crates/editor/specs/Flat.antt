@@ -1,5 +1,6 @@
 -- The words of a run of row records, four to a row, and the copy of them into a table. Assumes nothing.
 use Prim.Native.Nat.{ℕ, zero, suc, _+_, _*_}
+use mathlib.Core.Path.{_≡_, refl}
 use mathlib.Core.List.{List, [], _∷_}
 use mathlib.Core.Bool.{Bool, cond}
 use lib.Dec.{leb}
@@ -28,3 +29,11 @@ few n = leb n 2048
 
 abbrev pub rows-copied : ℕ → ℕ
 rows-copied n = cond (few n) n 0
+
+-- ---- computed: one record's words in order, and 2,048 records copied, 2,049 not
+
+one-record : flat (record { kind = pos 37; first = pos 8; second = pos 9; third = pos 0 } ∷ []) ≡ pos 37 ∷ pos 8 ∷ pos 9 ∷ pos 0 ∷ []
+one-record = refl
+
+at-the-limit : (rows-copied 2048 ≡ 2048) × (rows-copied 2049 ≡ 0)
+at-the-limit = (refl, refl)
