@@ -1,6 +1,6 @@
 // The generator: it lists the conditions of a script, for every table, list and scratch.
 use script::Answer;
-use table::Verdict;
+use table::Examined;
 ghost use mathlib.Core.Path.{_≡_};
 ghost use Prim.Native.Nat.{ℕ, _+_, _*_, _<_, _≤_};
 ghost use lib.ListN.{length};
@@ -59,12 +59,11 @@ fn write_plan(table: &[i32], list: &mut [i32]) -> Answer
     }
 }
 
-// Answers for an accepted table: 11, 12 or the list.
-fn plan(table: &[i32], list: &mut [i32], scratch: usize) -> Answer
-    requires { ⌜ (verdict (now table) ≡ accepted) × (now list ≡ zeros (length (now list))) ⌝ }
+// Answers for an accepted table of this nesting: 11, 12 or the list.
+fn plan(table: &[i32], depth: usize, list: &mut [i32], scratch: usize) -> Answer
+    requires { ⌜ (verdict (now table) ≡ accepted) × ((depth ≡ nesting (tree (now table) .body)) × (now list ≡ zeros (length (now list)))) ⌝ }
     ensures { λ r. ⌜ (r ≡ outcome-for (tree (now (table .entry))) (length (now (list .entry))) scratch .answer) × (now (list .exit) ≡ outcome-for (tree (now (table .entry))) (length (now (list .entry))) scratch .list) ⌝ }
 {
-    let depth = table::depth(table);
     let n = room(list.len());
     if scratch < (depth + 2) * n {
         return refuse(11, 0);
@@ -81,9 +80,9 @@ pub fn generate(table: &[i32], list: &mut [i32], scratch: &mut [i32]) -> Answer
 {
     clear(list);
     clear(scratch);
-    let verdict = table::check(table);
-    match verdict {
-        Verdict::Accepted => plan(table, list, scratch.len()),
-        Verdict::Refused(number, row) => refuse(number, row.0),
+    let examined = table::examine(table);
+    match examined {
+        Examined::Accepted(depth) => plan(table, depth, list, scratch.len()),
+        Examined::Refused(number, row) => refuse(number, row.0),
     }
 }

@@ -1,7 +1,8 @@
 -- The verdict from the tests in their order: a test decides where those before it accept. What the tests before give to those
 -- after: the size of the table, and the order, sorts and ranges of its rows. Assumes nothing.
-use Prim.Native.Nat.{ℕ, _<_}
-use mathlib.Core.Path.{_≡_, refl, sym, ap, _∙_}
+use Prim.Native.Nat.{ℕ, _≤_, _<_}
+use borrow.Author.Tests.{le-leb, lt-leb}
+use mathlib.Core.Path.{_≡_, refl, sym, _∙_}
 use mathlib.Core.Bool.{Bool, true, false}
 use mathlib.Core.List.{List}
 use native.Mathlib.Omega.{arith as linear}
@@ -10,12 +11,13 @@ use lib.ListN.{length}
 use Rattle.script.specs.Rows.{fields, row, rows}
 use Rattle.script.specs.Refusals.{Verdict, _and-then_, accepted, refused, bad-length, in-range, unused-zero, row-fault, length-test, row-test, script-test, unlinked-test, target-test, reading-test, nesting-test, verdict}
 use Rattle.theorems.specs.Lowest.{lowest-accepts}
-use Rattle.theorems.specs.Accepted.{Sound-row, sound-row, sound-length, pass-false, all-tests, both}
+use Rattle.script.specs.Trees.{tree, nesting}
+use Rattle.theorems.specs.Accepted.{Sound-row, sound-row, sound-length, both}
 use Rattle.script.specs.declared.RowNumber.{RowNumber}
 use Rattle.table.specs.declared.Verdict.{Verdict as Answer}
 use Rattle.table.specs.declared.Verdict.the-variants as Answer
 use Rattle.table.specs.Verdicts.{verdict-of}
-use Rattle.table.specs.Faults.{Sized}
+use Rattle.rows.specs.Faults.{Sized}
 use Rattle.table.specs.Misread.{Sound}
 
 pub sized : (t : List ℤ) {q : Bool} → q ≡ bad-length (length t) → q ≡ false → Sized t
@@ -35,13 +37,10 @@ sound {t} z h =
 -- ---- the tests from one on
 
 abbrev pub from-names : List ℤ → Verdict
-from-names t = reading-test t and-then nesting-test t
-
-abbrev pub from-targets : List ℤ → Verdict
-from-targets t = target-test t and-then from-names t
+from-names t = (target-test t and-then reading-test t) and-then nesting-test t
 
 abbrev pub from-unlinked : List ℤ → Verdict
-from-unlinked t = unlinked-test t and-then from-targets t
+from-unlinked t = unlinked-test t and-then from-names t
 
 abbrev pub from-script : List ℤ → Verdict
 from-script t = script-test t and-then from-unlinked t
@@ -49,26 +48,46 @@ from-script t = script-test t and-then from-unlinked t
 abbrev pub from-rows : List ℤ → Verdict
 from-rows t = row-test t and-then from-script t
 
-pub short-refused : (t : List ℤ) {q : Bool} → q ≡ bad-length (length t) → q ≡ true → refused 1 0 ≡ verdict t
-unfolding verdict length-test
-short-refused t e h = rw (← e, h)
+names-together : (t : List ℤ) → from-names t ≡ target-test t and-then reading-test t and-then nesting-test t
+names-together t = go (target-test t)
+  where
+    go : (v : Verdict) → (v and-then reading-test t) and-then nesting-test t ≡ v and-then reading-test t and-then nesting-test t
+    go accepted = refl
+    go (refused n r) = refl
 
-pub length-passed : (t : List ℤ) {q : Bool} → q ≡ bad-length (length t) → q ≡ false → from-rows t ≡ verdict t
-unfolding verdict length-test
-length-passed t e h = rw (← e, h)
+module _ (t : List ℤ) {q : Bool} (e : q ≡ bad-length (length t)) where
+  pub short-refused : q ≡ true → verdict t ≡ refused 1 0
+  unfolding verdict length-test
+  short-refused h = rw (← e, h)
+
+  pub length-passed : q ≡ false → verdict t ≡ from-rows t
+  unfolding verdict length-test
+  length-passed h = rw (← e, h, names-together t)
 
 -- ---- a test that accepts leaves the verdict to the others, and one that refuses gives it
 
-pub goes-on : (v w : Verdict) {u : Verdict} → v ≡ accepted → v and-then w ≡ u → w ≡ u
-goes-on v w e h = rw e at h
+module _ {x : Answer} (v w : Verdict) {u : Verdict} (e : verdict-of x ≡ v) (k : u ≡ v and-then w) where
+  pub goes-on : x ≡ Answer.Accepted → u ≡ w
+  goes-on h = rw (← e, h) at k
 
-pub decides : {x : Answer} {n : ℕ} {r : RowNumber} (v w : Verdict) {u : Verdict} → verdict-of x ≡ v → x ≡ Answer.Refused n r
-    → v and-then w ≡ u → verdict-of x ≡ u
-decides {r} v w e h k = ap verdict-of h ∙ (rw (← e, h) at k)
+  pub decides : {n : ℕ} {r : RowNumber} → x ≡ Answer.Refused n r → u ≡ refused n (r .0)
+  decides h = rw (← e, h) at k
 
--- what an accepted table gives to the descents
-pub accepted-sound : {t : List ℤ} → verdict t ≡ accepted → Sound t × (script-test t ≡ accepted)
-unfolding length-test
-accepted-sound {t} h =
-    let s = all-tests t h in
-    (sound (sized t refl (pass-false (bad-length (length t)) 1 0 (s .length))) (s .row), s .script)
+-- the verdict of two tests, where the first has the answer x
+module _ {x : Answer} (v w : Verdict) (e : verdict-of x ≡ v) where
+  pub first-refuses : {n : ℕ} {r : RowNumber} → x ≡ Answer.Refused n r → verdict-of x ≡ v and-then w
+  first-refuses {n} {r} h = rw (← e, h)
+
+  pub second-decides : x ≡ Answer.Accepted → w ≡ v and-then w
+  second-decides h = rw (← e, h)
+
+-- ---- 10
+
+module _ (t : List ℤ) {d : ℕ} (e : d ≡ nesting (tree t .body)) (k : verdict t ≡ nesting-test t) where
+  pub nesting-accepted : d ≤ 8 → verdict t ≡ accepted
+  unfolding nesting-test
+  nesting-accepted h = rw (k, ← e, le-leb d 8 h)
+
+  pub nesting-refused : 8 < d → verdict t ≡ refused 10 0
+  unfolding nesting-test
+  nesting-refused h = rw (k, ← e, lt-leb d 8 h)

@@ -1,8 +1,6 @@
 pub mod Verdicts
-pub mod Parts
+pub mod Kinds
 pub mod Seen
-pub mod Ranges
-pub mod Faults
 pub mod Lowest
 pub mod Reads
 pub mod Misread

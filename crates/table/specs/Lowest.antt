@@ -6,26 +6,19 @@ use mathlib.Core.Logic.{_≢_}
 use mathlib.Core.Bool.{Bool, true, false, _||_}
 use mathlib.Core.List.{List, []}
 use native.Mathlib.Omega.{arith as linear}
+use native.Mathlib.Decide.{ℕ-discrete}
 use native.Mathlib.Numerals.{add-one}
 use borrow.Author.Tests.{eq-eqb, ne-eqb}
 use lib.Dec.{eqb, ltb}
-use lib.ListN.{getD}
+use lib.ListN.{length, getD}
 use lib.IntN.{ℤ}
-use Rattle.script.specs.declared.Row.{Row}
-use Rattle.script.specs.declared.Sort.the-variants.{Script}
-use Rattle.script.specs.Rows.{fields, sort-of, rows, row}
-use Rattle.script.specs.Refusals.{bad-length, same-sort, Verdict, accepted, refused, lowest, member, frozen, assigns-frozen, linked, unlinked-fault, target-fault, row-fault, row-test, script-test, unlinked-test, target-test}
+use Rattle.script.specs.Rows.{field-number, fields, rows, row, word}
+use Rattle.script.specs.Refusals.{bad-length, Verdict, accepted, refused, lowest, assigns-frozen, linked, unlinked-fault, target-fault, row-fault, row-test, script-test, unlinked-test, target-test}
 use Rattle.table.specs.declared.Verdict.{Verdict as Answer}
 use Rattle.table.specs.declared.Verdict.the-variants as Answer
-use Rattle.table.specs.declared.Name.{Name}
-use Rattle.table.specs.declared.Name.the-variants as Name
-use Rattle.table.specs.declared.Links.{Links}
-use Rattle.table.specs.declared.Links.the-variants as Links
-use Rattle.table.specs.declared.Fields.{Fields}
-use Rattle.table.specs.Parts.{named, link-list, list-of}
 use Rattle.table.specs.Verdicts.{verdict-of}
-use Rattle.table.specs.Seen.{Shows}
-use Rattle.table.specs.Faults.{Sized, Tested}
+use Rattle.rows.specs.Faults.{Sized, States, Tested, states-none, small-letter, capital-letter}
+use Rattle.table.specs.Kinds.{kind-assigns, kind-named, named, assigns-at, named-at, script-at}
 
 -- ---- a loop over the rows below n, at row i
 
@@ -75,30 +68,30 @@ length-odd n a b = rw (ne-eqb n 0 a, ne-eqb (n % 4) 0 b)
 
 -- ---- 2 to 6
 
-pub record Rows-at (t : List ℤ) (i : ℕ) (s : List Bool) : Type 0 where
+pub record Rows-at (t : List ℤ) (i : ℕ) (s : List ℕ) : Type 0 where
   pub reached : Reached (row-fault t) (rows t) i
-  pub shown : Shows s (linked t i)
+  pub shown : States t i (linked t i) s
 
-pub record Rows-tested (t : List ℤ) (v : Answer) (s : List Bool) : Type 0 where
+pub record Rows-tested (t : List ℤ) (v : Answer) (s : List ℕ) : Type 0 where
   pub is : verdict-of v ≡ row-test t
-  pub shown : verdict-of v ≡ accepted → Shows s (linked t (rows t))
+  pub shown : verdict-of v ≡ accepted → States t (rows t) (linked t (rows t)) s
 
 clash : {X : Type 0} {n r : ℕ} → refused n r ≡ accepted → X
 clash e = absurd (let z : _≡_ {A = ℕ} 0 1 = cc in omega linear)
 
-pub rows-none : {t : List ℤ} {s : List Bool} → Shows s [] → Rows-at t 0 s
+pub rows-none : {t : List ℤ} {s : List ℕ} → length s ≡ 2048 → Rows-at t 0 s
 unfolding linked
-rows-none h = record { reached = reached-none; shown = h }
+rows-none h = record { reached = reached-none; shown = states-none h }
 
-pub rows-more : {t : List ℤ} {i f : ℕ} {s s′ : List Bool} → Rows-at t i s → i < rows t → Tested t i f s′ → f ≡ 0 → Rows-at t (i + 1) s′
+pub rows-more : {t : List ℤ} {i f : ℕ} {s s′ : List ℕ} → Rows-at t i s → i < rows t → Tested t i f s′ → f ≡ 0 → Rows-at t (i + 1) s′
 rows-more {i} a h d e = record { reached = reached-more (a .reached) h (sym (d .is) ∙ e); shown = rw (add-one i) (d .shown e) }
 
-pub rows-refused : {t : List ℤ} {i f : ℕ} {s s′ : List Bool} → Rows-at t i s → i < rows t → Tested t i f s′ → f ≢ 0
+pub rows-refused : {t : List ℤ} {i f : ℕ} {s s′ : List ℕ} → Rows-at t i s → i < rows t → Tested t i f s′ → f ≢ 0
     → Rows-tested t (Answer.Refused f (record { 0 = i })) s′
 unfolding row-test
 rows-refused {i} a h d e = record { is = ap (λ (k : ℕ). refused k i) (d .is) ∙ reached-fault (a .reached) h (λ z. e (d .is ∙ z)); shown = clash }
 
-pub rows-accepted : {t : List ℤ} {i : ℕ} {s : List Bool} → Rows-at t i s → rows t ≤ i → Rows-tested t Answer.Accepted s
+pub rows-accepted : {t : List ℤ} {i : ℕ} {s : List ℕ} → Rows-at t i s → rows t ≤ i → Rows-tested t Answer.Accepted s
 unfolding row-test
 rows-accepted {t} {i} {s} a h =
     let w = a .reached .within in
@@ -107,62 +100,34 @@ rows-accepted {t} {i} {s} a h =
 
 -- ---- 7
 
-module _ (t : List ℤ) {i : ℕ} {s : List Bool} (z : Sized t) (sh : Shows s (linked t (rows t))) (r : Reached (unlinked-fault t) (rows t - 1) i) (h : i < rows t - 1) where
-  marks : member i (linked t (rows t)) ≡ getD s i false
-  marks = let b = z .short in sym (sh .at i (omega linear))
+module _ (t : List ℤ) {i : ℕ} {s : List ℕ} (z : Sized t) (sh : States t (rows t) (linked t (rows t)) s) (r : Reached (unlinked-fault t) (rows t - 1) i) (h : i < rows t - 1) where
+  pub unlinked-more : 97 ≤ getD s i 0 → Reached (unlinked-fault t) (rows t - 1) (i + 1)
+  unlinked-more e = reached-more r h (rw (small-letter sh (omega linear) e))
 
-  pub unlinked-more : getD s i false ≡ true → Reached (unlinked-fault t) (rows t - 1) (i + 1)
-  unlinked-more e = reached-more r h (rw (marks, e))
-
-  pub unlinked-refused : getD s i false ≡ false → refused 7 i ≡ unlinked-test t
+  pub unlinked-refused : getD s i 0 < 97 → refused 7 i ≡ unlinked-test t
   unfolding unlinked-test
   unlinked-refused e =
-      let f : unlinked-fault t i ≡ 7 = rw (marks, e) in
+      let f : unlinked-fault t i ≡ 7 = rw (capital-letter sh (omega linear) e) in
       rw f at (reached-fault r h (λ k. omega (linear, sym f ∙ k)))
 
 pub unlinked-accepted : (t : List ℤ) {i : ℕ} → Reached (unlinked-fault t) (rows t - 1) i → rows t - 1 ≤ i → accepted ≡ unlinked-test t
 unfolding unlinked-test
 unlinked-accepted t r h = reached-all r h
 
-pub script-refused : (t : List ℤ) {w : Row} {q : Bool} → w ≡ row t (rows t - 1) → q ≡ same-sort (sort-of w) Script
-    → q ≡ false → refused 7 (rows t - 1) ≡ script-test t
-unfolding script-test
-script-refused t e k h = rw (← e, ← k, h)
+module _ (t : List ℤ) {n : ℕ} (e : n ≡ field-number (word t (rows t - 1) 0)) where
+  pub script-refused : n ≢ 48 → refused 7 (rows t - 1) ≡ script-test t
+  unfolding script-test
+  script-refused h = rw (script-at t (rows t - 1), ← e, ne-eqb n 48 h)
 
-pub script-accepted : (t : List ℤ) {w : Row} {q : Bool} → w ≡ row t (rows t - 1) → q ≡ same-sort (sort-of w) Script
-    → q ≡ true → accepted ≡ script-test t
-unfolding script-test
-script-accepted t e k h = rw (← e, ← k, h)
+  pub script-accepted : n ≡ 48 → accepted ≡ script-test t
+  unfolding script-test
+  script-accepted h = rw (script-at t (rows t - 1), ← e, eq-eqb n 48 h)
 
--- ---- 8
+-- ---- 8: n is the kind of row i, a its first number
 
-abbrev pub name-frozen : Name → Bool
-name-frozen Name.Nothing = false
-name-frozen Name.Value = false
-name-frozen (Name.Variable v) = false
-name-frozen (Name.Target v) = frozen (v .0)
-name-frozen (Name.Loop m) = false
-
-or-false : (b : Bool) → b || false ≡ b
-or-false true = refl
-or-false false = refl
-
-links-assign : (t : List ℤ) (l : Links) → assigns-frozen t (link-list l) ≡ false
-links-assign t Links.Nothing = refl
-links-assign t (Links.One a) = refl
-links-assign t (Links.Two a b) = refl
-links-assign t (Links.Three a b c) = refl
-
-assigns-is : (t : List ℤ) (x : Name) (l : Links) → assigns-frozen t (named x (link-list l)) ≡ name-frozen x
-assigns-is t Name.Nothing l = links-assign t l
-assigns-is t Name.Value l = links-assign t l
-assigns-is t (Name.Variable v) l = links-assign t l
-assigns-is t (Name.Target v) l = rw (links-assign t l, or-false (frozen (v .0)))
-assigns-is t (Name.Loop m) l = links-assign t l
-
-module _ (t : List ℤ) {i : ℕ} {w : Row} (f : Fields) {q : Bool} (r : Reached (target-fault t) (rows t) i) (h : i < rows t) (e : w ≡ row t i) (l : list-of f ≡ fields w) (k : q ≡ name-frozen (f .name)) where
+module _ (t : List ℤ) {i n a : ℕ} {q : Bool} (r : Reached (target-fault t) (rows t) i) (h : i < rows t) (en : n ≡ field-number (word t i 0)) (ea : a ≡ field-number (word t i 1)) (k : q ≡ kind-assigns n a) where
   assigns : assigns-frozen t (fields (row t i)) ≡ q
-  assigns = rw (← e, ← l, k) (assigns-is t (f .name) (f .links))
+  assigns = rw (k, en, ea) (assigns-at t i)
 
   pub targets-more : q ≡ false → Reached (target-fault t) (rows t) (i + 1)
   targets-more z = reached-more r h (rw (assigns, z))
@@ -171,8 +136,34 @@ module _ (t : List ℤ) {i : ℕ} {w : Row} (f : Fields) {q : Bool} (r : Reached
   unfolding target-test
   targets-refused z =
       let f : target-fault t i ≡ 8 = rw (assigns, z) in
-      rw f at (reached-fault r h (λ n. omega (linear, sym f ∙ n)))
+      rw f at (reached-fault r h (λ m. omega (linear, sym f ∙ m)))
 
 pub targets-accepted : (t : List ℤ) {i : ℕ} → Reached (target-fault t) (rows t) i → rows t ≤ i → accepted ≡ target-test t
 unfolding target-test
 targets-accepted t r h = reached-all r h
+
+-- ---- no marks and no frozen names below row i, where `found` says that none was found
+
+pub record Nameless-at (t : List ℤ) (i : ℕ) (found : Bool) : Type 0 where
+  pub at : found ≡ false → (k : ℕ) → k < i → named (row t k) ≡ false
+
+abbrev pub Nameless : List ℤ → Type 0
+Nameless t = (k : ℕ) → k < rows t → named (row t k) ≡ false
+
+pub nameless-none : {t : List ℤ} → Nameless-at t 0 false
+nameless-none = record { at = λ e k l. absurd (omega linear) }
+
+pub nameless-more : {t : List ℤ} {i n a : ℕ} {found here found′ : Bool} → Nameless-at t i found → n ≡ field-number (word t i 0)
+    → a ≡ field-number (word t i 1) → here ≡ kind-named n a → found′ ≡ (found || here) → Nameless-at t (i + 1) found′
+nameless-more {t} {i} {n} {a} {found} {here} x en ea h e = record { at = λ z k l. go (neither found here (sym e ∙ z)) k l (ℕ-discrete k i) }
+  where
+    neither : (p q : Bool) → p || q ≡ false → (p ≡ false) × (q ≡ false)
+    neither true q d = absurd (let z : _≡_ {A = ℕ} 0 1 = cc in omega linear)
+    neither false q d = (refl, d)
+
+    go : (found ≡ false) × (here ≡ false) → (k : ℕ) → k < i + 1 → Dec (k ≡ i) → named (row t k) ≡ false
+    go f k l (yes d) = rw (d, named-at t i, ← en, ← ea, ← h) (f .1)
+    go f k l (no d) = x .at (f .0) k (omega linear)
+
+pub nameless-all : {t : List ℤ} {i : ℕ} {found : Bool} → i ≤ rows t → rows t ≤ i → Nameless-at t i found → Nameless-at t (rows t) found
+nameless-all {t} {i} h l x = let e : i ≡ rows t = omega linear in rw e at x

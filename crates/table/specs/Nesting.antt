@@ -1,55 +1,34 @@
--- The nesting of a statement, as the descent finds it: `Nested`, with a lemma for each way that a statement is made of others.
--- Argument: at every bound above the row, a node's nesting is made of those of its links. Assumes nothing.
+-- The nesting of each row from those of the rows below it, by the number of its kind: `Nested`, with a lemma for each kind that
+-- has one. Argument: at every bound above the row, a node's nesting is made of those of its links. Assumes nothing.
 use Prim.Native.Nat.{ℕ, zero, suc, _+_, _-_, _≤_, _<_, max}
 use mathlib.Core.Path.{_≡_, refl, sym, ap, _∙_}
+use mathlib.Core.Logic.{_≢_}
 use mathlib.Core.Bool.{true, _&&_}
 use mathlib.Core.List.{List}
+use native.Mathlib.Decide.{ℕ-discrete}
 use native.Mathlib.Omega.{arith as linear}
 use native.Mathlib.Numerals.{add-one}
-use borrow.Author.Tests.{le-leb, lt-leb}
-use lib.Dec.{T}
+use borrow.Author.Tests.{ne-eqb}
+use lib.Dec.{T, eqb→eq}
 use lib.IntN.{ℤ}
 use mir.Val.{Fits}
-use mir.Syntax.{w64}
+use mir.Syntax.{w16, w64}
+use lib.ListN.{length, getD, set, length-set}
+use lib.Seq.{getD-set-same, getD-set-other}
 use Rattle.script.specs.declared.RowNumber.{RowNumber}
-use Rattle.script.specs.declared.StatementRow.{StatementRow}
 use Rattle.script.specs.declared.StatementRow.the-variants.{Skip, Assign, Sequence, If, While, Assert}
 use Rattle.script.specs.declared.Row.{Row}
 use Rattle.script.specs.declared.Row.the-variants as Row
 use Rattle.script.specs.declared.Sort.the-variants.{Formula, Statement, Note, Script}
+use Rattle.script.specs.Laws.{row-is}
 use Rattle.script.specs.Syntax.{Expr, Formula as Test, Stmt}
-use Rattle.script.specs.Rows.{parts, row, rows, sort-of}
-use Rattle.script.specs.Trees.{expr, formula, expr-at, formula-at, loop-node, stmt-node, script-node, stmt, stmt-at, nesting, tree}
-use Rattle.script.specs.Refusals.{accepted, refused, all-below, well-sorted, same-sort, script-test, nesting-test}
+use Rattle.script.specs.Rows.{field-number, parts, row, row-no, row-of, rows, sort-of, word}
+use Rattle.script.specs.Trees.{expr, formula, loop-node, stmt-node, stmt, stmt-at, nesting, tree}
+use Rattle.script.specs.Refusals.{accepted, all-below, well-sorted, same-sort, script-test}
 use Rattle.theorems.specs.Accepted.{both, pass-true}
 use Rattle.theorems.specs.RowTrees.{lower₂, lower₃}
-use Rattle.table.specs.declared.Inner.{Inner}
-use Rattle.table.specs.declared.Inner.the-variants as Inner
+use Rattle.table.specs.Kinds.{kind-nesting, row-nesting, nesting-at, script-at}
 use Rattle.table.specs.Misread.{Sound}
-
-abbrev pub statement-inner : StatementRow → Inner
-statement-inner Skip = Inner.Nothing
-statement-inner (Assign v e) = Inner.Nothing
-statement-inner (Sequence a b) = Inner.Sequence a b
-statement-inner (If b x y) = Inner.If x y
-statement-inner (While b i x) = Inner.While x
-statement-inner (Assert f) = Inner.Nothing
-
-abbrev pub inner-of : Row → Inner
-inner-of (Row.Expression x) = Inner.Nothing
-inner-of (Row.Formula x) = Inner.Nothing
-inner-of (Row.Statement x) = statement-inner x
-inner-of (Row.Note i v) = Inner.Nothing
-inner-of (Row.Script p s q) = Inner.Nothing
-inner-of Row.Unknown = Inner.Nothing
-
--- ---- a node's nesting, from the nestings D of its links
-
-abbrev inner-node : (ℕ → ℕ) → Inner → ℕ
-inner-node D Inner.Nothing = 0
-inner-node D (Inner.Sequence a b) = max (D (a .0)) (D (b .0))
-inner-node D (Inner.If x y) = suc (max (D (x .0)) (D (y .0)))
-inner-node D (Inner.While x) = suc (D (x .0))
 
 loop-nesting : (E : ℕ → Expr) (F : ℕ → Test) (r : ℕ) (b : Test) (w : Row) (x : Stmt) → T (same-sort (sort-of w) Note)
     → nesting (loop-node E F r b w x) ≡ suc (nesting x)
@@ -63,7 +42,7 @@ loop-nesting E F r b Row.Unknown x h = absurd h
 
 module _ (t : List ℤ) (E : ℕ → Expr) (F : ℕ → Test) (S : ℕ → Stmt) (r : ℕ) where
   node-nesting : (w : Row) → T (well-sorted t (parts w))
-      → nesting (stmt-node E F S (row t) r w) ≡ inner-node (λ k. nesting (S k)) (inner-of w)
+      → nesting (stmt-node E F S (row t) r w) ≡ row-nesting (λ k. nesting (S k)) w
   unfolding nesting
   node-nesting (Row.Expression x) h = refl
   node-nesting (Row.Formula x) h = refl
@@ -82,119 +61,164 @@ module _ (t : List ℤ) (E : ℕ → Expr) (F : ℕ → Test) (S : ℕ → Stmt)
   node-nesting (Row.Script p s q) h = refl
   node-nesting Row.Unknown h = refl
 
--- ---- the links are lower
-
-abbrev pub Lower : ℕ → Inner → Type 0
-Lower r Inner.Nothing = Unit {0}
-Lower r (Inner.Sequence a b) = (a .0 < r) × (b .0 < r)
-Lower r (Inner.If x y) = (x .0 < r) × (y .0 < r)
-Lower r (Inner.While x) = x .0 < r
-
-inner-lower : (ws : List ℤ) (r : ℕ) (w : Row) → T (all-below ws r (parts w)) → Lower r (inner-of w)
-inner-lower ws r (Row.Expression x) l = tt
-inner-lower ws r (Row.Formula x) l = tt
-inner-lower ws r (Row.Statement Skip) l = tt
-inner-lower ws r (Row.Statement (Assign v e)) l = tt
-inner-lower ws r (Row.Statement (Sequence a b)) l = lower₂ (a .0) (b .0) r l
-inner-lower ws r (Row.Statement (If b x y)) l = lower₃ (b .0) (x .0) (y .0) r l .1
-inner-lower ws r (Row.Statement (While b i x)) l = lower₃ (b .0) (i .0) (x .0) r l .1 .1
-inner-lower ws r (Row.Statement (Assert f)) l = tt
-inner-lower ws r (Row.Note i v) l = tt
-inner-lower ws r (Row.Script p s q) l = tt
-inner-lower ws r Row.Unknown l = tt
-
--- ---- the descent at row r
+-- ---- the nesting of row r, and of each row below r in an array
 
 pub record Nested (t : List ℤ) (r d : ℕ) : Type 0 where
   pub at : (n : ℕ) → r < n → d ≡ nesting (stmt t n r)
   pub small : d ≤ r
 
-pub way : (t : List ℤ) (r : ℕ) {w : Row} {x y : Inner} → w ≡ row t r → x ≡ inner-of w → x ≡ y → inner-of (row t r) ≡ y
-way t r e k h = rw (← e) (sym k ∙ h)
+pub record Nestings (t : List ℤ) (r : ℕ) (s : List ℕ) : Type 0 where
+  pub long : length s ≡ 2048
+  pub at : (k : ℕ) → k < r → Nested t k (getD s k 0)
 
-pub way-lower : {t : List ℤ} (r : ℕ) {y : Inner} → Sound t → r < rows t → inner-of (row t r) ≡ y → Lower r y
-way-lower {t} r s h e = rw e at (inner-lower t r (row t r) (s .ordered r h))
+pub nestings-none : {t : List ℤ} {s : List ℕ} → length s ≡ 2048 → Nestings t 0 s
+nestings-none h = record { long = h; at = λ k l. absurd (omega linear) }
 
-module _ {t : List ℤ} {r : ℕ} (s : Sound t) (g : r < rows t) where
-  by-node : {d : ℕ} → d ≤ r → ((n : ℕ) → r ≤ n → d ≡ inner-node (λ k. nesting (stmt t n k)) (inner-of (row t r))) → Nested t r d
+pub nestings-more : {t : List ℤ} {r d : ℕ} {s : List ℕ} → r < 2048 → Nestings t r s → Nested t r d → Nestings t (r + 1) (set s r d)
+nestings-more {t} {r} {d} {s} b ns e = record { long = length-set s r d ∙ ns .long; at = λ k l. go k l (ℕ-discrete k r) }
+  where
+    go : (k : ℕ) → k < r + 1 → Dec (k ≡ r) → Nested t k (getD (set s r d) k 0)
+    go k l (yes z) = rw (z, getD-set-same s r d 0 (omega (linear, ns .long))) e
+    go k l (no z) = rw (getD-set-other s r k d 0 z) (ns .at k (omega linear))
+
+-- ---- row r by its kind n and the numbers a, b and c in its fields
+
+pub record Of (t : List ℤ) (r : ℕ) (ds : List ℕ) (n a b c : ℕ) : Type 0 where
+  pub sound : Sound t
+  pub inside : r < rows t
+  pub nested : Nestings t r ds
+  pub kind : n ≡ field-number (word t r 0)
+  pub first : a ≡ field-number (word t r 1)
+  pub second : b ≡ field-number (word t r 2)
+  pub third : c ≡ field-number (word t r 3)
+
+module _ {t : List ℤ} {r : ℕ} {ds : List ℕ} {n a b c : ℕ} (f : Of t r ds n a b c) where
+  lower : T (all-below t r (parts (row-of n (word t r 1) (word t r 2) (word t r 3))))
+  lower = rw (f .kind, row-is t r) (f .sound .ordered r (f .inside))
+
+  sequence-lower : n ≡ 34 → (a < r) × (b < r)
+  unfolding row-of
+  sequence-lower e = rw (f .first, f .second) (lower₂ (field-number (word t r 1)) (field-number (word t r 2)) r (rw e at lower))
+
+  if-lower : n ≡ 35 → (b < r) × (c < r)
+  unfolding row-of
+  if-lower e =
+      rw (f .second, f .third)
+      (lower₃ (field-number (word t r 1)) (field-number (word t r 2)) (field-number (word t r 3)) r (rw e at lower) .1)
+
+  while-lower : n ≡ 36 → c < r
+  unfolding row-of
+  while-lower e =
+      rw (f .third) (lower₃ (field-number (word t r 1)) (field-number (word t r 2)) (field-number (word t r 3)) r (rw e at lower) .1 .1)
+
+  in-array : {k : ℕ} → k < r → k < 2048
+  in-array h = let i = f .inside in let j = f .sound .size .short in omega linear
+
+  pub sequence-in : n ≡ 34 → (a < 2048) × (b < 2048)
+  sequence-in e = (in-array (sequence-lower e .0), in-array (sequence-lower e .1))
+
+  pub if-in : n ≡ 35 → (b < 2048) × (c < 2048)
+  if-in e = (in-array (if-lower e .0), in-array (if-lower e .1))
+
+  pub while-in : n ≡ 36 → c < 2048
+  while-in e = in-array (while-lower e)
+
+  by-node : {d : ℕ} → d ≤ r → ((m : ℕ) → r ≤ m → d ≡ kind-nesting (λ k. nesting (stmt t m k)) n a b c) → Nested t r d
   unfolding stmt
-  by-node b h = record { at = go h; small = b }
+  by-node low h = record { at = go h; small = low }
     where
-      go : {d : ℕ} → ((n : ℕ) → r ≤ n → d ≡ inner-node (λ k. nesting (stmt t n k)) (inner-of (row t r))) → (n : ℕ) → r < n
-          → d ≡ nesting (stmt t n r)
+      go : {d : ℕ} → ((m : ℕ) → r ≤ m → d ≡ kind-nesting (λ k. nesting (stmt t m k)) n a b c) → (m : ℕ) → r < m → d ≡ nesting (stmt t m r)
       go h zero l = absurd (omega linear)
-      go h (suc n) l = rw (node-nesting t (expr t n) (formula t n) (stmt t n) r (row t r) (s .sorted r g)) (h n (omega linear))
+      go h (suc m) l =
+          rw (
+            node-nesting t (expr t m) (formula t m) (stmt t m) r (row t r) (f .sound .sorted r (f .inside)),
+            nesting-at t (λ k. nesting (stmt t m k)) r,
+            ← f .kind,
+            ← f .first,
+            ← f .second,
+            ← f .third,
+          )
+          (h m (omega linear))
 
-  pub nothing-nested : inner-of (row t r) ≡ Inner.Nothing → Nested t r 0
-  nothing-nested e = by-node (omega linear) (λ n l. rw e)
+  -- the nesting x of a lower row k
+  of-lower : {k x : ℕ} → k < r → x ≡ getD ds k 0 → Nested t k x
+  of-lower {k} h e = rw e (f .nested .at k h)
 
-  pub sequence-nested : {d x y : ℕ} (a b : RowNumber) → inner-of (row t r) ≡ Inner.Sequence a b → (a .0 < r) × (b .0 < r)
-      → Nested t (a .0) x → Nested t (b .0) y → d ≡ max x y → Nested t r d
-  sequence-nested a b e h u v m =
+  pub nothing-nested : n ≢ 34 → n ≢ 35 → n ≢ 36 → Nested t r 0
+  nothing-nested x y z = by-node (omega linear) (λ m l. rw (ne-eqb n 34 x, ne-eqb n 35 y, ne-eqb n 36 z))
+
+  module _ {d x y : ℕ} where
+    pub sequence-nested : n ≡ 34 → x ≡ getD ds a 0 → y ≡ getD ds b 0 → d ≡ max x y → Nested t r d
+    sequence-nested e ex ey m =
+        let h = sequence-lower e in
+        let u = of-lower (h .0) ex in
+        let v = of-lower (h .1) ey in
+        let i = u .small in
+        let j = v .small in
+        by-node (omega linear) (λ k l. rw (e, ← u .at k (omega linear), ← v .at k (omega linear)) m)
+
+    if-less : n ≡ 35 → x ≡ getD ds b 0 → y ≡ getD ds c 0 → d ≡ max x y → d < r
+    if-less e ex ey m =
+        let h = if-lower e in
+        let i = of-lower (h .0) ex .small in
+        let j = of-lower (h .1) ey .small in
+        omega linear
+
+    pub if-nested : n ≡ 35 → x ≡ getD ds b 0 → y ≡ getD ds c 0 → d ≡ max x y → Nested t r (d + 1)
+    if-nested e ex ey m =
+        let h = if-lower e in
+        let u = of-lower (h .0) ex in
+        let v = of-lower (h .1) ey in
+        let i = if-less e ex ey m in
+        by-node (omega linear) (λ k l. rw (e, ← u .at k (omega linear), ← v .at k (omega linear), add-one d) (ap suc m))
+
+    pub if-fits : n ≡ 35 → x ≡ getD ds b 0 → y ≡ getD ds c 0 → d ≡ max x y → Fits w16 (d + 1)
+    if-fits e ex ey m = let i = in-array (if-less e ex ey m) in record { fits = omega linear }
+
+  pub while-nested : {x : ℕ} → n ≡ 36 → x ≡ getD ds c 0 → Nested t r (x + 1)
+  while-nested {x} e ex =
+      let h = while-lower e in
+      let u = of-lower h ex in
       let i = u .small in
-      let j = v .small in
-      by-node (omega linear) (λ n l. rw (e, ← u .at n (omega linear), ← v .at n (omega linear)) m)
+      by-node (omega linear) (λ k l. rw (e, ← u .at k (omega linear), add-one x))
 
-  pub if-nested : {d x y : ℕ} (a b : RowNumber) → inner-of (row t r) ≡ Inner.If a b → (a .0 < r) × (b .0 < r)
-      → Nested t (a .0) x → Nested t (b .0) y → d ≡ max x y → Nested t r (d + 1)
-  if-nested {d} a b e h u v m =
-      let i = u .small in
-      let j = v .small in
-      by-node (omega linear) (λ n l. rw (e, ← u .at n (omega linear), ← v .at n (omega linear), add-one d) (ap suc m))
+  pub while-fits : {x : ℕ} → n ≡ 36 → x ≡ getD ds c 0 → Fits w16 (x + 1)
+  while-fits e ex =
+      let h = while-lower e in
+      let i = of-lower h ex .small in
+      let j = in-array h in
+      record { fits = omega linear }
 
-  pub while-nested : {x : ℕ} (a : RowNumber) → inner-of (row t r) ≡ Inner.While a → a .0 < r → Nested t (a .0) x → Nested t r (x + 1)
-  while-nested {x} a e h u =
-      let i = u .small in
-      by-node (omega linear) (λ n l. rw (e, ← u .at n (omega linear), add-one x))
+-- ---- the script's statement, in row b
 
-pub nesting-fits : {t : List ℤ} {r d : ℕ} → Sound t → r < rows t → Nested t r d → Fits w64 d
-nesting-fits s g n =
-    let a = s .size .short in
-    let b = n .small in
-    record { fits = omega linear }
+module _ {t : List ℤ} {b : ℕ} (z : Sound t) (ok : script-test t ≡ accepted) (eb : b ≡ field-number (word t (rows t - 1) 2)) where
+  script-row : row t (rows t - 1) ≡ Row.Script (row-no (word t (rows t - 1) 1)) (row-no (word t (rows t - 1) 2)) (row-no (word t (rows t - 1) 3))
+  unfolding script-test row-of
+  script-row =
+      let h = pass-true (same-sort (sort-of (row t (rows t - 1))) Script) 7 (rows t - 1) ok in
+      let e : field-number (word t (rows t - 1) 0) ≡ 48 = eqb→eq (field-number (word t (rows t - 1) 0)) 48 (rw (script-at t (rows t - 1)) at h) in
+      rw e at (sym (row-is t (rows t - 1)))
 
--- ---- the script's statement
-
-abbrev pub body-of : Row → RowNumber → RowNumber
-body-of (Row.Expression x) r = r
-body-of (Row.Formula x) r = r
-body-of (Row.Statement x) r = r
-body-of (Row.Note i v) r = r
-body-of (Row.Script p s q) r = s
-body-of Row.Unknown r = r
-
-record Body (t : List ℤ) (w : Row) (s : RowNumber) : Type 0 where
-  pub lower : s .0 < rows t - 1
-  pub is : script-node (expr-at t) (formula-at t) (stmt-at t) (rows t - 1) w .body ≡ stmt-at t (s .0)
-
-body-is : (t : List ℤ) (w : Row) (r : RowNumber) → T (same-sort (sort-of w) Script) → T (all-below t (rows t - 1) (parts w))
-    → Body t w (body-of w r)
-body-is t (Row.Script p s q) r h l = record { lower = lower₃ (p .0) (s .0) (q .0) (rows t - 1) l .1 .0; is = refl }
-body-is t (Row.Expression x) r h l = absurd h
-body-is t (Row.Formula x) r h l = absurd h
-body-is t (Row.Statement x) r h l = absurd h
-body-is t (Row.Note i v) r h l = absurd h
-body-is t Row.Unknown r h l = absurd h
-
-module _ {t : List ℤ} {s : RowNumber} (r : RowNumber) {w : Row} (z : Sound t) (ok : script-test t ≡ accepted) (e : w ≡ row t (rows t - 1)) (k : s ≡ body-of w r) where
-  body : Body t (row t (rows t - 1)) s
-  unfolding script-test
-  body =
+  pub body-lower : b < rows t - 1
+  body-lower =
       let a = z .size .filled in
-      let b = body-is t (row t (rows t - 1)) r (pass-true (same-sort (sort-of (row t (rows t - 1))) Script) 7 (rows t - 1) ok) (z .ordered (rows t - 1) (omega linear)) in
-      rw (k, e) b
+      let l = rw script-row at (z .ordered (rows t - 1) (omega linear)) in
+      rw eb
+      (lower₃ (field-number (word t (rows t - 1) 1)) (field-number (word t (rows t - 1) 2)) (field-number (word t (rows t - 1) 3)) (rows t - 1) l .1 .0)
 
-  pub body-inside : Sound t × (s .0 < rows t)
-  body-inside = let l = body .lower in (z, omega linear)
-
-  pub script-nesting : {d : ℕ} → Nested t (s .0) d → d ≡ nesting (tree t .body)
+  -- ds is the array once all rows below i are in it
+  pub script-nesting-of : {d i : ℕ} {ds : List ℕ} → Nestings t i ds → rows t ≤ i → d ≡ getD ds b 0 → d ≡ nesting (tree t .body)
   unfolding tree stmt-at
-  script-nesting d = rw (body .is) (d .at (rows t) (body-inside .1))
+  script-nesting-of ns h e =
+      let l = body-lower in
+      rw (script-row, ← eb) (e ∙ ns .at b (omega linear) .at (rows t) (omega linear))
 
-pub nesting-accepted : (t : List ℤ) {d : ℕ} → d ≡ nesting (tree t .body) → d ≤ 8 → accepted ≡ nesting-test t
-unfolding nesting-test
-nesting-accepted t {d} e h = rw (sym e, le-leb d 8 h)
+  pub body-in : b < 2048
+  body-in = let l = body-lower in let a = z .size .short in omega linear
 
-pub nesting-refused : (t : List ℤ) {d : ℕ} → d ≡ nesting (tree t .body) → 8 < d → refused 10 0 ≡ nesting-test t
-unfolding nesting-test
-nesting-refused t {d} e h = rw (sym e, lt-leb d 8 h)
+  pub body-fits : {d i : ℕ} {ds : List ℕ} → Nestings t i ds → rows t ≤ i → d ≡ getD ds b 0 → Fits w64 d
+  body-fits ns h e =
+      let l = body-lower in
+      let j = body-in in
+      let k = ns .at b (omega linear) .small in
+      record { fits = omega linear }

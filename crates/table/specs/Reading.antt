@@ -3,20 +3,25 @@
 use Prim.Native.Nat.{ℕ, zero, suc, _-_, _≤_, _<_, min}
 use mathlib.Core.Path.{_≡_, refl, sym, _∙_}
 use mathlib.Core.Logic.{_⊎_, inl, inr, ⊎-elim}
-use mathlib.Core.Bool.{Bool, true, false, cond, _||_}
+use mathlib.Core.Bool.{Bool, true, false, cond, _||_, false≢true}
 use mathlib.Core.List.{List, [], _∷_}
 use native.Mathlib.Omega.{arith as linear}
-use native.Mathlib.Decide.{decLt}
+use native.Mathlib.Decide.{decLt, ℕ-discrete}
 use native.Mathlib.Numerals.{add-one}
-use borrow.Author.Tests.{eq-eqb, eqb-true}
-use lib.Dec.{eqb}
+use borrow.Author.Tests.{eq-eqb, eqb-true, le-leb, ne-eqb}
+use lib.Dec.{eqb, leb}
 use lib.IntN.{ℤ}
 use lib.ListN.{replicate}
-use Rattle.script.specs.Rows.{rows}
-use Rattle.script.specs.Refusals.{accepted, refused, member, misreads, reading-fault, reading-test}
+use Rattle.script.specs.Rows.{field-number, rows, word}
+use Rattle.script.specs.declared.Row.{Row}
+use Rattle.script.specs.Refusals.{_and-then_, accepted, refused, member, misreads, reading-fault, reading-test, row-test, target-fault, target-test}
+use Rattle.theorems.specs.Lowest.{lowest-accepts}
+use Rattle.theorems.specs.Misplaced.{misread-iff}
+use Rattle.theorems.specs.Standing.{Wrong, frozen-in-code, mark-in-code, mark-outside}
 use Rattle.table.specs.Seen.{shows-none}
-use Rattle.table.specs.Faults.{Sized}
-use Rattle.table.specs.Lowest.{Reached, reached-none, reached-more, reached-fault, reached-all}
+use Rattle.rows.specs.Faults.{Sized}
+use Rattle.table.specs.Kinds.{kind-assigns, kind-named, named, assigns-at, named-at}
+use Rattle.table.specs.Lowest.{Nameless, Reached, reached-none, reached-more, reached-fault, reached-all}
 use Rattle.table.specs.Misread.{Misread, least}
 
 least-low : (xs : List ℕ) (low : ℕ) → least xs low ≤ low
@@ -81,3 +86,36 @@ module _ {t : List ℤ} {m : ℕ} {s : List Bool} (z : Sized t) (d : Misread t (
   pub reading-accepted : rows t ≤ m → accepted ≡ reading-test t
   unfolding reading-test
   reading-accepted h = reached-all (none-below (rows t) h (omega linear)) (omega linear)
+
+-- ---- without marks and frozen names 8 and 9 pass
+
+wrong-named : {code : Bool} {inside : List ℕ} {w : Row} → Wrong code inside w → named w ≡ true
+wrong-named (frozen-in-code {v} c l h) = le-leb 128 (v .0) l
+wrong-named (mark-in-code c) = refl
+wrong-named (mark-outside n) = refl
+
+unassigned : (n a : ℕ) → kind-named n a ≡ false → kind-assigns n a ≡ false
+unassigned n a h = go (ℕ-discrete n 33)
+  where
+    go : Dec (n ≡ 33) → kind-assigns n a ≡ false
+    go (yes e) = let f : leb 128 a ≡ false = rw e at h in rw (e, f)
+    go (no d) = rw (ne-eqb n 33 d)
+
+module _ (t : List ℤ) (ok : row-test t ≡ accepted) (none : Nameless t) where
+  no-target : target-test t ≡ accepted
+  unfolding target-test
+  no-target = lowest-accepts (target-fault t) (rows t) 0 .1 (λ k l b.
+      rw (assigns-at t k, unassigned (field-number (word t k 0)) (field-number (word t k 1)) (sym (named-at t k) ∙ none k (omega linear))))
+
+  no-misread : reading-test t ≡ accepted
+  unfolding reading-test
+  no-misread = lowest-accepts (reading-fault t) (rows t) 0 .1 (λ k l b. go k (omega linear) (member k (misreads t)) refl)
+    where
+      go : (k : ℕ) → k < rows t → (b : Bool) → member k (misreads t) ≡ b → _≡_ {A = ℕ} (cond b 9 0) 0
+      go k l true e =
+          let (code, inside, stands, wrong) = misread-iff t ok k l .0 e in
+          absurd (false≢true (sym (none k l) ∙ wrong-named wrong))
+      go k l false e = refl
+
+  pub nameless-accepted : accepted ≡ target-test t and-then reading-test t
+  nameless-accepted = rw (no-target, no-misread)

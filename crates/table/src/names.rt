@@ -2,7 +2,6 @@
 
 use crate::Reads;
 use crate::Verdict;
-use crate::rows;
 use crate::tests;
 use script::ExpressionRow;
 use script::FormulaRow;
@@ -15,7 +14,7 @@ ghost use lib.ListN.{getD};
 ghost use mathlib.Core.List.{[], _∷_};
 ghost use Prim.Native.Nat.{ℕ, _<_};
 ghost use Rattle.script.specs.Rows.{rows};
-ghost use Rattle.script.specs.Refusals.{reading-test};
+ghost use Rattle.script.specs.Refusals.{_and-then_, reading-test, row-test, accepted, target-test};
 ghost use Rattle.table.specs.Verdicts.{verdict-of};
 ghost use Rattle.table.specs.Reads.{expression-reads, formula-reads, reads-of, statement-reads};
 ghost use Rattle.table.specs.Misread.{Misread, Sound, least};
@@ -108,7 +107,7 @@ fn lowest_misread(
     let next = reads(code, script::row_at(table, r.0));
     match next {
         Reads::Nothing => low,
-        Reads::Variable(v) => lower(r, rows::both(code, tests::is_frozen(v)), low),
+        Reads::Variable(v) => lower(r, tests::both(code, tests::is_frozen(v.0)), low),
         Reads::Mark(m) => lower(r, mark_misplaced(code, around, m), low),
         Reads::One(c, a) => lowest_misread(table, a, c, around, low),
         Reads::Two(c, a, b) => {
@@ -134,7 +133,7 @@ fn lowest_misread(
 }
 
 // 9: each frozen name and each mark stands where it may.
-pub fn check_names(table: &[i32]) -> Verdict
+fn check_reading(table: &[i32]) -> Verdict
     requires { ⌜ Sound (now table) ⌝ }
     ensures { λ v. ⌜ verdict-of v ≡ reading-test (now (table .entry)) ⌝ }
 {
@@ -145,5 +144,20 @@ pub fn check_names(table: &[i32]) -> Verdict
         Verdict::Refused(9, RowNumber(m))
     } else {
         Verdict::Accepted
+    }
+}
+
+// 8 and 9.
+pub fn check_names(table: &[i32]) -> Verdict
+    requires { ⌜ Sound (now table) × (row-test (now table) ≡ accepted) ⌝ }
+    ensures { λ v. ⌜ verdict-of v ≡ target-test (now (table .entry)) and-then reading-test (now (table .entry)) ⌝ }
+{
+    if !tests::any_named(table) {
+        return Verdict::Accepted;
+    }
+    let targets = tests::check_targets(table);
+    match targets {
+        Verdict::Refused(_, _) => targets,
+        Verdict::Accepted => check_reading(table),
     }
 }

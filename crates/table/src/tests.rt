@@ -1,22 +1,18 @@
 // The tests that go over the rows, from 0 up: 2 to 6, 7 and 8. Each gives the lowest row that has a fault.
 
-use crate::Name;
 use crate::Verdict;
-use crate::parts;
-use crate::rows;
 use script::RowNumber;
-use script::Sort;
-use script::VariableNumber;
+use script::kinds;
 ghost use mathlib.Core.Path.{_≡_};
+ghost use mathlib.Core.Bool.{Bool, _&&_, _||_};
 ghost use Prim.Native.Nat.{ℕ, _-_};
-ghost use mathlib.Core.List.{[]};
 ghost use lib.ListN.{length};
 ghost use Rattle.script.specs.Rows.{rows};
 ghost use Rattle.script.specs.Refusals.{bad-length, frozen, linked, unlinked-test, script-test, target-test};
-ghost use Rattle.table.specs.Seen.{Shows};
-ghost use Rattle.table.specs.Faults.{Sized};
+ghost use Rattle.rows.specs.Faults.{Sized, States};
+ghost use Rattle.table.specs.Kinds.{kind-assigns, kind-named};
 ghost use Rattle.table.specs.Verdicts.{verdict-of};
-ghost use Rattle.table.specs.Lowest.{Rows-tested, name-frozen};
+ghost use Rattle.table.specs.Lowest.{Nameless-at, Rows-tested};
 
 // 1: no words, not four to a row, or over 2,048 rows.
 pub fn bad_length(n: usize) -> bool
@@ -31,15 +27,16 @@ pub fn bad_length(n: usize) -> bool
     8192 < n
 }
 
-// 2 to 6; where no row has a fault, `seen` says which rows are linked.
-pub fn check_rows(table: &[i32], seen: &mut [bool; 2048]) -> Verdict
-    requires { ⌜ Sized (now table) × Shows (now seen) [] ⌝ }
-    ensures { λ v. ⌜ Rows-tested (now (table .entry)) v (now (seen .exit)) ⌝ }
+// 2 to 6; where no row has a fault, `states` says which rows are linked.
+pub fn check_rows(table: &[i32], states: &mut [u8; 2048]) -> Verdict
+    requires { ⌜ Sized (now table) × (length (now states) ≡ 2048) ⌝ }
+    ensures { λ v. ⌜ Rows-tested (now (table .entry)) v (now (states .exit)) ⌝ }
 {
+    let kinds = rows::kinds();
     let rows = table.len() / 4;
     let mut r: usize = 0;
     while r < rows {
-        let fault = rows::row_fault(table, r, seen);
+        let fault = rows::row_fault(table, &kinds, r, states);
         if fault != 0 {
             return Verdict::Refused(fault, RowNumber(r));
         }
@@ -54,22 +51,22 @@ pub fn check_script(table: &[i32]) -> Verdict
     ensures { λ v. ⌜ verdict-of v ≡ script-test (now (table .entry)) ⌝ }
 {
     let last = table.len() / 4 - 1;
-    if parts::has_sort(script::row_at(table, last), Sort::Script) {
+    if rows::number(table, last, 0) == kinds::SCRIPT {
         Verdict::Accepted
     } else {
         Verdict::Refused(7, RowNumber(last))
     }
 }
 
-// 7: each row but the last is linked.
-pub fn check_unlinked(table: &[i32], seen: &[bool; 2048]) -> Verdict
-    requires { ⌜ Sized (now table) × Shows (now seen) (linked (now table) (rows (now table))) ⌝ }
+// 7: each row but the last is linked: its state is a small letter.
+pub fn check_unlinked(table: &[i32], states: &[u8; 2048]) -> Verdict
+    requires { ⌜ Sized (now table) × States (now table) (rows (now table)) (linked (now table) (rows (now table))) (now states) ⌝ }
     ensures { λ v. ⌜ verdict-of v ≡ unlinked-test (now (table .entry)) ⌝ }
 {
     let last = table.len() / 4 - 1;
     let mut r: usize = 0;
     while r < last {
-        if !seen[r] {
+        if states[r] < b'a' {
             return Verdict::Refused(7, RowNumber(r));
         }
         r += 1;
@@ -77,23 +74,60 @@ pub fn check_unlinked(table: &[i32], seen: &[bool; 2048]) -> Verdict
     Verdict::Accepted
 }
 
-pub fn is_frozen(v: VariableNumber) -> bool
-    ensures { λ r. ⌜ r ≡ frozen (v .0) ⌝ }
+pub fn both(a: bool, b: bool) -> bool
+    ensures { λ r. ⌜ r ≡ a && b ⌝ }
 {
-    let low = 128 <= v.0;
-    let high = v.0 <= 255;
-    rows::both(low, high)
+    if a { b } else { false }
 }
 
-fn name_frozen(name: Name) -> bool
-    ensures { λ r. ⌜ r ≡ name-frozen name ⌝ }
+fn either(a: bool, b: bool) -> bool
+    ensures { λ r. ⌜ r ≡ a || b ⌝ }
 {
-    match name {
-        Name::Nothing => false,
-        Name::Value => false,
-        Name::Variable(_) => false,
-        Name::Target(v) => is_frozen(v),
-        Name::Loop(_) => false,
+    if a { true } else { b }
+}
+
+// Whether a row of this kind, with this number in its first field, is a mark or has a frozen name.
+fn is_named(kind: usize, a: usize) -> bool
+    ensures { λ r. ⌜ r ≡ kind-named kind a ⌝ }
+{
+    match kind {
+        kinds::MARK => true,
+        kinds::VARIABLE => 128 <= a,
+        kinds::ASSIGN => 128 <= a,
+        _ => false,
+    }
+}
+
+// Whether any row is a mark or has a frozen name: where none is, 8 and 9 pass.
+pub fn any_named(table: &[i32]) -> bool
+    requires { ⌜ Sized (now table) ⌝ }
+    ensures { λ q. ⌜ Nameless-at (now (table .entry)) (rows (now (table .entry))) q ⌝ }
+{
+    let rows = table.len() / 4;
+    let mut found = false;
+    let mut r: usize = 0;
+    while r < rows {
+        let named = is_named(rows::number(table, r, 0), rows::number(table, r, 1));
+        found = either(found, named);
+        r += 1;
+    }
+    found
+}
+
+pub fn is_frozen(v: usize) -> bool
+    ensures { λ r. ⌜ r ≡ frozen v ⌝ }
+{
+    both(128 <= v, v <= 255)
+}
+
+// Whether a row of this kind, with this number in its first field, assigns to a frozen name.
+fn assigns_frozen(kind: usize, a: usize) -> bool
+    ensures { λ r. ⌜ r ≡ kind-assigns kind a ⌝ }
+{
+    if kind == kinds::ASSIGN {
+        is_frozen(a)
+    } else {
+        false
     }
 }
 
@@ -105,9 +139,7 @@ pub fn check_targets(table: &[i32]) -> Verdict
     let rows = table.len() / 4;
     let mut r: usize = 0;
     while r < rows {
-        let fields = parts::fields(script::row_at(table, r));
-        let name = fields.name;
-        if name_frozen(name) {
+        if assigns_frozen(rows::number(table, r, 0), rows::number(table, r, 1)) {
             return Verdict::Refused(8, RowNumber(r));
         }
         r += 1;

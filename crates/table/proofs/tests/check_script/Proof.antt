@@ -7,18 +7,14 @@ use Rattle.table.proofs.tests.check_script.Tie as tie
 sub-last : tie.Need-sub-last
 sub-last c = search needs
 
-row-at-requires : tie.Need-row-at-requires
-row-at-requires c κs = search needs
-
-has-sort-requires : tie.Need-has-sort-requires
-has-sort-requires c κs = search needs
+number-requires : tie.Need-number-requires
+number-requires c κs = search needs
 
 returns : tie.Need-returns
-returns c = script-accepted _ (c .before .before .row-at .ensures) (c .before .has-sort .ensures) (c .if1 .taken)
+returns c = script-accepted _ (c .before .number .ensures) (c .if1 .taken)
 
 returns-2 : tie.Need-returns-2
-returns-2 c = script-refused _ (c .before .before .row-at .ensures) (c .before .has-sort .ensures) (c .if1 .left)
+returns-2 c = script-refused _ (c .before .number .ensures) (c .if1 .left)
 
 pub check-script-spec : {M : Type 1} → statement M
-check-script-spec =
-    tie.close (tie.spec sub-last row-at-requires has-sort-requires returns returns-2)
+check-script-spec = tie.close (tie.spec sub-last number-requires returns returns-2)

@@ -1,8 +1,9 @@
 -- `table::tests::check_targets` meets its contract. The loop's invariant: no row below r assigns to a frozen name. Assumes nothing.
 use Prim.Native.Nat.{_-_}
+use native.Mathlib.Omega.{arith}
 use borrow.Author.Needs.{needs}
 use Rattle.script.specs.Refusals.{target-fault}
-use Rattle.table.specs.Faults.{in-table}
+use Rattle.rows.specs.Faults.{in-table}
 use Rattle.table.specs.Lowest.{Reached, reached-none, targets-more, targets-refused, targets-accepted}
 use Rattle.table.proofs.tests.check_targets.Statement.{statement}
 use Rattle.table.proofs.tests.check_targets.Tie as tie
@@ -16,21 +17,21 @@ abbrev μ-loop : tie.MeasureT-loop
 loop-holds : tie.Need-loop-holds Inv-loop μ-loop
 loop-holds c = reached-none
 
-row-at-requires : tie.Need-row-at-requires Inv-loop μ-loop
-row-at-requires c κs = in-table (c .before .before .pre) (c .loop-test .taken)
+number-requires : tie.Need-number-requires Inv-loop μ-loop
+number-requires c κs = (in-table (c .before .before .pre) (c .loop-test .taken), omega arith)
 
-fields-requires : tie.Need-fields-requires Inv-loop μ-loop
-fields-requires c κs = tt
+number-requires-2 : tie.Need-number-requires-2 Inv-loop μ-loop
+number-requires-2 c κs = (in-table (c .before .before .before .pre) (c .before .loop-test .taken), omega arith)
 
-name-frozen-requires : tie.Need-name-frozen-requires Inv-loop μ-loop
-name-frozen-requires c κs = tt
+assigns-frozen-requires : tie.Need-assigns-frozen-requires Inv-loop μ-loop
+assigns-frozen-requires c κs = search needs
 
 returns : tie.Need-returns Inv-loop μ-loop
 returns c =
     let d = c .before .before in
     let l = d .before .before in
-    targets-refused _ (d .fields .result) (l .before .loop .inv) (l .loop-test .taken) (d .before .row-at .ensures)
-    (d .fields .ensures) (c .before .name-frozen .ensures) (c .if1 .taken)
+    targets-refused _ (l .before .loop .inv) (l .loop-test .taken) (d .before .number .ensures) (d .number2 .ensures)
+    (c .before .assigns-frozen .ensures) (c .if1 .taken)
 
 add-r : tie.Need-add-r Inv-loop μ-loop
 add-r c = search needs
@@ -42,8 +43,8 @@ loop-again : tie.Need-loop-again Inv-loop μ-loop
 loop-again c =
     let d = c .before .before in
     let l = d .before .before in
-    targets-more _ (d .fields .result) (l .before .loop .inv) (l .loop-test .taken) (d .before .row-at .ensures)
-    (d .fields .ensures) (c .before .name-frozen .ensures) (c .if1 .left)
+    targets-more _ (l .before .loop .inv) (l .loop-test .taken) (d .before .number .ensures) (d .number2 .ensures)
+    (c .before .assigns-frozen .ensures) (c .if1 .left)
 
 returns-2 : tie.Need-returns-2 Inv-loop μ-loop
 returns-2 c = targets-accepted _ (c .before .loop .inv) (c .loop-test .left)
@@ -55,9 +56,9 @@ check-targets-spec =
     Inv-loop
     μ-loop
     loop-holds
-    row-at-requires
-    fields-requires
-    name-frozen-requires
+    number-requires
+    number-requires-2
+    assigns-frozen-requires
     returns
     add-r
     loop-less

@@ -1,5 +1,4 @@
 -- `table::tests::check_unlinked` meets its contract. The loop's invariant: each row below r is linked. Assumes nothing.
-use borrow.Author.Tests.{not-true, not-false}
 use Prim.Native.Nat.{_-_}
 use native.Mathlib.Omega.{arith}
 use borrow.Author.Needs.{needs}
@@ -9,10 +8,10 @@ use Rattle.table.proofs.tests.check_unlinked.Statement.{statement}
 use Rattle.table.proofs.tests.check_unlinked.Tie as tie
 
 abbrev Inv-loop : tie.InvT-loop
-Inv-loop table seen last r₀ r = Reached (unlinked-fault table) last r
+Inv-loop table states last r₀ r = Reached (unlinked-fault table) last r
 
 abbrev μ-loop : tie.MeasureT-loop
-μ-loop table seen last r₀ r = last - r
+μ-loop table states last r₀ r = last - r
 
 sub-last : tie.Need-sub-last Inv-loop μ-loop
 sub-last c = search needs
@@ -26,7 +25,7 @@ element-copy-out-if1 c = omega (arith, c .before .before .pre .0 .short)
 returns : tie.Need-returns Inv-loop μ-loop
 returns c =
     unlinked-refused _ (c .before .before .before .before .pre .0) (c .before .before .before .before .pre .1)
-    (c .before .before .before .loop .inv) (c .before .before .loop-test .taken) (not-true _ (c .if1 .taken))
+    (c .before .before .before .loop .inv) (c .before .before .loop-test .taken) (c .if1 .taken)
 
 add-r : tie.Need-add-r Inv-loop μ-loop
 add-r c = search needs
@@ -37,7 +36,7 @@ loop-less c = search needs
 loop-again : tie.Need-loop-again Inv-loop μ-loop
 loop-again c =
     unlinked-more _ (c .before .before .before .before .pre .0) (c .before .before .before .before .pre .1)
-    (c .before .before .before .loop .inv) (c .before .before .loop-test .taken) (not-false _ (c .if1 .left))
+    (c .before .before .before .loop .inv) (c .before .before .loop-test .taken) (c .if1 .left)
 
 returns-2 : tie.Need-returns-2 Inv-loop μ-loop
 returns-2 c = unlinked-accepted _ (c .before .loop .inv) (c .loop-test .left)

@@ -1,0 +1,19 @@
+-- `table::tests::is_named` meets its contract. Assumes nothing.
+use borrow.Author.Tests.{ne-eqb}
+use Rattle.table.proofs.tests.is_named.Statement.{statement}
+use Rattle.table.proofs.tests.is_named.Tie as tie
+
+returns : tie.Need-returns
+returns c = rw (c .match .keys1)
+
+returns-2 : tie.Need-returns-2
+returns-2 c = rw (c .match .keys2)
+
+returns-3 : tie.Need-returns-3
+returns-3 c = rw (c .match .keys3)
+
+returns-4 : tie.Need-returns-4
+returns-4 c = rw (ne-eqb _ 9 (c .match .rest .0 .0 .1), ne-eqb _ 2 (c .match .rest .0 .1), ne-eqb _ 33 (c .match .rest .1))
+
+pub is-named-spec : {M : Type 1} → statement M
+is-named-spec = tie.close (tie.spec returns returns-2 returns-3 returns-4)
