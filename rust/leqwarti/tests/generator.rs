@@ -1,7 +1,7 @@
 //! The generator: room and scratch at their edges, the largest tables and
 //! lists, and scripts of each shape with their whole lists. The answers wanted
-//! are worked out from document 01's rules. (The document's trial rows are run
-//! by the program `trials`.)
+//! are worked out from document 01's rules. The document's trial rows, which the
+//! program `trials` runs, are among them: here the buffers are looked at too.
 
 mod common;
 
@@ -70,21 +70,27 @@ fn rows(text: &str) -> Vec<Row> {
 /// is not listed.
 #[test]
 fn lengths() {
-    expect("3 words", &[0; 3], 512, 5_120, refused(1, 0));
-    expect("4 words", &[0; 4], 512, 5_120, refused(2, 0));
+    for (words, number) in [(0, 1), (3, 1), (4, 2), (8_192, 2), (8_196, 1)] {
+        let name = format!("{words} words");
+        expect(&name, &vec![0; words], 512, 5_120, refused(number, 0));
+    }
 }
 
-/// The numbers that no trial row names: a row of example A, what is put there,
-/// the answer, and why.
+/// A row of example A, what is put there, the answer, and why.
 #[test]
-fn other_refusals() {
+fn refusals_by_number() {
     for case in cases(
         "
-         0: 11 0 0 0  | refused 2 0  | a kind that is not listed
-        13: 4 11 8 0  | refused 5 13 | a formula for an expression
-        14: 32 0 0 0  | refused 7 13 | nothing links to row 13
-        19: 16 0 0 0  | refused 7 19 | the last row is no script
-        11: 2 128 0 0 | refused 9 11 | an assigned expression that reads a frozen name
+        14: 33 128 13 0 | refused 8 14 | an assignment to a frozen name
+        14: 33 256 13 0 | refused 3 14 | no variable has that number
+         9: 9 15 0 0    | refused 9 9  | a mark in the variant of its own loop
+        13: 4 11 11 0   | refused 6 13 | a part twice
+        13: 4 11 13 0   | refused 4 13 | a link to itself
+         0: 11 0 0 0    | refused 2 0  | a kind that is not listed
+        13: 4 11 8 0    | refused 5 13 | a formula for an expression
+        14: 32 0 0 0    | refused 7 13 | nothing links to row 13
+        19: 16 0 0 0    | refused 7 19 | the last row is no script
+        11: 2 128 0 0   | refused 9 11 | an assigned expression that reads a frozen name
         ",
     ) {
         let [edit, wanted, _why] = parts(case, "|");
@@ -140,12 +146,14 @@ fn edges_of_room_and_scratch() {
         "nesting 1",
         &EXAMPLE_A,
         "
-        93, 278 | refused 11 0
-        93, 279 | refused 12 0
-        94, 281 | refused 11 0
-        94, 282 | planned 4 94
-        95, 284 | refused 11 0
-        95, 285 | planned 4 94
+        93, 278   | refused 11 0
+        93, 279   | refused 12 0
+        93, 5120  | refused 12 0
+        94, 281   | refused 11 0
+        94, 282   | planned 4 94
+        95, 284   | refused 11 0
+        95, 285   | planned 4 94
+        512, 5120 | planned 4 94
         ",
     );
     expect_answers(
