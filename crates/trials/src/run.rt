@@ -23,14 +23,7 @@ pub fn say(name: &[u8], answer: Answer) {
     io::write_all(1, b"\n");
 }
 
-// With the program's room and scratch.
-pub fn ample(name: &[u8], table: &[i32]) {
-    let mut list = [7; 512];
-    let mut scratch = [7; 5120];
-    say(name, generate::generate(table, &mut list, &mut scratch));
-}
-
-// The first n words of a table, with a part of them.
+// The first n words of a table, with that room and scratch: at most 512 and 5,120 words, as the program has.
 pub fn part(name: &[u8], table: &[i32], n: usize, room: usize, bench: usize) {
     let mut list = [7; 512];
     let mut scratch = [7; 5120];

@@ -24,7 +24,7 @@ pub fn list() {
 // All words are 0: where their number passes, row 0 has a kind that is not listed.
 pub fn lengths() {
     let words = [0; 8196];
-    run::ample(b"no words", &words[..0]);
-    run::ample(b"8192 words", &words[..8192]);
-    run::ample(b"8196 words", &words);
+    run::part(b"no words", &words, 0, 512, 5120);
+    run::part(b"8192 words", &words, 8192, 512, 5120);
+    run::part(b"8196 words", &words, 8196, 512, 5120);
 }
