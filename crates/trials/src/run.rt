@@ -1,185 +1,61 @@
-// One case: a table, a room, a number of words of scratch, and the answer that document 01 says.
+// One trial: a table and its buffers, and what the generator answers, as the program `vcgen` writes it.
 
 use crate::text;
 use script::Answer;
 
-// Puts a word that is not zero everywhere.
-fn fill(words: &mut [i32]) {
-    let mut i: usize = 0;
-    while i < words.len() {
-        words[i] = -7;
-        i += 1;
-    }
+fn say_number(n: usize) {
+    io::write_all(1, b" ");
+    io::print_decimal(1, n as u64);
 }
 
-fn zeros(words: &[i32]) -> bool {
-    let mut i: usize = 0;
-    while i < words.len() {
-        if words[i] != 0 {
-            return false;
-        }
-        i += 1;
-    }
-    true
-}
-
-// The first words of a are those of b.
-fn begins(a: &[i32], b: &[i32]) -> bool {
-    if a.len() < b.len() {
-        return false;
-    }
-    let mut i: usize = 0;
-    while i < b.len() {
-        if a[i] != b[i] {
-            return false;
-        }
-        i += 1;
-    }
-    true
-}
-
-fn same(a: Answer, b: Answer) -> bool {
-    a.number == b.number && a.row == b.row && a.conditions == b.conditions && a.words == b.words
-}
-
-pub fn planned(conditions: usize, words: usize) -> Answer {
-    Answer {
-        number: 0,
-        row: 0,
-        conditions,
-        words,
-    }
-}
-
-pub fn refused(number: usize, row: usize) -> Answer {
-    Answer {
-        number,
-        row,
-        conditions: 0,
-        words: 0,
-    }
-}
-
-// The list reader finds that many conditions in the first words, and 0 where there are none.
-fn readable(list: &[i32], used: usize, conditions: usize) -> bool {
-    if used <= list.len() {
-        listing::condition_count(&list[..used]) == conditions
+// Both numbers of an answer are said: of a list its conditions and words, of a refusal its number and row.
+pub fn say(name: &[u8], answer: Answer) {
+    io::write_all(1, name);
+    if answer.number == 0 {
+        io::write_all(1, b": planned");
+        say_number(answer.conditions);
+        say_number(answer.words);
     } else {
-        false
+        io::write_all(1, b": refused");
+        say_number(answer.number);
+        say_number(answer.row);
     }
+    io::write_all(1, b"\n");
 }
 
-// The answer is the one wanted; scratch and what is past the words of the list are zeros, whatever stood there before.
-pub fn gives(table: &[i32], list: &mut [i32], scratch: &mut [i32], want: Answer) -> bool {
-    fill(list);
-    fill(scratch);
-    let answer = generate::generate(table, list, scratch);
-    let used = want.words;
-    let conditions = want.conditions;
-    if used <= list.len() {
-        same(answer, want)
-            && zeros(&list[used..])
-            && zeros(scratch)
-            && readable(list, used, conditions)
-    } else {
-        false
-    }
-}
-
-// A case of the first words of a table, with that room and scratch.
-fn part(table: &[i32], n: usize, room: usize, bench: usize, want: Answer) -> bool {
-    let mut list = [-7; 20000];
-    let mut scratch = [-7; 170000];
+// The first n words of a table, with that room and scratch: at most 512 and 5,120 words, as the program has.
+pub fn part(name: &[u8], table: &[i32], n: usize, room: usize, bench: usize) {
+    let mut list = [7; 512];
+    let mut scratch = [7; 5120];
     if n <= table.len() {
-        if room <= 20000 {
-            if bench <= 170000 {
-                return gives(&table[..n], &mut list[..room], &mut scratch[..bench], want);
+        if room <= 512 {
+            if bench <= 5120 {
+                say(
+                    name,
+                    generate::generate(&table[..n], &mut list[..room], &mut scratch[..bench]),
+                );
             }
         }
     }
-    false
 }
 
-// The same for a table that was written into an array.
-pub fn with(table: &[i32; 1024], n: usize, room: usize, bench: usize, want: Answer) -> bool {
-    part(table, n, room, bench, want)
+// The same of a table in an array.
+pub fn words(name: &[u8], table: &[i32; 124], n: usize, room: usize, bench: usize) {
+    part(name, table, n, room, bench);
 }
 
-fn wrote(list: &[i32; 1024], words: &[i32]) -> bool {
-    begins(list, words)
-}
-
-// With a room of as many words as the list has.
-fn fits(table: &[i32], words: &[i32], want: Answer) -> bool {
-    let mut list = [-7; 1024];
-    let mut scratch = [-7; 10240];
-    let n = words.len();
-    if 1024 < n {
-        return false;
-    }
-    gives(table, &mut list[..n], &mut scratch, want) && wrote(&list, words)
-}
-
-// With one word less.
-fn short(table: &[i32], n: usize) -> bool {
-    let mut list = [-7; 1024];
-    let mut scratch = [-7; 10240];
-    if n == 0 {
-        return false;
-    }
-    if 1024 < n {
-        return false;
-    }
-    let room = n - 1;
-    gives(table, &mut list[..room], &mut scratch, refused(12, 0))
-}
-
-// The whole list, word for word: with room to spare, with as much as it needs, and refused with one word less.
-pub fn gives_list(table: &[i32], words: &[i32], conditions: usize) -> bool {
-    let mut list = [-7; 1024];
-    let mut scratch = [-7; 10240];
-    let n = words.len();
-    let want = planned(conditions, n);
-    gives(table, &mut list, &mut scratch, want)
-        && wrote(&list, words)
-        && fits(table, words, want)
-        && short(table, n)
-}
-
-fn parts(table: &[i32], n: usize, words: &[i32], m: usize, conditions: usize) -> bool {
-    if n <= table.len() {
-        if m <= words.len() {
-            return gives_list(&table[..n], &words[..m], conditions);
-        }
-    }
-    false
-}
-
-fn of_arrays(
-    table: &[i32; 1024],
-    n: usize,
-    words: &[i32; 1024],
-    m: usize,
-    conditions: usize,
-) -> bool {
-    parts(table, n, words, m, conditions)
-}
-
-// The same for a table and a list written as text.
-pub fn lists(rows: &[u8], words: &[u8], conditions: usize) -> bool {
-    let mut table = [0; 1024];
+// The same of a table as document 01 prints it.
+pub fn rows(name: &[u8], rows: &[u8], room: usize, bench: usize) {
+    let mut table = [0; 124];
     let n = text::numbers(rows, &mut table);
-    let mut list = [0; 1024];
-    let m = text::numbers(words, &mut list);
-    of_arrays(&table, n, &list, m, conditions)
+    words(name, &table, n, room, bench);
 }
 
-// Says so where a case went wrong.
-pub fn hold(name: &[u8], right: bool) {
-    if right {
-        return;
+// Every word of a list.
+pub fn say_words(list: &[i32; 7]) {
+    let mut i: usize = 0;
+    while i < 7 {
+        say_number(script::field_number(list[i]));
+        i += 1;
     }
-    io::write_all(1, b"  WRONG: ");
-    io::write_all(1, name);
-    io::write_all(1, b"\n");
 }

@@ -1,4 +1,4 @@
-// Tables and lists written as text, as document 01 prints them.
+// Words written as text, as document 01 prints them.
 
 fn wide(byte: u8) -> usize {
     byte as usize
@@ -22,8 +22,8 @@ fn digit(value: usize, byte: u8) -> usize {
 }
 
 // The next word, and how many there are then.
-fn push(words: &mut [i32; 1024], n: usize, value: usize) -> usize {
-    if n < 1024 {
+fn push(words: &mut [i32; 124], n: usize, value: usize) -> usize {
+    if n < 124 {
         if value < 1000000 {
             words[n] = value as i32;
             return n + 1;
@@ -33,7 +33,7 @@ fn push(words: &mut [i32; 1024], n: usize, value: usize) -> usize {
 }
 
 // Writes the numbers of the text, each of which another byte ends, and gives how many there are.
-pub fn numbers(text: &[u8], words: &mut [i32; 1024]) -> usize {
+pub fn numbers(text: &[u8], words: &mut [i32; 124]) -> usize {
     let mut n: usize = 0;
     let mut value: usize = 0;
     let mut open = false;

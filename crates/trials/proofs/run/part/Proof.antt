@@ -5,23 +5,26 @@ use borrow.Author.Needs.{needs}
 use Rattle.trials.proofs.run.part.Statement.{statement}
 use Rattle.trials.proofs.run.part.Tie as tie
 
-slice-aggregate-gives : tie.Need-slice-aggregate-gives
-slice-aggregate-gives c = simp length-take (omega arith)
+slice-aggregate-generate : tie.Need-slice-aggregate-generate
+slice-aggregate-generate c = simp length-take (omega arith)
 
 array-borrow-prefix-list : tie.Need-array-borrow-prefix-list
 array-borrow-prefix-list c = search needs
 
-slice-aggregate-gives-2 : tie.Need-slice-aggregate-gives-2
-slice-aggregate-gives-2 c = simp length-take (omega arith)
+slice-aggregate-generate-2 : tie.Need-slice-aggregate-generate-2
+slice-aggregate-generate-2 c = simp length-take (omega arith)
 
 array-borrow-prefix-scratch : tie.Need-array-borrow-prefix-scratch
 array-borrow-prefix-scratch c = search needs
 
-slice-aggregate-gives-3 : tie.Need-slice-aggregate-gives-3
-slice-aggregate-gives-3 c = simp length-take (omega arith)
+slice-aggregate-generate-3 : tie.Need-slice-aggregate-generate-3
+slice-aggregate-generate-3 c = simp length-take (omega arith)
 
-gives-requires : tie.Need-gives-requires
-gives-requires c κs = search needs
+generate-requires : tie.Need-generate-requires
+generate-requires c κs = search needs
+
+say-requires : tie.Need-say-requires
+say-requires c κs = search needs
 
 returns : tie.Need-returns
 returns c = search needs
@@ -39,12 +42,13 @@ pub part-spec : {M : Type 1} → statement M
 part-spec =
     tie.close
     (tie.spec
-    slice-aggregate-gives
+    slice-aggregate-generate
     array-borrow-prefix-list
-    slice-aggregate-gives-2
+    slice-aggregate-generate-2
     array-borrow-prefix-scratch
-    slice-aggregate-gives-3
-    gives-requires
+    slice-aggregate-generate-3
+    generate-requires
+    say-requires
     returns
     returns-2
     returns-3

@@ -1,0 +1,46 @@
+// Example A: by room and scratch, and with a row edited.
+
+use crate::run;
+use crate::text;
+
+fn rows() -> [i32; 124] {
+    let mut table = [0; 124];
+    text::numbers(
+        b"1 0 0 0, 2 0 0 0, 19 0 1 0, 1 0 0 0, 2 0 0 0, 18 3 4 0, 1 0 0 0, 2 0 0 0, 19 6 7 0, 2 0 0 0, 37 8 9 0, 2 0 0 0, 1 1 0 0,
+        4 11 12 0, 33 0 13 0, 36 5 10 14, 2 0 0 0, 1 0 0 0, 20 16 17 0, 48 2 15 18.",
+        &mut table,
+    );
+    table
+}
+
+fn within(name: &[u8], room: usize, bench: usize) {
+    run::words(name, &rows(), 80, room, bench);
+}
+
+pub fn rooms() {
+    within(b"A", 512, 5120);
+    within(b"A, room 93", 93, 5120);
+    within(b"A, room 94, scratch 281", 94, 281);
+    within(b"A, room 94, scratch 282", 94, 282);
+}
+
+// With these words in the row, and 0.
+fn edited(name: &[u8], row: usize, kind: i32, first: i32, second: i32) {
+    let mut table = rows();
+    if row < 20 {
+        let at = 4 * row;
+        table[at] = kind;
+        table[at + 1] = first;
+        table[at + 2] = second;
+        table[at + 3] = 0;
+        run::words(name, &table, 80, 512, 5120);
+    }
+}
+
+pub fn edits() {
+    edited(b"A, row 14 is 33 128 13 0", 14, 33, 128, 13);
+    edited(b"A, row 14 is 33 256 13 0", 14, 33, 256, 13);
+    edited(b"A, row 9 is 9 15 0 0", 9, 9, 15, 0);
+    edited(b"A, row 13 is 4 11 11 0", 13, 4, 11, 11);
+    edited(b"A, row 13 is 4 11 13 0", 13, 4, 11, 13);
+}

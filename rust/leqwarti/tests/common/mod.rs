@@ -1,0 +1,274 @@
+//! What several files of cases share: example A of document 01, and scripts
+//! that are built level by level.
+
+#![allow(dead_code)] // each file of cases uses a part of it
+
+use std::str::FromStr;
+
+use leqwarti::entries::Answer;
+
+/// A row as the document writes it: kind, first, second, third.
+pub type Row = [i32; 4];
+
+/// Example A: 4 conditions, 94 words, nesting 1.
+pub const EXAMPLE_A: [Row; 20] = [
+    [1, 0, 0, 0],
+    [2, 0, 0, 0],
+    [19, 0, 1, 0], // 2: the precondition
+    [1, 0, 0, 0],
+    [2, 0, 0, 0],
+    [18, 3, 4, 0], // 5: the loop's guard
+    [1, 0, 0, 0],
+    [2, 0, 0, 0],
+    [19, 6, 7, 0], // 8: its invariant
+    [2, 0, 0, 0],  // 9: its variant
+    [37, 8, 9, 0], // 10: its note
+    [2, 0, 0, 0],
+    [1, 1, 0, 0],
+    [4, 11, 12, 0],
+    [33, 0, 13, 0],  // 14: its body
+    [36, 5, 10, 14], // 15: the loop
+    [2, 0, 0, 0],
+    [1, 0, 0, 0],
+    [20, 16, 17, 0], // 18: the postcondition
+    [48, 2, 15, 18], // 19: the script
+];
+
+/// Its list: exit at 0 to 18, floor at 21 to 38, step at 41 to 76, main at 79
+/// to 90, each before its trailer.
+pub const EXAMPLE_A_LIST: &str = "
+    25 23 19 1 0 2 0 22 18 1 0 2 0 20 2 0 1 0 1 15 18,
+    25 23 19 1 0 2 0 18 1 0 2 0 19 1 0 2 0 2 15 17,
+    25 23 23 19 1 0 2 0 18 1 0 2 0 20 2 0 9 15 23 19 1 0 4 2 0 1 1 18 4 2 0 1 1 9 15 3 15 35,
+    25 19 1 0 2 0 19 1 0 2 0 4 19 11,
+    4";
+
+/// The script of four rows in the document's trial rows: 1 condition, 7 words,
+/// nesting 0.
+pub const FOUR_ROWS: [Row; 4] = [[16, 0, 0, 0], [32, 0, 0, 0], [16, 0, 0, 0], [48, 0, 1, 2]];
+
+/// A row of every kind: a loop in a branch of a loop, with assertions, both
+/// marks and frozen names.
+pub const EVERY_KIND: [Row; 62] = [
+    [16, 0, 0, 0], // 0: the precondition
+    [17, 0, 0, 0],
+    [2, 0, 0, 0],
+    [1, 3, 0, 0],
+    [18, 2, 3, 0],
+    [22, 4, 0, 0],
+    [24, 1, 5, 0], // 6: the outer loop's guard
+    [2, 0, 0, 0],
+    [2, 0, 0, 0],
+    [20, 7, 8, 0], // 9: its invariant
+    [2, 0, 0, 0],
+    [1, 5, 0, 0],
+    [19, 10, 11, 0],
+    [2, 0, 0, 0],
+    [2, 1, 0, 0],
+    [3, 13, 14, 0],
+    [2, 0, 0, 0],
+    [1, 2, 0, 0],
+    [5, 16, 17, 0],
+    [10, 12, 15, 18], // 19: its variant
+    [37, 9, 19, 0],   // 20: its note
+    [9, 52, 0, 0],    // 21: the outer loop's mark
+    [2, 0, 0, 0],
+    [21, 21, 22, 0],
+    [38, 23, 0, 0], // 24: an assertion
+    [16, 0, 0, 0],
+    [16, 0, 0, 0],
+    [17, 0, 0, 0],
+    [25, 26, 27, 0],
+    [23, 25, 28, 0], // 29: the if's guard
+    [16, 0, 0, 0],   // 30: the inner loop's guard
+    [9, 52, 0, 0],   // 31: the outer loop's mark
+    [2, 128, 0, 0],  // 32: a frozen name
+    [19, 31, 32, 0], // 33: its invariant
+    [2, 1, 0, 0],
+    [8, 34, 0, 0],   // 35: its variant
+    [37, 33, 35, 0], // 36: its note
+    [2, 0, 0, 0],
+    [1, 2, 0, 0],
+    [6, 37, 38, 0],
+    [1, 3, 0, 0],
+    [7, 39, 40, 0],
+    [33, 1, 41, 0], // 42: an assignment
+    [9, 48, 0, 0],  // 43: the inner loop's mark
+    [9, 52, 0, 0],  // 44: the outer loop's mark
+    [20, 43, 44, 0],
+    [38, 45, 0, 0],   // 46: an assertion
+    [34, 42, 46, 0],  // 47: the inner loop's body
+    [36, 30, 36, 47], // 48: the inner loop
+    [32, 0, 0, 0],
+    [35, 29, 48, 49], // 50: the if
+    [34, 24, 50, 0],  // 51: the outer loop's body
+    [36, 6, 20, 51],  // 52: the outer loop
+    [2, 1, 0, 0],
+    [1, 1, 0, 0],
+    [4, 53, 54, 0],
+    [33, 0, 55, 0], // 56: an assignment after it
+    [34, 52, 56, 0],
+    [2, 255, 0, 0], // 58: a frozen name
+    [1, 0, 0, 0],
+    [20, 58, 59, 0], // 60: the postcondition
+    [48, 0, 57, 60], // 61: the script
+];
+
+/// The rows with one of them put anew.
+pub fn edited(rows: &[Row], row: usize, put: Row) -> Vec<Row> {
+    let mut rows = rows.to_vec();
+    rows[row] = put;
+    rows
+}
+
+/// Words written as the document prints them, with spaces and commas between.
+pub fn numbers(text: &str) -> Vec<i32> {
+    text.replace(',', " ")
+        .split_whitespace()
+        .map(number)
+        .collect()
+}
+
+pub fn number<N: FromStr>(text: &str) -> N {
+    text.parse().unwrap_or_else(|_| panic!("no number: {text}"))
+}
+
+/// The lines of cases that are written as text, one to a line.
+pub fn cases(text: &str) -> impl Iterator<Item = &str> {
+    text.lines().map(str::trim).filter(|line| !line.is_empty())
+}
+
+/// The parts of a case, without the spaces around them.
+pub fn parts<'a, const COUNT: usize>(case: &'a str, between: &str) -> [&'a str; COUNT] {
+    let parts: Vec<&str> = case.split(between).map(str::trim).collect();
+    parts
+        .try_into()
+        .unwrap_or_else(|_| panic!("not {COUNT} parts: {case}"))
+}
+
+pub fn planned(conditions: usize, words: usize) -> Answer {
+    Answer {
+        conditions,
+        words,
+        ..Answer::default()
+    }
+}
+
+pub fn refused(number: usize, row: usize) -> Answer {
+    Answer {
+        number,
+        row,
+        ..Answer::default()
+    }
+}
+
+/// An answer as the program writes it: `planned`, conditions, words; or
+/// `refused`, number, row.
+pub fn answer(text: &str) -> Answer {
+    let [name, first, second] = parts(text, " ");
+    match name {
+        "planned" => planned(number(first), number(second)),
+        "refused" => refused(number(first), number(second)),
+        _ => panic!("no answer: {text}"),
+    }
+}
+
+/// A script's rows but for its postcondition. The last row is the statement,
+/// which each step puts into another one.
+pub struct Script {
+    precondition: i32,
+    rows: Vec<Row>,
+}
+
+impl Script {
+    /// The precondition true, and skip.
+    pub fn skip() -> Script {
+        Script {
+            precondition: 0,
+            rows: vec![[16, 0, 0, 0], [32, 0, 0, 0]],
+        }
+    }
+
+    /// The precondition not true, and skip.
+    pub fn skip_after_not() -> Script {
+        Script {
+            precondition: 1,
+            rows: vec![[16, 0, 0, 0], [22, 0, 0, 0], [32, 0, 0, 0]],
+        }
+    }
+
+    fn next(&self) -> i32 {
+        self.rows.len() as i32
+    }
+
+    /// if true then the statement, else skip
+    pub fn in_if(mut self) -> Script {
+        let guard = self.next();
+        self.rows.extend([[16, 0, 0, 0], [32, 0, 0, 0]]);
+        self.rows.push([35, guard, guard - 1, guard + 1]);
+        self
+    }
+
+    /// while true do the statement, invariant true, variant 0
+    pub fn in_while(mut self) -> Script {
+        let guard = self.next();
+        self.rows.extend([[16, 0, 0, 0], [16, 0, 0, 0]]);
+        self.rows.push([1, 0, 0, 0]);
+        self.rows.push([37, guard + 1, guard + 2, 0]);
+        self.rows.push([36, guard, guard + 3, guard - 1]);
+        self
+    }
+
+    /// the statement, then skip
+    pub fn then_skip(mut self) -> Script {
+        let skip = self.next();
+        self.rows.extend([[32, 0, 0, 0], [34, skip - 1, skip, 0]]);
+        self
+    }
+
+    /// the statement, then if true then skip else skip
+    pub fn then_if(mut self) -> Script {
+        let guard = self.next();
+        self.rows
+            .extend([[16, 0, 0, 0], [32, 0, 0, 0], [32, 0, 0, 0]]);
+        self.rows.push([35, guard, guard + 1, guard + 2]);
+        self.rows.push([34, guard - 1, guard + 3, 0]);
+        self
+    }
+
+    pub fn repeated(self, times: usize, step: fn(Script) -> Script) -> Script {
+        (0..times).fold(self, |script, _| step(script))
+    }
+
+    /// The whole script, before the postcondition true.
+    pub fn rows(self) -> Vec<Row> {
+        self.before(0)
+    }
+
+    /// The whole script, before that many times not of true.
+    pub fn before(mut self, nots: usize) -> Vec<Row> {
+        let statement = self.next() - 1;
+        self.rows.push([16, 0, 0, 0]);
+        for _ in 0..nots {
+            self.rows.push([22, self.next() - 1, 0, 0]);
+        }
+        let postcondition = self.next() - 1;
+        self.rows
+            .push([48, self.precondition, statement, postcondition]);
+        self.rows
+    }
+}
+
+/// `whiles` loops in one another, and in the innermost `ifs` ifs.
+pub fn nested(ifs: usize, whiles: usize) -> Vec<Row> {
+    let inner = Script::skip().repeated(ifs, Script::in_if);
+    inner.repeated(whiles, Script::in_while).rows()
+}
+
+/// 2,048 rows, the longest path: the script's precondition is 2,044 times not
+/// of the formula at row 0.
+pub fn longest_path(first: Row) -> Vec<Row> {
+    let nots = (0..2_044).map(|below| [22, below, 0, 0]);
+    let rest = [[32, 0, 0, 0], [16, 0, 0, 0], [48, 2_044, 2_045, 2_046]];
+    [first].into_iter().chain(nots).chain(rest).collect()
+}

@@ -1,0 +1,505 @@
+//! The generator: room and scratch at their edges, the largest tables and
+//! lists, and scripts of each shape with their whole lists. The answers wanted
+//! are worked out from document 01's rules. The document's trial rows, which the
+//! program `trials` runs, are among them: here the buffers are looked at too.
+
+mod common;
+
+use common::{answer, cases, edited, longest_path, nested, number, numbers, parts};
+use common::{planned, refused, Row, Script};
+use common::{EVERY_KIND, EXAMPLE_A, EXAMPLE_A_LIST, FOUR_ROWS};
+use leqwarti::entries::{generate, Answer};
+use leqwarti::Plan;
+
+/// The answer is the one wanted. The scratch, and what is past the words of the
+/// list, are zeros, whatever stood there before; the list reader finds as many
+/// conditions. Gives the words of the list.
+fn expect(name: &str, table: &[i32], room: usize, scratch: usize, wanted: Answer) -> Vec<i32> {
+    let (mut list, mut scratch) = (vec![-7; room], vec![-7; scratch]);
+    let given = generate(table, &mut list, &mut scratch);
+    assert_eq!(given, wanted, "{name}");
+    let rest = list.split_off(wanted.words);
+    assert!(rest.iter().all(|&word| word == 0), "{name}: past the list");
+    assert!(scratch.iter().all(|&word| word == 0), "{name}: the scratch");
+    let read = Plan::read(list.clone()).map_or(0, |plan| plan.conditions().len());
+    assert_eq!(read, wanted.conditions, "{name}: the conditions read back");
+    list
+}
+
+/// A case to a line: room, scratch, and the answer.
+fn expect_answers(name: &str, rows: &[Row], text: &str) {
+    for case in cases(text) {
+        let [buffers, wanted] = parts(case, "|");
+        let [room, scratch] = parts(buffers, ",");
+        let name = format!("{name}: {case}");
+        expect(
+            &name,
+            &rows.concat(),
+            number(room),
+            number(scratch),
+            answer(wanted),
+        );
+    }
+}
+
+/// The whole list, word for word: with room to spare, with as much as it needs,
+/// and refused with one word less.
+fn expect_list(name: &str, rows: &[Row], list: &str) {
+    let (table, words) = (rows.concat(), numbers(list));
+    let conditions = *words.last().expect("a count") as usize;
+    let wanted = planned(conditions, words.len());
+    for room in [1_024, words.len()] {
+        assert_eq!(
+            expect(name, &table, room, 10_240, wanted),
+            words,
+            "{name}: the list"
+        );
+    }
+    expect(name, &table, words.len() - 1, 10_240, refused(12, 0));
+}
+
+/// Rows written as the document prints them.
+fn rows(text: &str) -> Vec<Row> {
+    let words = numbers(text);
+    assert_eq!(words.len() % 4, 0, "four words to a row: {text}");
+    let row = |words: &[i32]| [words[0], words[1], words[2], words[3]];
+    words.chunks(4).map(row).collect()
+}
+
+/// Words that are all zeros: where their number passes, row 0 has a kind that
+/// is not listed.
+#[test]
+fn lengths() {
+    for (words, number) in [(0, 1), (3, 1), (4, 2), (8_192, 2), (8_196, 1)] {
+        let name = format!("{words} words");
+        expect(&name, &vec![0; words], 512, 5_120, refused(number, 0));
+    }
+}
+
+/// A row of example A, what is put there, the answer, and why.
+#[test]
+fn refusals_by_number() {
+    for case in cases(
+        "
+        14: 33 128 13 0 | refused 8 14 | an assignment to a frozen name
+        14: 33 256 13 0 | refused 3 14 | no variable has that number
+         9: 9 15 0 0    | refused 9 9  | a mark in the variant of its own loop
+        13: 4 11 11 0   | refused 6 13 | a part twice
+        13: 4 11 13 0   | refused 4 13 | a link to itself
+         0: 11 0 0 0    | refused 2 0  | a kind that is not listed
+        13: 4 11 8 0    | refused 5 13 | a formula for an expression
+        14: 32 0 0 0    | refused 7 13 | nothing links to row 13
+        19: 16 0 0 0    | refused 7 19 | the last row is no script
+        11: 2 128 0 0   | refused 9 11 | an assigned expression that reads a frozen name
+        ",
+    ) {
+        let [edit, wanted, _why] = parts(case, "|");
+        let [row, put] = parts(edit, ":");
+        let table = edited(&EXAMPLE_A, number(row), rows(put)[0]).concat();
+        expect(case, &table, 512, 5_120, answer(wanted));
+    }
+}
+
+/// Each if adds 7 words to W: and, implies, true, implies, not, true and the
+/// else part's Q. Main of eight: 1 + 1 + 1 + 8 * 7, its trailer and the count:
+/// 63.
+///
+/// Eight loops, each with its trailers: floor 9 + 3; exit 5 + 3 and its Q,
+/// which is 1 word for the outermost and 7 for the others; step 10 + 3 and W of
+/// its body, which is 7 words for the innermost and 1 for the others. With main
+/// 3 + 3 and the count: 8 * 12 + 8 * 8 + 1 + 7 * 7 + 8 * 13 + 7 + 7 * 1 + 6 + 1
+/// = 335 words, 25 conditions.
+#[test]
+fn nesting() {
+    expect_answers("8 ifs", &nested(8, 0), "512, 5120 | planned 1 63");
+    expect_answers("9 ifs", &nested(9, 0), "512, 5632 | refused 10 0");
+    expect_answers("8 whiles", &nested(0, 8), "512, 5120 | planned 25 335");
+    expect_answers("9 whiles", &nested(0, 9), "512, 5632 | refused 10 0");
+}
+
+/// 2,048 rows: a precondition of 2,045 words, skip, true. Main has 1 + 2045 + 1
+/// words; with its trailer and the count 2,051. Nesting 0.
+#[test]
+fn the_largest_table() {
+    let rows = longest_path([16, 0, 0, 0]);
+    expect_answers("2,048 rows", &rows, "2051, 4102 | planned 1 2051");
+}
+
+/// Scratch must hold (nesting + 2) * room words, and the list must not be
+/// longer than room.
+#[test]
+fn edges_of_room_and_scratch() {
+    expect_answers(
+        "nesting 0",
+        &FOUR_ROWS,
+        "
+        6, 11   | refused 11 0
+        6, 12   | refused 12 0
+        7, 13   | refused 11 0
+        7, 14   | planned 1 7
+        8, 15   | refused 11 0
+        8, 16   | planned 1 7
+        7, 5120 | planned 1 7
+        ",
+    );
+    expect_answers(
+        "nesting 1",
+        &EXAMPLE_A,
+        "
+        93, 278   | refused 11 0
+        93, 279   | refused 12 0
+        93, 5120  | refused 12 0
+        94, 281   | refused 11 0
+        94, 282   | planned 4 94
+        95, 284   | refused 11 0
+        95, 285   | planned 4 94
+        512, 5120 | planned 4 94
+        ",
+    );
+    expect_answers(
+        "nesting 8, whiles",
+        &nested(0, 8),
+        "
+        334, 3339 | refused 11 0
+        334, 3340 | refused 12 0
+        335, 3349 | refused 11 0
+        335, 3350 | planned 25 335
+        ",
+    );
+    expect_answers(
+        "nesting 8, ifs",
+        &nested(8, 0),
+        "
+        62, 619 | refused 11 0
+        62, 620 | refused 12 0
+        63, 629 | refused 11 0
+        63, 630 | planned 1 63
+        ",
+    );
+}
+
+/// Room 0 needs no scratch, and no list fits.
+#[test]
+fn no_room() {
+    expect_answers("nesting 0", &FOUR_ROWS, "0, 0 | refused 12 0");
+    expect_answers("nesting 1", &EXAMPLE_A, "0, 0 | refused 12 0");
+    expect_answers("nesting 8", &nested(0, 8), "0, 0 | refused 12 0");
+    expect_answers("with scratch", &FOUR_ROWS, "0, 9 | refused 12 0");
+    expect_answers("no scratch", &FOUR_ROWS, "1, 0 | refused 11 0");
+}
+
+/// Past 16,384 words of a buffer, room stays 16,384: scratch 32,768, 49,152 and
+/// 163,840.
+#[test]
+fn long_buffers() {
+    expect_answers(
+        "nesting 0",
+        &FOUR_ROWS,
+        "
+        16383, 32765 | refused 11 0
+        16383, 32766 | planned 1 7
+        16384, 32767 | refused 11 0
+        16384, 32768 | planned 1 7
+        16385, 32767 | refused 11 0
+        16385, 32768 | planned 1 7
+        20000, 32767 | refused 11 0
+        20000, 32768 | planned 1 7
+        ",
+    );
+    expect_answers(
+        "nesting 1",
+        &EXAMPLE_A,
+        "
+        20000, 49151 | refused 11 0
+        20000, 49152 | planned 4 94
+        ",
+    );
+    expect_answers(
+        "nesting 8",
+        &nested(0, 8),
+        "
+        20000, 163839 | refused 11 0
+        20000, 163840 | planned 25 335
+        ",
+    );
+}
+
+/// The longest list that fits. An if with skip in both parts makes 6 + 2 * q
+/// words of q: ten of them make 1024 * (q + 6) - 6, which is 16,378 for q = 10.
+/// With implies, the precondition, the trailer and the count: 16,378 + 1 + 1 +
+/// 3 + 1 = 16,384. A longer precondition is one too many, in a longer buffer
+/// too. Forty ifs would make a list of more than 2 to the 42nd words.
+#[test]
+fn the_longest_list() {
+    let ifs = |start: Script, count: usize| start.in_if().repeated(count - 1, Script::then_if);
+    expect_answers(
+        "ten ifs before a postcondition of 10 words",
+        &ifs(Script::skip(), 10).before(9),
+        "
+        16384, 49152 | planned 1 16384
+        20000, 49152 | planned 1 16384
+        16383, 49149 | refused 12 0
+        16384, 49151 | refused 11 0
+        ",
+    );
+    expect_answers(
+        "the same with a precondition of two words",
+        &ifs(Script::skip_after_not(), 10).before(9),
+        "
+        16384, 49152 | refused 12 0
+        20000, 49152 | refused 12 0
+        ",
+    );
+    expect_answers(
+        "forty ifs",
+        &ifs(Script::skip(), 40).rows(),
+        "
+        16384, 49152 | refused 12 0
+        20000, 49152 | refused 12 0
+        ",
+    );
+}
+
+/// The table's own refusals come before 11 and 12.
+#[test]
+fn the_order_of_refusals() {
+    let nine = nested(0, 9);
+    expect_answers("no scratch", &nine, "512, 0 | refused 10 0");
+    expect_answers("no room", &nine, "0, 0 | refused 10 0");
+    expect_answers("long buffers", &nine, "20000, 170000 | refused 10 0");
+    expect_answers("no words, no room", &[], "0, 0 | refused 1 0");
+    expect_answers("no words, long buffers", &[], "20000, 170000 | refused 1 0");
+    let three_words = &nine[0][..3];
+    expect("three words", three_words, 512, 0, refused(1, 0));
+    let mut more = nine;
+    more.resize(256, [0; 4]);
+    expect_answers(
+        "49 rows, then rows of no kind",
+        &more,
+        "0, 0 | refused 2 49",
+    );
+}
+
+#[test]
+fn the_lists_of_the_trial_rows() {
+    expect_list("example A", &EXAMPLE_A, EXAMPLE_A_LIST);
+    expect_list("four rows", &FOUR_ROWS, "25 16 16 4 3 3 1");
+}
+
+/// Loops in branches, in sequence and in loops, with empty bodies.
+#[test]
+fn loops() {
+    // if true then while true do skip (true, 0) else while false do skip (true, 1): then's
+    // conditions first
+    expect_list(
+        "in branches",
+        &rows(
+            "
+            16 0 0 0, 16 0 0 0, 16 0 0 0, 16 0 0 0, 1 0 0 0, 37 3 4 0, 32 0 0 0, 36 2 5 6,
+            17 0 0 0, 16 0 0 0, 1 1 0 0, 37 9 10 0, 32 0 0 0, 36 8 11 12, 35 1 7 13, 16 0 0 0,
+            48 0 14 15
+            ",
+        ),
+        "
+        25 23 16 22 16 16 1 7 6,
+        25 23 16 16 19 1 0 1 0 2 7 9,
+        25 23 23 16 16 20 1 0 9 7 23 16 18 1 0 9 7 3 7 17,
+        25 23 16 22 17 16 1 13 6,
+        25 23 16 17 19 1 0 1 1 2 13 9,
+        25 23 23 16 17 20 1 1 9 13 23 16 18 1 1 9 13 3 13 17,
+        25 16 23 25 16 16 25 22 16 16 4 16 10,
+        7
+        ",
+    );
+    // while false (true, 0) do skip, then while false (true, 1) do assert true: the second one's
+    // conditions first
+    expect_list(
+        "in sequence",
+        &rows(
+            "
+            16 0 0 0, 17 0 0 0, 16 0 0 0, 1 0 0 0, 37 2 3 0, 32 0 0 0, 36 1 4 5, 17 0 0 0,
+            16 0 0 0, 1 1 0 0, 37 8 9 0, 16 0 0 0, 38 11 0 0, 36 7 10 12, 34 6 13 0, 16 0 0 0,
+            48 0 14 15
+            ",
+        ),
+        "
+        25 23 16 22 17 16 1 13 6,
+        25 23 16 17 19 1 0 1 1 2 13 9,
+        25 23 23 16 17 20 1 1 9 13 23 16 23 16 18 1 1 9 13 3 13 19,
+        25 23 16 22 17 16 1 6 6,
+        25 23 16 17 19 1 0 1 0 2 6 9,
+        25 23 23 16 17 20 1 0 9 6 23 16 18 1 0 9 6 3 6 17,
+        25 16 16 4 16 3,
+        7
+        ",
+    );
+    // the outer invariant reads a frozen name; the inner invariant and variant read the outer mark;
+    // the inner exit's Q is I and V < m
+    expect_list(
+        "in a loop",
+        &rows(
+            "
+            16 0 0 0, 1 0 0 0, 2 0 0 0, 18 1 2 0, 2 0 0 0, 2 128 0 0, 19 4 5 0, 2 0 0 0, 37 6 7 0,
+            17 0 0 0, 2 0 0 0, 9 17 0 0, 20 10 11 0, 9 17 0 0, 37 12 13 0, 32 0 0 0, 36 9 14 15,
+            36 3 8 16, 17 0 0 0, 48 0 17 18
+            ",
+        ),
+        "
+        25 23 19 2 0 2 128 22 18 1 0 2 0 17 1 17 14,
+        25 23 19 2 0 2 128 18 1 0 2 0 19 1 0 2 0 2 17 17,
+        25 23 20 2 0 9 17 22 17 23 19 2 0 2 128 18 2 0 9 17 1 16 20,
+        25 23 20 2 0 9 17 17 19 1 0 9 17 2 16 13,
+        25 23 23 20 2 0 9 17 17 20 9 17 9 16 23 20 2 0 9 17 18 9 17 9 16 3 16 25,
+        25 23 23 19 2 0 2 128 18 1 0 2 0 20 2 0 9 17 20 2 0 9 17 3 17 23,
+        25 16 19 2 0 2 128 4 19 7,
+        7
+        ",
+    );
+}
+
+/// Three statements joined to the left and to the right: W, the order of the
+/// conditions and so the list are the same.
+#[test]
+fn sequences() {
+    // (x := x + 1; x := x * 2); assert x unequal 0, before x < 9: x becomes (x + 1) * 2 in both
+    expect_list(
+        "to the left",
+        &rows(
+            "
+            16 0 0 0, 2 0 0 0, 1 1 0 0, 3 1 2 0, 33 0 3 0, 2 0 0 0, 1 2 0 0, 5 5 6 0, 33 0 7 0,
+            2 0 0 0, 1 0 0 0, 21 9 10 0, 38 11 0 0, 34 4 8 0, 34 13 12 0, 2 0 0 0, 1 9 0 0,
+            18 15 16 0, 48 0 14 17
+            ",
+        ),
+        "
+        25 16 23 21 5 3 2 0 1 1 1 2 1 0 18 5 3 2 0 1 1 1 2 1 9 4 18 25,
+        1
+        ",
+    );
+    // x := x + 1; (x := x * 2; assert x unequal 0)
+    expect_list(
+        "to the right",
+        &rows(
+            "
+            16 0 0 0, 2 0 0 0, 1 1 0 0, 3 1 2 0, 33 0 3 0, 2 0 0 0, 1 2 0 0, 5 5 6 0, 33 0 7 0,
+            2 0 0 0, 1 0 0 0, 21 9 10 0, 38 11 0 0, 34 8 12 0, 34 4 13 0, 2 0 0 0, 1 9 0 0,
+            18 15 16 0, 48 0 14 17
+            ",
+        ),
+        "
+        25 16 23 21 5 3 2 0 1 1 1 2 1 0 18 5 3 2 0 1 1 1 2 1 9 4 18 25,
+        1
+        ",
+    );
+    // three loops at rows 6, 12 and 18; Q of each exit is the invariant of the next: true, false,
+    // true
+    expect_list(
+        "loops to the left",
+        &rows(
+            "
+            16 0 0 0, 16 0 0 0, 16 0 0 0, 1 1 0 0, 37 2 3 0, 32 0 0 0, 36 1 4 5, 16 0 0 0,
+            17 0 0 0, 1 2 0 0, 37 8 9 0, 32 0 0 0, 36 7 10 11, 17 0 0 0, 16 0 0 0, 1 3 0 0,
+            37 14 15 0, 32 0 0 0, 36 13 16 17, 34 6 12 0, 34 19 18 0, 17 0 0 0, 48 0 20 21
+            ",
+        ),
+        "
+        25 23 16 22 17 17 1 18 6,
+        25 23 16 17 19 1 0 1 3 2 18 9,
+        25 23 23 16 17 20 1 3 9 18 23 16 18 1 3 9 18 3 18 17,
+        25 23 17 22 16 16 1 12 6,
+        25 23 17 16 19 1 0 1 2 2 12 9,
+        25 23 23 17 16 20 1 2 9 12 23 17 18 1 2 9 12 3 12 17,
+        25 23 16 22 16 17 1 6 6,
+        25 23 16 16 19 1 0 1 1 2 6 9,
+        25 23 23 16 16 20 1 1 9 6 23 16 18 1 1 9 6 3 6 17,
+        25 16 16 4 22 3,
+        10
+        ",
+    );
+    // the same, joined the other way
+    expect_list(
+        "loops to the right",
+        &rows(
+            "
+            16 0 0 0, 16 0 0 0, 16 0 0 0, 1 1 0 0, 37 2 3 0, 32 0 0 0, 36 1 4 5, 16 0 0 0,
+            17 0 0 0, 1 2 0 0, 37 8 9 0, 32 0 0 0, 36 7 10 11, 17 0 0 0, 16 0 0 0, 1 3 0 0,
+            37 14 15 0, 32 0 0 0, 36 13 16 17, 34 12 18 0, 34 6 19 0, 17 0 0 0, 48 0 20 21
+            ",
+        ),
+        "
+        25 23 16 22 17 17 1 18 6,
+        25 23 16 17 19 1 0 1 3 2 18 9,
+        25 23 23 16 17 20 1 3 9 18 23 16 18 1 3 9 18 3 18 17,
+        25 23 17 22 16 16 1 12 6,
+        25 23 17 16 19 1 0 1 2 2 12 9,
+        25 23 23 17 16 20 1 2 9 12 23 17 18 1 2 9 12 3 12 17,
+        25 23 16 22 16 17 1 6 6,
+        25 23 16 16 19 1 0 1 1 2 6 9,
+        25 23 23 16 16 20 1 1 9 6 23 16 18 1 1 9 6 3 6 17,
+        25 16 16 4 22 3,
+        10
+        ",
+    );
+}
+
+/// Substitution all at once, in branches and under choose; a row of every kind.
+#[test]
+fn expressions() {
+    // if x < 0 then x := -x else skip, before 0 at most x
+    expect_list(
+        "assigned in a branch",
+        &rows(
+            "
+            16 0 0 0, 2 0 0 0, 1 0 0 0, 18 1 2 0, 2 0 0 0, 8 4 0 0, 33 0 5 0, 32 0 0 0, 35 3 6 7,
+            1 0 0 0, 2 0 0 0, 19 9 10 0, 48 0 8 11
+            ",
+        ),
+        "
+        25 16 23 25 18 2 0 1 0 19 1 0 8 2 0 25 22 18 2 0 1 0 19 1 0 2 0 4 12 27,
+        1
+        ",
+    );
+    // x := x + 1; y := x, before choose(x < 5, x, y) = x: each x becomes x + 1 once, and y too
+    expect_list(
+        "choose",
+        &rows(
+            "
+            16 0 0 0, 2 0 0 0, 1 1 0 0, 3 1 2 0, 33 0 3 0, 2 0 0 0, 33 1 5 0, 34 4 6 0, 2 0 0 0,
+            1 5 0 0, 18 8 9 0, 2 0 0 0, 2 1 0 0, 10 10 11 12, 2 0 0 0, 20 13 14 0, 48 0 7 15
+            ",
+        ),
+        "
+        25 16 20 10 18 3 2 0 1 1 1 5 3 2 0 1 1 3 2 0 1 1 3 2 0 1 1 4 16 27,
+        1
+        ",
+    );
+    // a loop in a branch of a loop, with assertions, both marks, a frozen name, and every kind of
+    // row
+    expect_list(
+        "every kind",
+        &EVERY_KIND,
+        "
+        25 23 20 2 0 2 0 22 24 17 22 18 2 0 1 3 20 2 255 1 0 1 52 21,
+        25 23 20 2 0 2 0 24 17 22 18 2 0 1 3 19 1 0 10 19 2 0 1 5 3 2 0 2 1 5 2 0 1 2 2 52 34,
+        25 23 19 9 52 2 128 22 16 23 20 2 0 2 0 18 10 19 2 0 1 5 3 2 0 2 1 5 2 0 1 2 9 52 1 48 34,
+        25 23 19 9 52 2 128 16 19 1 0 8 2 1 2 48 14,
+        25 23 23 19 9 52 2 128 16 20 8 2 1 9 48 23 20 9 48 9 52 23 19 9 52 2 128 18 8 7 6 2 0 1 2
+          1 3 9 48 3 48 39,
+        25 23 23 20 2 0 2 0 24 17 22 18 2 0 1 3 20 10 19 2 0 1 5 3 2 0 2 1 5 2 0 1 2 9 52 23 21 9
+          52 2 0 23 25 23 16 25 16 17 19 9 52 2 128 25 22 23 16 25 16 17 23 20 2 0 2 0 18 10 19 2 0
+          1 5 3 2 0 2 1 5 2 0 1 2 9 52 3 52 85,
+        25 16 20 2 0 2 0 4 61 7,
+        7
+        ",
+    );
+}
+
+/// Constants at their limits: main of row 5, 7 words, and a count of 1.
+#[test]
+fn constants() {
+    expect_list(
+        "constants",
+        &rows("1 -2147483648 0 0, 1 2147483647 0 0, 20 0 1 0, 32 0 0 0, 16 0 0 0, 48 2 3 4"),
+        "25 20 1 -2147483648 1 2147483647 16 4 5 7, 1",
+    );
+}

@@ -1,0 +1,109 @@
+//! The reader that keeps the words and its place and walks back. The lists are
+//! those of document 01, example A's and that of the four trial rows, each
+//! whole and torn.
+
+mod common;
+
+use common::{numbers, EXAMPLE_A_LIST};
+use leqwarti::entries::{first_place, step, Line};
+
+/// What a step reads, as the program writes it: name, row and formula words of
+/// the condition, or the number of the refusal.
+fn told(words: &[i32], line: Line) -> String {
+    if line.number != 0 {
+        return format!("refused {}", line.number);
+    }
+    let name = ["exit", "floor", "step", "main"][line.kind - 1];
+    let formula: String = words[line.start..line.end]
+        .iter()
+        .map(|word| format!(" {word}"))
+        .collect();
+    format!("{name} {}{formula}", line.row)
+}
+
+/// What the first steps of a new reader read.
+fn walk(words: &[i32], steps: usize) -> Vec<String> {
+    let mut place = first_place(words);
+    (0..steps)
+        .map(|_| told(words, step(words, &mut place)))
+        .collect()
+}
+
+/// The conditions as document 01 prints them.
+const EXIT: &str = "exit 15 25 23 19 1 0 2 0 22 18 1 0 2 0 20 2 0 1 0";
+const FLOOR: &str = "floor 15 25 23 19 1 0 2 0 18 1 0 2 0 19 1 0 2 0";
+const STEP: &str = "step 15 25 23 23 19 1 0 2 0 18 1 0 2 0 20 2 0 9 15 \
+                    23 19 1 0 4 2 0 1 1 18 4 2 0 1 1 9 15";
+const MAIN: &str = "main 19 25 19 1 0 2 0 19 1 0 2 0";
+
+const TORN: &str = "refused 20";
+const PAST_THE_FIRST: &str = "refused 21";
+
+#[test]
+fn the_last_condition_first_and_two_steps_past_the_first() {
+    let wanted = [MAIN, STEP, FLOOR, EXIT, PAST_THE_FIRST, PAST_THE_FIRST];
+    assert_eq!(walk(&numbers(EXAMPLE_A_LIST), 6), wanted);
+}
+
+#[test]
+fn the_step_after_n_others() {
+    let list = numbers(EXAMPLE_A_LIST);
+    for (others, wanted) in [(3, EXIT), (4, PAST_THE_FIRST), (1_000, PAST_THE_FIRST)] {
+        let last = walk(&list, others + 1).pop();
+        assert_eq!(last.as_deref(), Some(wanted), "after {others} others");
+    }
+}
+
+/// The line that ends at a place, and the place moved back before it; at the
+/// front and inside a line the place stays.
+#[test]
+fn the_step_from_a_place() {
+    let list = numbers(EXAMPLE_A_LIST);
+    for (place, wanted, moved_to) in [
+        (93, MAIN, 79),
+        (79, STEP, 41),
+        (41, FLOOR, 21),
+        (21, EXIT, 0),
+        (0, PAST_THE_FIRST, 0),
+        (20, TORN, 20),
+    ] {
+        let mut at = place;
+        let line = step(&list, &mut at);
+        assert_eq!(told(&list, line), wanted, "from {place}");
+        assert_eq!(at, moved_to, "from {place}");
+    }
+}
+
+/// Where a step refuses, its formula is the empty part at the front.
+#[test]
+fn the_formula_of_the_step_from_a_place() {
+    let list = numbers(EXAMPLE_A_LIST);
+    for (place, wanted) in [(21, 0..18), (20, 0..0)] {
+        let line = step(&list, &mut place.clone());
+        assert_eq!(line.start..line.end, wanted, "from {place}");
+    }
+}
+
+#[test]
+fn torn_lists_at_every_step() {
+    let with_count = |count| {
+        let mut list = numbers(EXAMPLE_A_LIST);
+        list[93] = count;
+        list
+    };
+    for (name, list, steps) in [
+        ("example A with the count 5", with_count(5), 3),
+        ("example A with a negative count", with_count(-4), 2),
+        ("a kind that is none", vec![25, 16, 16, 5, 3, 3, 1], 2),
+        ("a wrong length", vec![25, 16, 16, 4, 3, 2, 1], 2),
+        ("one word", vec![1], 2),
+    ] {
+        assert_eq!(walk(&list, steps), vec![TORN; steps], "{name}");
+    }
+}
+
+#[test]
+fn seven_words() {
+    let wanted = ["main 3 25 16 16", PAST_THE_FIRST, PAST_THE_FIRST];
+    assert_eq!(walk(&[25, 16, 16, 4, 3, 3, 1], 3), wanted);
+}
