@@ -1,8 +1,11 @@
 -- where an expression or a formula ends
 mod Opening
 mod Parts
+mod Least
+mod Cutting
 mod Joining
 mod Reading
+mod Lending
 mod Waiting
 mod NodeKinds
 -- the line that ends at a place

@@ -2,8 +2,10 @@
 
 use script::kinds;
 ghost use mathlib.Core.Path.{_≡_};
+ghost use mathlib.Core.Bool.{cond};
+ghost use Prim.Native.Nat.{_-_};
 ghost use lib.IntN.{ℤ, pos};
-ghost use lib.Dec.{ltb};
+ghost use lib.Dec.{ltb, leb};
 ghost use lib.ListN.{getD};
 ghost use Rattle.script.specs.Rows.{field-number, row-of};
 ghost use Rattle.script.specs.Listing.{spelled};
@@ -119,6 +121,20 @@ fn number_end(words: &[i32], at: usize) -> usize
     }
 }
 
+// How many words stand before the last ones.
+fn all_but(last: usize, length: usize) -> usize
+    ensures { λ r. ⌜ r ≡ length - last ⌝ }
+{
+    if length < last { 0 } else { length - last }
+}
+
+// An end that is within the room; past it, one word past the end of all.
+fn end_within(room: usize, end: usize, past: usize) -> usize
+    ensures { λ r. ⌜ r ≡ cond (leb end room) end past ⌝ }
+{
+    if end <= room { end } else { past }
+}
+
 // Where the expression that begins at a place ends; where there is none, one word past the end of all. No expression
 // begins there, so what follows a part that is missing is missing too. Parts that come after the present one wait. The words
 // are lent on as a part of themselves: lent on as they came, their place and length wait in memory at each call.
@@ -152,7 +168,8 @@ pub fn expression_end(words: &[i32], first: usize) -> usize
 }
 
 // Where the formula that begins at a place ends; where there is none, one word past the end of all. Parts that come after
-// the present one wait.
+// the present one wait. A comparison's first side is read in all the words but the last two, which the second side takes at
+// least: so the calls of the two readers nest no deeper than a pair for every four words, whatever the words are.
 pub fn formula_end(words: &[i32], first: usize) -> usize
     ensures { λ r. ⌜ Formula-ends (now (words .entry)) first r ⌝ }
 {
@@ -170,7 +187,9 @@ pub fn formula_end(words: &[i32], first: usize) -> usize
                 waiting = waiting - 1;
             }
             FormulaNode::Comparison => {
-                at = expression_end(all, expression_end(all, at + 1));
+                let room = all_but(2, all.len());
+                let middle = expression_end(&all[0..room], at + 1);
+                at = expression_end(all, end_within(room, middle, all.len() + 1));
                 if waiting == 0 {
                     return at;
                 }
