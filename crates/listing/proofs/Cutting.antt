@@ -41,27 +41,22 @@ both f k t g (beyond ys l) = reaches (omega linear) (t ys)
 
 -- ---- a formula's node is its first word's alone
 
-abbrev Alike : List Kind → List Kind → Type 0
-Alike [] [] = Unit {0}
-Alike [] (j ∷ js) = ⊥
-Alike (k ∷ ks) [] = ⊥
-Alike (k ∷ ks) (j ∷ js) = (k .number ≡ j .number) × (formula-node (k .of) ≡ formula-node (j .of)) × Alike ks js
+abbrev listed-node : ℕ → List Kind → FormulaNode
+listed-node n [] = F.Nothing
+listed-node n (k ∷ ks) = cond (eqb n (k .number)) (formula-node (k .of)) (listed-node n ks)
 
-alike : (n : ℕ) (ks js : List Kind) → Alike ks js → formula-node (listed n ks) ≡ formula-node (listed n js)
-alike n [] [] h = refl
-alike n [] (j ∷ js) h = absurd h
-alike n (k ∷ ks) [] h = absurd h
-alike n (k ∷ ks) (j ∷ js) h = rw (h .0) (go (eqb n (j .number)) (alike n ks js (h .2)))
+node-is : (n : ℕ) (ks : List Kind) → formula-node (listed n ks) ≡ listed-node n ks
+node-is n [] = refl
+node-is n (k ∷ ks) = go (eqb n (k .number)) (node-is n ks)
   where
-    go : (b : Bool) → formula-node (listed n ks) ≡ formula-node (listed n js)
-        → formula-node (cond b (k .of) (listed n ks)) ≡ formula-node (cond b (j .of) (listed n js))
-    go true q = h .1
+    go : (b : Bool) → formula-node (listed n ks) ≡ listed-node n ks
+        → formula-node (cond b (k .of) (listed n ks)) ≡ cond b (formula-node (k .of)) (listed-node n ks)
+    go true q = refl
     go false q = q
 
 formula-word : (n : ℕ) (x y : ℤ) → formula-node (row-of n x (pos 0) (pos 0)) ≡ formula-node (row-of n y (pos 0) (pos 0))
 unfolding row-of
-formula-word n x y = alike n (kinds x (pos 0) (pos 0)) (kinds y (pos 0) (pos 0))
-    (refl, refl, (refl, refl, (refl, refl, (refl, refl, (refl, refl, (refl, refl, (refl, refl, (refl, refl, (refl, refl, (refl, refl, (refl, refl, (refl, refl, (refl, refl, (refl, refl, (refl, refl, (refl, refl, (refl, refl, (refl, refl, (refl, refl, (refl, refl, (refl, refl, (refl, refl, (refl, refl, (refl, refl, (refl, refl, (refl, refl, (refl, refl, (refl, refl, tt))))))))))))))))))))))))))))
+formula-word n x y = node-is n (kinds x (pos 0) (pos 0)) ∙ sym (node-is n (kinds y (pos 0) (pos 0)))
 
 -- ---- the parts of a node, then what a node leaves
 

@@ -18,3 +18,4 @@ pub mod Places
 mod Walking
 mod Entries
 mod Fitting
+mod Telling

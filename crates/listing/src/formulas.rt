@@ -122,7 +122,7 @@ fn number_end(words: &[i32], at: usize) -> usize
 }
 
 // How many words stand before the last ones.
-fn all_but(last: usize, length: usize) -> usize
+pub fn all_but(last: usize, length: usize) -> usize
     ensures { λ r. ⌜ r ≡ length - last ⌝ }
 {
     if length < last { 0 } else { length - last }
