@@ -8,6 +8,7 @@ mod Reading
 mod Lending
 mod Waiting
 mod NodeKinds
+mod KindWords
 -- the line that ends at a place
 mod Tests
 mod Trailers

@@ -1,6 +1,6 @@
 // Where an expression or a formula ends: what a word opens, and the two readers, which call each other.
 
-use script::kinds;
+use crate::kinds;
 ghost use mathlib.Core.Path.{_≡_};
 ghost use mathlib.Core.Bool.{cond};
 ghost use Prim.Native.Nat.{_-_};
@@ -61,8 +61,8 @@ fn number_below(words: &[i32], at: usize, limit: usize) -> ExpressionNode
 }
 
 // What a kind opens as an expression, before the words from a place on.
-fn expression_node_of(kind: usize, words: &[i32], at: usize) -> ExpressionNode
-    ensures { λ r. ⌜ r ≡ expression-node (row-of kind (getD (now (words .entry)) at (pos 0)) (pos 0) (pos 0)) ⌝ }
+fn expression_node_of(kind: i32, words: &[i32], at: usize) -> ExpressionNode
+    ensures { λ r. ⌜ r ≡ expression-node (row-of (field-number kind) (getD (now (words .entry)) at (pos 0)) (pos 0) (pos 0)) ⌝ }
 {
     match kind {
         kinds::CONSTANT => ExpressionNode::Number,
@@ -76,8 +76,8 @@ fn expression_node_of(kind: usize, words: &[i32], at: usize) -> ExpressionNode
 }
 
 // What a kind opens as a formula.
-fn formula_node_of(kind: usize) -> FormulaNode
-    ensures { λ r. ⌜ ((next : ℤ) → r ≡ formula-node (row-of kind next (pos 0) (pos 0))) ⌝ }
+fn formula_node_of(kind: i32) -> FormulaNode
+    ensures { λ r. ⌜ ((next : ℤ) → r ≡ formula-node (row-of (field-number kind) next (pos 0) (pos 0))) ⌝ }
 {
     match kind {
         kinds::TRUE..=kinds::FALSE => FormulaNode::Truth,
@@ -93,7 +93,7 @@ fn expression_node_at(words: &[i32], at: usize) -> ExpressionNode
     ensures { λ r. ⌜ Opens expression-node (now (words .entry)) at r ⌝ }
 {
     if at < words.len() {
-        expression_node_of(script::field_number(words[at]), words, at + 1)
+        expression_node_of(words[at], words, at + 1)
     } else {
         ExpressionNode::Nothing
     }
@@ -104,7 +104,7 @@ fn formula_node_at(words: &[i32], at: usize) -> FormulaNode
     ensures { λ r. ⌜ Opens formula-node (now (words .entry)) at r ⌝ }
 {
     if at < words.len() {
-        formula_node_of(script::field_number(words[at]))
+        formula_node_of(words[at])
     } else {
         FormulaNode::Nothing
     }

@@ -1,6 +1,7 @@
 // The reader of finished lists, 01, "Reading a finished list": the whole list, walked from the end back, and the entries.
 
 mod formulas;
+mod kinds;
 mod lines;
 
 pub use formulas::expression_end;
