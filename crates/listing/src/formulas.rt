@@ -3,7 +3,7 @@
 use crate::kinds;
 ghost use mathlib.Core.Path.{_≡_};
 ghost use mathlib.Core.Bool.{cond};
-ghost use Prim.Native.Nat.{_-_};
+ghost use Prim.Native.Nat.{_-_, _≤_};
 ghost use lib.IntN.{ℤ, pos};
 ghost use lib.Dec.{ltb, leb};
 ghost use lib.ListN.{getD};
@@ -60,18 +60,28 @@ fn number_below(words: &[i32], at: usize, limit: usize) -> ExpressionNode
     number(script::field_number(word_at(words, at)) < limit)
 }
 
-// What a kind opens as an expression, before the words from a place on.
-fn expression_node_of(kind: i32, words: &[i32], at: usize) -> ExpressionNode
+// What a kind opens as an expression, where it is no operator, before the words from a place on.
+fn other_node_of(kind: i32, words: &[i32], at: usize) -> ExpressionNode
+    requires { ⌜ (3 ≤ field-number kind → 8 ≤ field-number kind) ⌝ }
     ensures { λ r. ⌜ r ≡ expression-node (row-of (field-number kind) (getD (now (words .entry)) at (pos 0)) (pos 0) (pos 0)) ⌝ }
 {
     match kind {
         kinds::CONSTANT => ExpressionNode::Number,
         kinds::VARIABLE => number_below(words, at, 256),
-        kinds::PLUS..=kinds::MOD => ExpressionNode::Arithmetic,
         kinds::NEGATE => ExpressionNode::Negate,
         kinds::MARK => number_below(words, at, 2048),
         kinds::CHOOSE => ExpressionNode::Choose,
         _ => ExpressionNode::Nothing,
+    }
+}
+
+// What a kind opens as an expression, before the words from a place on.
+fn expression_node_of(kind: i32, words: &[i32], at: usize) -> ExpressionNode
+    ensures { λ r. ⌜ r ≡ expression-node (row-of (field-number kind) (getD (now (words .entry)) at (pos 0)) (pos 0) (pos 0)) ⌝ }
+{
+    match kind {
+        kinds::PLUS..=kinds::MOD => ExpressionNode::Arithmetic,
+        _ => other_node_of(kind, words, at),
     }
 }
 
