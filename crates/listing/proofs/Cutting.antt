@@ -1,16 +1,14 @@
--- Words cut off at the end: what is read of those before them is what is read of all the words, where it ends before the cut; where
--- nothing is read before the cut, a part of all the words ends past it. Assumes nothing.
-use Prim.Native.Nat.{ℕ, zero, suc, _+_, _≤_, _<_}
+-- Words cut off at the end: what is read of those before them is what is read of all the words, where it ends before the
+-- cut; where nothing is read before the cut, a part of all the words ends past it. Assumes nothing.
+use Prim.Native.Nat.{ℕ, zero, suc, _+_, _<_}
 use native.Mathlib.Omega.{arith as linear}
-use mathlib.Core.Path.{_≡_, refl, sym, ap, _∙_}
+use mathlib.Core.Path.{_≡_, refl, sym, _∙_}
 use mathlib.Core.Option.{Option, none, some}
 use mathlib.Core.List.{List, [], _∷_, _++_}
 use mathlib.Core.Bool.{Bool, true, false, cond}
 use lib.IntN.{ℤ, pos}
 use lib.Dec.{eqb}
-use lib.ListN.{length, drop, getD}
-use Rattle.script.specs.declared.Row.{Row}
-use Rattle.script.specs.declared.Row.the-variants as Row
+use lib.ListN.{length, getD}
 use Rattle.script.specs.Rows.{Kind, listed, kinds, row-of, field-number}
 use Rattle.script.specs.Listing.{_>>=_}
 use Rattle.listing.specs.declared.formulas.ExpressionNode.{ExpressionNode}
@@ -20,7 +18,8 @@ use Rattle.listing.specs.declared.formulas.FormulaNode.the-variants as F
 use Rattle.listing.specs.Nodes.{expression-node, formula-node, first-row}
 use Rattle.listing.specs.Ends.{after-expression, after-formula}
 use Rattle.listing.proofs.Parts.{expression-parts, formula-parts, expression-next, formula-next}
-use Rattle.listing.proofs.Least.{Takes, nothing, leaves, too-few, expression-takes, formula-takes, no-bound-expression, no-bound-formula}
+use Rattle.listing.proofs.Least.{Takes, nothing, leaves, too-few, expression-takes, formula-takes}
+use Rattle.listing.proofs.Least.{no-bound-expression, no-bound-formula}
 
 -- what is left of some words, and what is left of them with xs behind
 pub data Cut (xs : List ℤ) : Option (List ℤ) → Option (List ℤ) → Type 0 where

@@ -1,4 +1,5 @@
--- A word that is compared with a kind, signed as it stands: what the comparisons tell of the number in its field. Assumes nothing.
+-- A word that is compared with a kind, signed as it stands: what the comparisons tell of the number in its field. Assumes
+-- nothing.
 use Prim.Native.Nat.{ℕ, suc, _≤_, _<_}
 use native.Mathlib.Omega.{arith as linear}
 use mathlib.Core.Path.{_≡_, sym, ap, _∙_}

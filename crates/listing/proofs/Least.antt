@@ -12,7 +12,7 @@ use Rattle.listing.specs.declared.formulas.ExpressionNode.the-variants a
 use Rattle.listing.specs.declared.formulas.FormulaNode.{FormulaNode}
 use Rattle.listing.specs.declared.formulas.FormulaNode.the-variants as F
 use Rattle.listing.specs.Nodes.{expression-node, formula-node, first-row}
-use Rattle.listing.specs.Ends.{past, after-expression, after-formula}
+use Rattle.listing.specs.Ends.{after-expression, after-formula}
 use Rattle.listing.proofs.Parts.{expression-parts, formula-parts, expression-next, formula-next}
 
 -- where something was read, k words at least are no longer left
@@ -43,7 +43,8 @@ both {k} f g (leaves vs h) = onward k h (g vs)
 
 -- ---- the parts of a node, then what a node takes
 
-module _ (n : ℕ) (expression : (us : List ℤ) → Takes 2 us (after-expression n us)) (formula : (us : List ℤ) → Takes 1 us (after-formula n us)) where
+module _ (n : ℕ) (expression : (us : List ℤ) → Takes 2 us (after-expression n us))
+    (formula : (us : List ℤ) → Takes 1 us (after-formula n us)) where
   expression-parts-take : (v : ExpressionNode) (us : List ℤ) → Takes 1 us (expression-parts n v us)
   expression-parts-take E.Number [] = nothing
   expression-parts-take E.Number (u ∷ us) = leaves us (omega linear)

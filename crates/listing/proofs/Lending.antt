@@ -1,5 +1,5 @@
--- The first of two expressions is read in all the words but the last two, which the second needs at least: both together end where
--- they end in all the words. Assumes nothing.
+-- The first of two expressions is read in all the words but the last two, which the second needs at least: both together
+-- end where they end in all the words. Assumes nothing.
 use Prim.Native.Nat.{ℕ, zero, suc, _+_, _-_, _≤_, _<_}
 use native.Mathlib.Omega.{arith as linear}
 use native.Mathlib.Numerals.{add-one}
@@ -74,8 +74,8 @@ module _ (ws : List ℤ) (c at e : ℕ) (inside : c ≤ length ws) where
 
 -- ---- a comparison's sides: e is where the first ends in the room, m is e or one word past the end of all
 
-module _ {ws : List ℤ} {at room e m : ℕ} {k : FormulaNode} (o : Opens formula-node ws at k) (q : k ≡ F.Comparison) (r : room ≡ length ws - 2)
-    (x : Expression-ends (take (room - 0) ws) (at + 1) e) (h : m ≡ cond (leb e room) e (length ws + 1)) where
+module _ {ws : List ℤ} {at room e m : ℕ} {k : FormulaNode} (o : Opens formula-node ws at k) (q : k ≡ F.Comparison)
+    (r : room ≡ length ws - 2) (x : Expression-ends (take (room - 0) ws) (at + 1) e) (h : m ≡ cond (leb e room) e (length ws + 1)) where
   first-lent : e ≤ room → Expression-ends ws (at + 1) e
   first-lent l = lent ws room (at + 1) e (omega linear) (rw (sub-zero room) at x) l
 
@@ -98,7 +98,7 @@ module _ {ws : List ℤ} {at room e m : ℕ} {k : FormulaNode} (o : Opens formul
       go false t j = omega linear
 
 -- the words left fall
-pub falls-within : {vs ws : List ℤ} {room begin at t : ℕ} → vs ≡ ws → room ≡ length vs - 2 → length ws - begin ≡ t → begin ≤ at → at < length ws
-    → length (take (room - 0) vs) - (at + 1) < t
+pub falls-within : {vs ws : List ℤ} {room begin at t : ℕ} → vs ≡ ws → room ≡ length vs - 2 → length ws - begin ≡ t
+    → begin ≤ at → at < length ws → length (take (room - 0) vs) - (at + 1) < t
 falls-within {vs} {ws} {room} q r h l i =
     rw (sub-zero room) (omega (linear, ap length q, length-take-le room vs (omega linear)))

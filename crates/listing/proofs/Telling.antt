@@ -1,5 +1,6 @@
--- The line that the trailer before a place tells is the line found there, where its formula starts within the words. Assumes nothing.
-use Prim.Native.Nat.{ℕ, suc, _-_, _≤_, _<_}
+-- The line that the trailer before a place tells is the line found there, where its formula starts within the words.
+-- Assumes nothing.
+use Prim.Native.Nat.{ℕ, _-_, _≤_, _<_}
 use native.Mathlib.Omega.{arith as linear}
 use mathlib.Core.Path.{_≡_, refl, sym, ap, _∙_}
 use mathlib.Core.Option.{Option, none, some}
@@ -10,7 +11,7 @@ use lib.Dec.{eqb, ltb}
 use lib.ListN.{length, getD}
 use borrow.Author.Tests.{le-leb, lt-leb, ltb-true, ltb-false}
 use Rattle.script.specs.declared.Line.{Line}
-use Rattle.script.specs.Listing.{Found, found, line-before, line, no-line, step-back}
+use Rattle.script.specs.Listing.{Found, line-before, line, no-line, step-back}
 use Rattle.listing.specs.Lines.{is-line, answer, start-of, trailer-line, line-told}
 use Rattle.listing.proofs.Trailers.{told, found-answer}
 use Rattle.listing.proofs.Stepping.{and-false, line-inside, line-short, line-long, step-answer}
@@ -63,7 +64,8 @@ module _ (ws : List ℤ) (e : ℕ) where
       go (some f) i h = let fit = line-fits ws e f i in absurd (omega (linear, fit .ordered, fit .within))
 
   -- the line that is found, with the line that its trailer tells
-  found-told : {s : ℕ} → s ≡ start-of ws (line-before ws e) → s ≤ length ws → (f : Found) × (line-before ws e ≡ some f) × (line f ≡ line-told ws e)
+  found-told : {s : ℕ} → s ≡ start-of ws (line-before ws e) → s ≤ length ws
+      → (f : Found) × (line-before ws e ≡ some f) × (line f ≡ line-told ws e)
   found-told {s} q l = go (line-before ws e) refl q answer-told
     where
       go : (o : Option Found) → line-before ws e ≡ o → s ≡ start-of ws o → (answer o .number ≡ 0 → answer o ≡ line-told ws e)
@@ -86,5 +88,6 @@ module _ (ws : List ℤ) (e : ℕ) where
       → walk ws i (line-told ws p) n e ≡ walk ws i (line-told ws m) (n - 1) s
   walk-told i n p {s} {m} h q l v = let t = found-told q l in go (t .0) (t .1) (t .2)
     where
-      go : (f : Found) → line-before ws e ≡ some f → line f ≡ line-told ws e → walk ws i (line-told ws p) n e ≡ walk ws i (line-told ws m) (n - 1) s
+      go : (f : Found) → line-before ws e ≡ some f → line f ≡ line-told ws e
+          → walk ws i (line-told ws p) n e ≡ walk ws i (line-told ws m) (n - 1) s
       go f j t = step ws i (line-told ws p) e n f h j ∙ rw (t, chosen-told, ← v, q, j)

@@ -75,7 +75,7 @@ fn other_node_of(kind: i32, words: &[i32], at: usize) -> ExpressionNode
     }
 }
 
-// What a kind opens as an expression, before the words from a place on.
+// What a kind opens as an expression, before the words from a place on. An operator is told first, by one comparison.
 fn expression_node_of(kind: i32, words: &[i32], at: usize) -> ExpressionNode
     ensures { λ r. ⌜ r ≡ expression-node (row-of (field-number kind) (getD (now (words .entry)) at (pos 0)) (pos 0) (pos 0)) ⌝ }
 {

@@ -10,7 +10,8 @@ returns : tie.Need-returns
 returns c =
     let read = c .before in
     let a = read .before .before .args in
-    opened (a .words .now) (a .at) (read .before .if1 .taken) (back (read .expression-node-of-arg .given)) (c .expression-node-of .ensures)
+    opened (a .words .now) (a .at) (read .before .if1 .taken) (back (read .expression-node-of-arg .given))
+    (c .expression-node-of .ensures)
 
 returns-2 : tie.Need-returns-2
 returns-2 c = closed (c .before .args .words .now) (c .before .args .at) (c .if1 .left) expression-node

@@ -13,7 +13,8 @@ returns : tie.Need-returns
 returns c =
     let read = c .before in
     let a = read .before .before .args in
-    opened (a .words .now) (a .at) (read .before .if1 .taken) (back (read .formula-node-of-arg .given)) (c .formula-node-of .ensures (getD (a .words .now) (a .at + 1) (pos 0)))
+    opened (a .words .now) (a .at) (read .before .if1 .taken) (back (read .formula-node-of-arg .given))
+    (c .formula-node-of .ensures (getD (a .words .now) (a .at + 1) (pos 0)))
 
 returns-2 : tie.Need-returns-2
 returns-2 c = closed (c .before .args .words .now) (c .before .args .at) (c .if1 .left) formula-node
