@@ -45,7 +45,7 @@ answer-fits ws e = go (ltb e 3) refl (ltb (length ws) e) refl
         rw (line-inside ws e s l)
         (found-fits ws (e - 3) (getD ws (e - 3) (pos 0)) (getD ws (e - 2) (pos 0)) (getD ws (e - 1) (pos 0)) (omega linear))
 
-line-fits : (ws : List ℤ) (e : ℕ) (f : Found) → line-before ws e ≡ some f → Fits ws (line f)
+pub line-fits : (ws : List ℤ) (e : ℕ) (f : Found) → line-before ws e ≡ some f → Fits ws (line f)
 line-fits ws e f q = rw q at (answer-fits ws e)
 
 -- ---- the walk

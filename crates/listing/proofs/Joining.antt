@@ -73,7 +73,7 @@ place-is : {ws : List ℤ} {at e : ℕ} {o : Option (List ℤ)} → Ends ws at e
 place-is (nowhere h) = h
 place-is {ws} {at} {e} (here h l m) = rw (h, length-drop) (omega linear)
 
-expression-ends : (ws : List ℤ) (at e : ℕ) → Reads after-expression ws at e → Expression-ends ws at e
+pub expression-ends : (ws : List ℤ) (at e : ℕ) → Reads after-expression ws at e → Expression-ends ws at e
 unfolding expression-end
 expression-ends ws at e f = record { is = place-is (f (length ws) (omega linear)); reads = f }
 

@@ -1,10 +1,14 @@
 -- where an expression or a formula ends
 mod Opening
 mod Parts
+mod Least
+mod Cutting
 mod Joining
 mod Reading
+mod Lending
 mod Waiting
 mod NodeKinds
+mod KindWords
 -- the line that ends at a place
 mod Tests
 mod Trailers
@@ -15,3 +19,4 @@ pub mod Places
 mod Walking
 mod Entries
 mod Fitting
+mod Telling

@@ -15,9 +15,9 @@ use Rattle.listing.specs.Nodes.{first-row, Opens}
 use Rattle.listing.specs.Ends.{nowhere, here, Number-ends}
 
 module _ (ws : List ℤ) (at : ℕ) (l : at < length ws) where
-  pub opened : {K : Type 0} {node : Row → K} {n : ℕ} {x : ℤ} {k : K} → n ≡ field-number x → x ≡ getD ws at (pos 0)
-      → k ≡ node (row-of n (getD ws (at + 1) (pos 0)) (pos 0) (pos 0)) → Opens node ws at k
-  opened hn hx hk = record { is = rw (hk, hn, hx, add-one, drop-cons ws at (pos 0) l, getD-drop, add-zero) }
+  pub opened : {K : Type 0} {node : Row → K} {x : ℤ} {k : K} → x ≡ getD ws at (pos 0)
+      → k ≡ node (row-of (field-number x) (getD ws (at + 1) (pos 0)) (pos 0) (pos 0)) → Opens node ws at k
+  opened hx hk = record { is = rw (hk, hx, add-one, drop-cons ws at (pos 0) l, getD-drop, add-zero) }
 
   pub number-inside : Number-ends ws at (at + 1)
   number-inside = rw (drop-cons ws at (pos 0) l) (here (ap (λ (n : ℕ). drop n ws) (sym (add-one at))) (omega linear) (omega linear))

@@ -1,5 +1,6 @@
 -- The line before a place, by where the place is. Assumes nothing.
-use Prim.Native.Nat.{ℕ, zero, suc, _-_, _≤_, _<_}
+use Prim.Native.Nat.{ℕ, zero, suc, _+_, _-_, _≤_, _<_}
+use native.Mathlib.Numerals.{add-one}
 use mathlib.Core.Path.{_≡_, refl, sym, ap, _∙_}
 use mathlib.Core.Option.{none}
 use mathlib.Core.List.{List}
@@ -7,16 +8,15 @@ use mathlib.Core.Bool.{Bool, true, false, _&&_}
 use lib.IntN.{ℤ, pos}
 use lib.ListN.{length, getD}
 use borrow.Author.Tests.{le-leb, lt-leb}
-use Rattle.script.specs.declared.Line.{Line}
 use Rattle.script.specs.Listing.{found, line-before, step-back, no-line}
-use Rattle.listing.specs.Lines.{answer}
+use Rattle.listing.specs.Lines.{answer, start-of}
 
 pub step-answer : (ws : List ℤ) (e : ℕ) → (e ≡ 0 → ⊥) → step-back ws e ≡ answer (line-before ws e)
 unfolding step-back
 step-answer ws zero h = absurd (h refl)
 step-answer ws (suc e) h = refl
 
-and-false : (b : Bool) → b && false ≡ false
+pub and-false : (b : Bool) → b && false ≡ false
 and-false true = refl
 and-false false = refl
 
@@ -41,6 +41,9 @@ module _ (ws : List ℤ) (e : ℕ) where
   pub step-none : (e ≡ 0 → ⊥) → line-before ws e ≡ none → no-line 20 ≡ step-back ws e
   step-none h q = sym (step-answer ws e h ∙ ap answer q)
 
-  pub step-read : {k r n : ℤ} {l : Line} → (e ≡ 0 → ⊥) → 3 ≤ e → e ≤ length ws → k ≡ getD ws (e - 3) (pos 0) → r ≡ getD ws (e - 2) (pos 0)
-      → n ≡ getD ws (e - 1) (pos 0) → l ≡ answer (found ws (e - 3) k r n) → l ≡ step-back ws e
-  step-read h s t p q v w = rw (w, p, q, v, ← line-inside s t) (sym (step-answer ws e h))
+  pub start-read : {k r n : ℤ} {s : ℕ} → 3 ≤ e → e ≤ length ws → k ≡ getD ws (e - 3) (pos 0) → r ≡ getD ws (e - 2) (pos 0)
+      → n ≡ getD ws (e - 1) (pos 0) → s ≡ start-of ws (found ws (e - 3) k r n) → s ≡ start-of ws (line-before ws e)
+  start-read h l p q v w = rw (w, p, q, v, ← line-inside h l)
+
+  pub start-none : line-before ws e ≡ none → length ws + 1 ≡ start-of ws (line-before ws e)
+  start-none q = rw q (add-one (length ws))

@@ -1,11 +1,13 @@
 -- The line of a trailer: what the tests of a trailer say, and that the line found is told by them. Assumes nothing.
-use Prim.Native.Nat.{ℕ, suc, _-_, _≤_}
+use Prim.Native.Nat.{ℕ, suc, _+_, _-_, _≤_}
 use native.Mathlib.Omega.{arith as linear}
+use native.Mathlib.Numerals.{add-one}
 use mathlib.Core.Path.{_≡_, refl, sym, ap, _∙_}
 use mathlib.Core.Option.{Option, none, some}
 use mathlib.Core.List.{List}
 use mathlib.Core.Bool.{Bool, true, false, _&&_}
 use lib.IntN.{ℤ}
+use lib.ListN.{length}
 use lib.Seq.{slice}
 use Rattle.script.specs.declared.Rule.{Rule}
 use Rattle.script.specs.declared.Line.{Line}
@@ -14,7 +16,7 @@ use Rattle.script.specs.Conditions.{condition}
 use Rattle.script.specs.Words.{rule-number}
 use Rattle.script.specs.Rows.{field-number}
 use Rattle.script.specs.Listing.{_>>=_, Found, spelled, rule-of, below, row-limit, found, no-line}
-use Rattle.listing.specs.Lines.{is-some, is-line, answer}
+use Rattle.listing.specs.Lines.{is-some, is-line, answer, start-of, trailer-line}
 use Rattle.listing.proofs.Tests.{rule-is, below-is, below-most}
 
 -- what is found of a trailer after a formula that ends at e
@@ -23,7 +25,7 @@ line-found e rule row size claim = record { condition = condition rule row claim
 
 -- the line with the trailer k, r, n after a formula that ends at e, where its tests hold
 abbrev pub told : ℕ → ℤ → ℤ → ℤ → Bool → Line
-told e k r n true = record { number = 0; kind = field-number k; row = field-number r; start = e - field-number n; end = e }
+told e k r n true = trailer-line e k r n
 told e k r n false = no-line 20
 
 module _ (ws : List ℤ) (e : ℕ) (k r n : ℤ) where
@@ -46,8 +48,12 @@ module _ (ws : List ℤ) (e : ℕ) (k r n : ℤ) where
       assembled (rule-of (field-number k)) (below row-limit r) (below (suc e) n) (λ size. spelled (slice (e - size) e ws)) (rule-is (field-number k))
       (below-is row-limit r) (below-is (suc e) n)
 
-  pub line-missing : is-line ws e k r n ≡ false → no-line 20 ≡ answer (found ws e k r n)
-  line-missing h = sym (found-answer ∙ ap (told e k r n) h)
+  pub start-missing : is-line ws e k r n ≡ false → length ws + 1 ≡ start-of ws (found ws e k r n)
+  start-missing h = go (found ws e k r n) (found-answer ∙ ap (told e k r n) h)
+    where
+      go : (o : Option Found) → answer o ≡ no-line 20 → length ws + 1 ≡ start-of ws o
+      go none q = add-one (length ws)
+      go (some f) q = absurd (omega (linear, ap (λ (l : Line). l .number) q))
 
 third : (a b c d : Bool) → a && (b && (c && d)) ≡ true → c ≡ true
 third true true true d q = refl
@@ -56,9 +62,12 @@ third true false c d q = let z : _≡_ {A = ℕ} 0 1 = cc in absurd (omega linea
 third false b c d q = let z : _≡_ {A = ℕ} 0 1 = cc in absurd (omega linear)
 
 module _ (ws : List ℤ) (e : ℕ) (k r n : ℤ) (h : is-line ws e k r n ≡ true) where
-  pub line-stands : {k′ r′ n′ : ℕ} → k′ ≡ field-number k → r′ ≡ field-number r → n′ ≡ field-number n
-      → record { number = 0; kind = k′; row = r′; start = e - n′; end = e } ≡ answer (found ws e k r n)
-  line-stands p q s = rw (p, q, s, found-answer ws e k r n, h)
+  pub start-stands : {n′ : ℕ} → n′ ≡ field-number n → e - n′ ≡ start-of ws (found ws e k r n)
+  start-stands s = rw s (go (found ws e k r n) (found-answer ws e k r n ∙ ap (told e k r n) h))
+    where
+      go : (o : Option Found) → answer o ≡ trailer-line e k r n → e - field-number n ≡ start-of ws o
+      go none q = absurd (omega (linear, ap (λ (l : Line). l .number) q))
+      go (some f) q = sym (ap (λ (l : Line). l .start) q)
 
   pub size-fits : {n′ : ℕ} → n′ ≡ field-number n → n′ ≤ e
   unfolding is-line

@@ -10,9 +10,8 @@ use lib.IntN.{ℤ, pos}
 use lib.Dec.{eqb, eqb·zero-suc, eqb·suc-suc}
 use lib.ListN.{length, getElem?, length-append}
 use Rattle.script.specs.declared.Line.{Line}
-use Rattle.script.specs.Listing.{_>>=_, Found, line-before, lines-before, step-back, line, no-line}
-use Rattle.listing.specs.Lines.{answer, line-among}
-use Rattle.listing.proofs.Stepping.{line-short}
+use Rattle.script.specs.Listing.{_>>=_, Found, line-before, lines-before, line, no-line}
+use Rattle.listing.specs.Lines.{line-among}
 
 -- ---- the walk: n lines end at e, the line at the index i is looked for, kept is what was found of it so far
 
@@ -25,27 +24,6 @@ walk ws i kept zero zero = kept
 walk ws i kept zero (suc e) = no-line 20
 walk ws i kept (suc n) e = walk-on (line-before ws e) λ f. walk ws i (cond (eqb n i) (line f) kept) n (f .start)
 
--- ---- what a step back tells
-
-stepped : (ws : List ℤ) (e : ℕ) → step-back ws e .number ≡ 0 → (f : Found) × (line-before ws e ≡ some f) × (step-back ws e ≡ line f)
-unfolding step-back
-stepped ws zero h = absurd (omega linear)
-stepped ws (suc e) h = go (line-before ws (suc e)) refl h
-  where
-    go : (o : Option Found) → line-before ws (suc e) ≡ o → answer o .number ≡ 0
-        → (f : Found) × (line-before ws (suc e) ≡ some f) × (answer o ≡ line f)
-    go none q z = absurd (omega linear)
-    go (some f) q z = (f, q, refl)
-
-refused : (ws : List ℤ) (e : ℕ) → (step-back ws e .number ≡ 0 → ⊥) → line-before ws e ≡ none
-unfolding step-back
-refused ws zero h = line-short ws zero (omega linear)
-refused ws (suc e) h = go (line-before ws (suc e)) refl h
-  where
-    go : (o : Option Found) → line-before ws (suc e) ≡ o → (answer o .number ≡ 0 → ⊥) → line-before ws (suc e) ≡ none
-    go none q z = q
-    go (some f) q z = absurd (z refl)
-
 -- ---- the steps of the walk, in the order of the code
 
 module _ (ws : List ℤ) (i : ℕ) (kept : Line) (e : ℕ) where
@@ -57,17 +35,16 @@ module _ (ws : List ℤ) (i : ℕ) (kept : Line) (e : ℕ) where
   unfolding walk
   walk-turn n f q = rw q
 
-  pub malformed-step : (n : ℕ) {l : Line} → 0 < n → l ≡ step-back ws e → (l .number ≡ 0 → ⊥) → walk ws i kept n e ≡ no-line 20
-  malformed-step zero h q z = absurd (omega linear)
-  malformed-step (suc n) h q z = walk-malformed n (refused ws e λ y. z (ap (λ (l : Line). l .number) q ∙ y))
+  pub malformed-step : (n : ℕ) → 0 < n → line-before ws e ≡ none → walk ws i kept n e ≡ no-line 20
+  malformed-step zero h q = absurd (omega linear)
+  malformed-step (suc n) h q = walk-malformed n q
 
-  pub step : (n : ℕ) {l : Line} → 0 < n → l ≡ step-back ws e → l .number ≡ 0
-      → walk ws i kept n e ≡ walk ws i (cond (eqb (n - 1) i) l kept) (n - 1) (l .start)
-  step zero h q z = absurd (omega linear)
-  step (suc n) {l} h q z =
-      let s = stepped ws e (sym (ap (λ (l : Line). l .number) q) ∙ z) in
+  pub step : (n : ℕ) (f : Found) → 0 < n → line-before ws e ≡ some f
+      → walk ws i kept n e ≡ walk ws i (cond (eqb (n - 1) i) (line f) kept) (n - 1) (f .start)
+  step zero f h q = absurd (omega linear)
+  step (suc n) f h q =
       let m : suc n - 1 ≡ n = omega linear in
-      rw (m, q ∙ s .2) (walk-turn n (s .0) (s .1))
+      rw m (walk-turn n f q)
 
   pub all-walked : (n : ℕ) → n ≤ 0 → e ≡ 0 → walk ws i kept n e ≡ kept
   unfolding walk

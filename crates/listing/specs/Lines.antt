@@ -26,6 +26,21 @@ is-line ws e k r n =
 abbrev pub answer : Option Found → Line
 answer o = elim o [ some f ↦ line f | none ↦ no-line 20 ]
 
+-- where the formula of what was found starts; one word past the end of all where nothing was
+abbrev pub start-of : List ℤ → Option Found → ℕ
+start-of ws o = elim o [ some f ↦ f .start | none ↦ suc (length ws) ]
+
+-- the line that the trailer k, r, n tells after a formula that ends at e
+abbrev pub trailer-line : ℕ → ℤ → ℤ → ℤ → Line
+trailer-line e k r n = record { number = 0; kind = field-number k; row = field-number r; start = e - field-number n; end = e }
+
+-- the line that the trailer before the place e tells, the formula unread; 21 where no trailer stands
+unfoldable pub line-told : List ℤ → ℕ → Line
+line-told ws e =
+    cond (leb 3 e && leb e (length ws))
+    (trailer-line (e - 3) (getD ws (e - 3) (pos 0)) (getD ws (e - 2) (pos 0)) (getD ws (e - 1) (pos 0)))
+    (no-line 21)
+
 -- where a reader goes on, from the line that it read at the place e
 abbrev pub place-after : Line → ℕ → ℕ
 place-after l e = cond (eqb (l .number) 0) (l .start) e

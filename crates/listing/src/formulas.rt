@@ -1,9 +1,11 @@
 // Where an expression or a formula ends: what a word opens, and the two readers, which call each other.
 
-use script::kinds;
+use crate::kinds;
 ghost use mathlib.Core.Path.{_≡_};
+ghost use mathlib.Core.Bool.{cond};
+ghost use Prim.Native.Nat.{_-_, _≤_};
 ghost use lib.IntN.{ℤ, pos};
-ghost use lib.Dec.{ltb};
+ghost use lib.Dec.{ltb, leb};
 ghost use lib.ListN.{getD};
 ghost use Rattle.script.specs.Rows.{field-number, row-of};
 ghost use Rattle.script.specs.Listing.{spelled};
@@ -58,14 +60,14 @@ fn number_below(words: &[i32], at: usize, limit: usize) -> ExpressionNode
     number(script::field_number(word_at(words, at)) < limit)
 }
 
-// What a kind opens as an expression, before the words from a place on.
-fn expression_node_of(kind: usize, words: &[i32], at: usize) -> ExpressionNode
-    ensures { λ r. ⌜ r ≡ expression-node (row-of kind (getD (now (words .entry)) at (pos 0)) (pos 0) (pos 0)) ⌝ }
+// What a kind opens as an expression, where it is no operator, before the words from a place on.
+fn other_node_of(kind: i32, words: &[i32], at: usize) -> ExpressionNode
+    requires { ⌜ (3 ≤ field-number kind → 8 ≤ field-number kind) ⌝ }
+    ensures { λ r. ⌜ r ≡ expression-node (row-of (field-number kind) (getD (now (words .entry)) at (pos 0)) (pos 0) (pos 0)) ⌝ }
 {
     match kind {
         kinds::CONSTANT => ExpressionNode::Number,
         kinds::VARIABLE => number_below(words, at, 256),
-        kinds::PLUS..=kinds::MOD => ExpressionNode::Arithmetic,
         kinds::NEGATE => ExpressionNode::Negate,
         kinds::MARK => number_below(words, at, 2048),
         kinds::CHOOSE => ExpressionNode::Choose,
@@ -73,9 +75,19 @@ fn expression_node_of(kind: usize, words: &[i32], at: usize) -> ExpressionNode
     }
 }
 
+// What a kind opens as an expression, before the words from a place on. An operator is told first, by one comparison.
+fn expression_node_of(kind: i32, words: &[i32], at: usize) -> ExpressionNode
+    ensures { λ r. ⌜ r ≡ expression-node (row-of (field-number kind) (getD (now (words .entry)) at (pos 0)) (pos 0) (pos 0)) ⌝ }
+{
+    match kind {
+        kinds::PLUS..=kinds::MOD => ExpressionNode::Arithmetic,
+        _ => other_node_of(kind, words, at),
+    }
+}
+
 // What a kind opens as a formula.
-fn formula_node_of(kind: usize) -> FormulaNode
-    ensures { λ r. ⌜ ((next : ℤ) → r ≡ formula-node (row-of kind next (pos 0) (pos 0))) ⌝ }
+fn formula_node_of(kind: i32) -> FormulaNode
+    ensures { λ r. ⌜ ((next : ℤ) → r ≡ formula-node (row-of (field-number kind) next (pos 0) (pos 0))) ⌝ }
 {
     match kind {
         kinds::TRUE..=kinds::FALSE => FormulaNode::Truth,
@@ -91,7 +103,7 @@ fn expression_node_at(words: &[i32], at: usize) -> ExpressionNode
     ensures { λ r. ⌜ Opens expression-node (now (words .entry)) at r ⌝ }
 {
     if at < words.len() {
-        expression_node_of(script::field_number(words[at]), words, at + 1)
+        expression_node_of(words[at], words, at + 1)
     } else {
         ExpressionNode::Nothing
     }
@@ -102,7 +114,7 @@ fn formula_node_at(words: &[i32], at: usize) -> FormulaNode
     ensures { λ r. ⌜ Opens formula-node (now (words .entry)) at r ⌝ }
 {
     if at < words.len() {
-        formula_node_of(script::field_number(words[at]))
+        formula_node_of(words[at])
     } else {
         FormulaNode::Nothing
     }
@@ -117,6 +129,20 @@ fn number_end(words: &[i32], at: usize) -> usize
     } else {
         words.len() + 1
     }
+}
+
+// How many words stand before the last ones.
+pub fn all_but(last: usize, length: usize) -> usize
+    ensures { λ r. ⌜ r ≡ length - last ⌝ }
+{
+    if length < last { 0 } else { length - last }
+}
+
+// An end that is within the room; past it, one word past the end of all.
+fn end_within(room: usize, end: usize, past: usize) -> usize
+    ensures { λ r. ⌜ r ≡ cond (leb end room) end past ⌝ }
+{
+    if end <= room { end } else { past }
 }
 
 // Where the expression that begins at a place ends; where there is none, one word past the end of all. No expression
@@ -152,7 +178,8 @@ pub fn expression_end(words: &[i32], first: usize) -> usize
 }
 
 // Where the formula that begins at a place ends; where there is none, one word past the end of all. Parts that come after
-// the present one wait.
+// the present one wait. A comparison's first side is read in all the words but the last two, which the second side takes at
+// least: so the calls of the two readers nest no deeper than a pair for every four words, whatever the words are.
 pub fn formula_end(words: &[i32], first: usize) -> usize
     ensures { λ r. ⌜ Formula-ends (now (words .entry)) first r ⌝ }
 {
@@ -170,7 +197,9 @@ pub fn formula_end(words: &[i32], first: usize) -> usize
                 waiting = waiting - 1;
             }
             FormulaNode::Comparison => {
-                at = expression_end(all, expression_end(all, at + 1));
+                let room = all_but(2, all.len());
+                let middle = expression_end(&all[0..room], at + 1);
+                at = expression_end(all, end_within(room, middle, all.len() + 1));
                 if waiting == 0 {
                     return at;
                 }

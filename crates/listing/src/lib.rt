@@ -1,13 +1,16 @@
 // The reader of finished lists, 01, "Reading a finished list": the whole list, walked from the end back, and the entries.
 
 mod formulas;
+mod kinds;
 mod lines;
 
 pub use formulas::expression_end;
 pub use formulas::formula_end;
 pub use lines::line_before;
+use lines::line_told;
 use lines::no_line;
 pub use lines::place_after;
+use lines::start_before;
 use script::Line;
 ghost use mathlib.Core.Path.{_≡_};
 ghost use mathlib.Core.Bool.{cond};
@@ -17,29 +20,33 @@ ghost use denote.Ref.{ptr};
 ghost use Rattle.script.specs.Listing.{lines-before, lines, line-at, part-at, first-place};
 ghost use Rattle.listing.specs.Lines.{is-some, line-among, Claimed, condition-count};
 
-fn chosen(take: bool, line: Line, kept: Line) -> Line
-    ensures { λ r. ⌜ r ≡ cond take line kept ⌝ }
+fn chosen(take: bool, place: usize, kept: usize) -> usize
+    ensures { λ r. ⌜ r ≡ cond take place kept ⌝ }
 {
-    if take { line } else { kept }
+    if take { place } else { kept }
 }
 
-// The line at an index of the count lines that end at a place, walked from the end back.
+// The line at an index of the count lines that end at a place, walked from the end back: its own place is kept on the way.
 fn walked(words: &[i32], count: usize, last: usize, index: usize) -> Line
     ensures { λ r. ⌜ r ≡ line-among (lines-before (now (words .entry)) count last) (pos index) ⌝ }
 {
     let mut left = count;
     let mut end = last;
-    let mut kept = no_line(21);
+    let mut kept: usize = 0;
     while 0 < left {
-        let line = line_before(words, end);
-        if line.number != 0 {
+        let start = start_before(words, end);
+        if words.len() < start {
             return no_line(20);
         }
         left = left - 1;
-        kept = chosen(left == index, line, kept);
-        end = line.start;
+        kept = chosen(left == index, end, kept);
+        end = start;
     }
-    if end == 0 { kept } else { no_line(20) }
+    if end == 0 {
+        line_told(words, kept)
+    } else {
+        no_line(20)
+    }
 }
 
 // The count that the last word gives; 0 for no list.

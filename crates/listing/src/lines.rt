@@ -1,12 +1,13 @@
 // The line that ends at a place: a trailer and the formula before it.
 
+use crate::formulas::all_but;
 use crate::formulas::is_formula;
 use script::Line;
 ghost use mathlib.Core.Path.{_≡_};
 ghost use Prim.Native.Nat.{_≤_};
 ghost use lib.ListN.{length};
-ghost use Rattle.script.specs.Listing.{rule-of, below, found, no-line, step-back};
-ghost use Rattle.listing.specs.Lines.{is-some, is-line, answer, place-after};
+ghost use Rattle.script.specs.Listing.{rule-of, below, found, line-before, no-line, step-back};
+ghost use Rattle.listing.specs.Lines.{is-some, is-line, start-of, trailer-line, line-told, place-after};
 
 // No line, with the number of the refusal.
 pub fn no_line(number: usize) -> Line
@@ -49,24 +50,64 @@ fn is_line(words: &[i32], e: usize, kind: i32, row: i32, size: i32) -> bool
     is_rule(k) && (is_below(2048, row) && (is_below(e + 1, size) && is_formula(&words[e - n..e])))
 }
 
-// The line of the trailer kind, row, size after a formula that ends at e.
-fn line_of(words: &[i32], e: usize, kind: i32, row: i32, size: i32) -> Line
+// Where the formula that ends at e starts, by its trailer kind, row, size; one word past the end of all where they are none.
+fn start_of(words: &[i32], e: usize, kind: i32, row: i32, size: i32) -> usize
     requires { ⌜ e ≤ length (now words) ⌝ }
-    ensures { λ r. ⌜ r ≡ answer (found (now (words .entry)) e kind row size) ⌝ }
+    ensures { λ r. ⌜ r ≡ start-of (now (words .entry)) (found (now (words .entry)) e kind row size) ⌝ }
+{
+    let n = script::field_number(size);
+    if is_line(words, e, kind, row, size) {
+        e - n
+    } else {
+        words.len() + 1
+    }
+}
+
+// Where the formula of the line starts whose trailer ends at a place; one word past the end of all where there is no line.
+pub fn start_before(words: &[i32], end: usize) -> usize
+    ensures { λ r. ⌜ r ≡ start-of (now (words .entry)) (line-before (now (words .entry)) end) ⌝ }
+{
+    if end < 3 {
+        words.len() + 1
+    } else if words.len() < end {
+        words.len() + 1
+    } else {
+        start_of(
+            words,
+            end - 3,
+            words[end - 3],
+            words[end - 2],
+            words[end - 1],
+        )
+    }
+}
+
+// The line that the trailer kind, row, size tells after a formula that ends at e.
+fn trailer_line(e: usize, kind: i32, row: i32, size: i32) -> Line
+    ensures { λ r. ⌜ r ≡ trailer-line e kind row size ⌝ }
 {
     let k = script::field_number(kind);
     let r = script::field_number(row);
-    let n = script::field_number(size);
-    if is_line(words, e, kind, row, size) {
-        Line {
-            number: 0,
-            kind: k,
-            row: r,
-            start: e - n,
-            end: e,
-        }
+    let start = all_but(script::field_number(size), e);
+    Line {
+        number: 0,
+        kind: k,
+        row: r,
+        start,
+        end: e,
+    }
+}
+
+// The line that the trailer before a place tells, the formula unread; 21 where no trailer stands.
+pub fn line_told(words: &[i32], end: usize) -> Line
+    ensures { λ r. ⌜ r ≡ line-told (now (words .entry)) end ⌝ }
+{
+    if end < 3 {
+        no_line(21)
+    } else if words.len() < end {
+        no_line(21)
     } else {
-        no_line(20)
+        trailer_line(end - 3, words[end - 3], words[end - 2], words[end - 1])
     }
 }
 
@@ -76,18 +117,10 @@ pub fn line_before(words: &[i32], end: usize) -> Line
 {
     if end == 0 {
         no_line(21)
-    } else if end < 3 {
-        no_line(20)
-    } else if words.len() < end {
+    } else if words.len() < start_before(words, end) {
         no_line(20)
     } else {
-        line_of(
-            words,
-            end - 3,
-            words[end - 3],
-            words[end - 2],
-            words[end - 1],
-        )
+        line_told(words, end)
     }
 }
 

@@ -6,28 +6,11 @@ use Rattle.listing.proofs.Opening.{opened, closed}
 use Rattle.listing.proofs.formulas.expression_node_at.Statement.{statement}
 use Rattle.listing.proofs.formulas.expression_node_at.Tie as tie
 
-mul-field-number : tie.Need-mul-field-number
-mul-field-number c = search needs
-
-shared-slice-copy-out-field-number : tie.Need-shared-slice-copy-out-field-number
-shared-slice-copy-out-field-number c = search needs
-
-field-number-requires : tie.Need-field-number-requires
-field-number-requires c κs = search needs
-
-add-expression-node-of : tie.Need-add-expression-node-of
-add-expression-node-of c = search needs
-
-expression-node-of-requires : tie.Need-expression-node-of-requires
-expression-node-of-requires c κs = search needs
-
 returns : tie.Need-returns
 returns c =
     let read = c .before in
-    let s = read .before .before .before in
-    let a = s .args in
-    opened (a .words .now) (a .at) (read .before .before .if1 .taken) (read .field-number .ensures)
-    (back (read .before .field-number-arg .given))
+    let a = read .before .before .args in
+    opened (a .words .now) (a .at) (read .before .if1 .taken) (back (read .expression-node-of-arg .given))
     (c .expression-node-of .ensures)
 
 returns-2 : tie.Need-returns-2
@@ -37,10 +20,9 @@ pub expression-node-at-spec : {M : Type 1} → statement M
 expression-node-at-spec =
     tie.close
     (tie.spec
-    mul-field-number
-    shared-slice-copy-out-field-number
-    field-number-requires
-    add-expression-node-of
-    expression-node-of-requires
+    (λ c. search needs)
+    (λ c. search needs)
+    (λ c. search needs)
+    (λ c κs. search needs)
     returns
     returns-2)

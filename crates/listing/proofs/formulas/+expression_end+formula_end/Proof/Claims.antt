@@ -6,6 +6,8 @@ use borrow.Fn.PlainCycle.{Measures, is, falls as lower, and}
 use Rattle.listing.proofs.formulas.expression_node_at.Reads as expression-node-at
 use Rattle.listing.proofs.formulas.formula_node_at.Reads as formula-node-at
 use Rattle.listing.proofs.formulas.number_end.Reads as number-end
+use Rattle.listing.proofs.formulas.all_but.Reads as all-but
+use Rattle.listing.proofs.formulas.end_within.Reads as end-within
 use Rattle.listing.proofs.formulas.expression_end.Reads as expression
 use Rattle.listing.proofs.formulas.expression_end.Kinds as expression-kinds
 use Rattle.listing.proofs.formulas.+expression_end+formula_end.Lts-expression_end as expression-lts
@@ -35,4 +37,13 @@ abbrev pub expression-claims : ℕ → expression-lts.Claims
 expression-claims t = (expression-node-at.Asked, expression-node-at.Learnt, number-end.Asked, number-end.Learnt, formula-below t, formula.Post)
 
 abbrev pub formula-claims : ℕ → formula-lts.Claims
-formula-claims t = (formula-node-at.Asked, formula-node-at.Learnt, expression-below t, expression.Post)
+formula-claims t = (
+  formula-node-at.Asked,
+  formula-node-at.Learnt,
+  all-but.Asked,
+  all-but.Learnt,
+  expression-below t,
+  expression.Post,
+  end-within.Asked,
+  end-within.Learnt,
+)

@@ -3,13 +3,14 @@
 use Prim.Native.Nat.{ℕ, _-_}
 use native.Mathlib.Omega.{arith}
 use mathlib.Core.Path.{refl, ap}
-use lib.ListN.{length}
+use lib.ListN.{length, take}
 use borrow.Author.Needs.{needs}
 use Rattle.listing.specs.Ends.{Formula-ends}
 use Rattle.listing.proofs.Part.{whole-is}
 use Rattle.listing.proofs.Waiting.{Waiting, begun, ended, passed, unary, binary, missed}
-use Rattle.listing.proofs.Reading.{truth-ends, comparison-ends, not-ends, junction-ends, formula-missing, no-formula-left}
-use Rattle.listing.proofs.Reading.{formula-stands, expression-farther, formula-farther, falls}
+use Rattle.listing.proofs.Reading.{truth-ends, not-ends, junction-ends, formula-missing, no-formula-left}
+use Rattle.listing.proofs.Reading.{formula-stands, formula-farther, falls}
+use Rattle.listing.proofs.Lending.{sides-end, side-farther, falls-within}
 use Rattle.listing.proofs.formulas.formula_end.Reads as reads
 use Rattle.listing.proofs.formulas.+expression_end+formula_end.Lts-formula_end as lts
 use Rattle.listing.proofs.formulas.+expression_end+formula_end.Proof.Claims.{formula-claims, formula-at}
@@ -48,58 +49,70 @@ module _ (t : ℕ) where
       let q = arm .enum-told .given .1 in
       passed _ (arm .before .before .before .loop .inv) (c .if1 .left) (truth-ends opens q (formula-stands opens q refl)) (omega arith)
 
+  part-end : lts.Need-part-expression-end-end (formula-claims t) (formula-at t) reads.Post kept left
+  part-end c = omega (arith, c .all-but .ensures)
+
   add-expression-end : lts.Need-add-expression-end (formula-claims t) (formula-at t) reads.Post kept left
-  add-expression-end c = omega (arith, formula-stands (c .before .before .formula-node-at .ensures) (c .enum-told2 .given .1) refl)
+  add-expression-end c =
+      let arm = c .before .before in
+      omega (arith, formula-stands (arm .before .before .formula-node-at .ensures) (arm .enum-told2 .given .1) refl)
 
   expression-end-requires : lts.Need-expression-end-requires (formula-claims t) (formula-at t) reads.Post kept left
   expression-end-requires c κs =
-      let turn = c .before .before in
+      let arm = c .before .before in
+      let turn = arm .before .before in
       let start = turn .before .before .before in
       let whole = whole-is (start .args .words .now) in (
-        falls (ap length whole) (start .pre .0) (turn .before .loop .inv .after)
-            (rw whole at (formula-stands (turn .formula-node-at .ensures) (c .enum-told2 .given .1) refl))
-            (omega arith),
+        falls-within whole (c .before .all-but .ensures) (start .pre .0) (turn .before .loop .inv .after)
+            (rw whole at (formula-stands (turn .formula-node-at .ensures) (arm .enum-told2 .given .1) refl)),
         tt,
       )
 
   expression-end-requires-2 : lts.Need-expression-end-requires-2 (formula-claims t) (formula-at t) reads.Post kept left
   expression-end-requires-2 c κs =
-      let arm = c .before in
+      let room = c .before .before .before in
+      let arm = room .before in
       let turn = arm .before .before in
       let start = turn .before .before .before in
       let whole = whole-is (start .args .words .now) in
       let inside = formula-stands (turn .formula-node-at .ensures) (arm .enum-told2 .given .1) refl in (
         falls (ap length whole) (start .pre .0) (turn .before .loop .inv .after) (rw whole at inside)
-            (omega (arith, expression-farther (omega (arith, inside)) (c .expression-end .ensures))),
+            (side-farther (turn .formula-node-at .ensures) (arm .enum-told2 .given .1) (room .all-but .ensures) (c .before .expression-end .ensures)
+            (c .end-within .ensures) inside),
         tt,
       )
 
+  -- the comparison ends where its second side ends
+  sides : (c : lts.After-expression-end2 (formula-claims t) (formula-at t) reads.Post kept left) →
+      let turn = c .before .before .before .before .before .before .before in
+      let words = turn .before .before .before .args .words .now in
+      Formula-ends (take (length words - 0) words) (turn .before .loop .at) (c .expression-end2 .result)
+  sides c =
+      let room = c .before .before .before .before in
+      let arm = room .before in
+      sides-end (arm .before .before .formula-node-at .ensures) (arm .enum-told2 .given .1) (room .all-but .ensures)
+      (c .before .before .expression-end .ensures)
+      (c .before .end-within .ensures)
+      (c .expression-end2 .ensures)
+
   returns-2 : lts.Need-returns-2 (formula-claims t) (formula-at t) reads.Post kept left
   returns-2 c =
-      let arm = c .before .before .before in
-      let turn = arm .before .before in
+      let turn = c .before .before .before .before .before .before .before .before in
       rw (whole-is (turn .before .before .before .args .words .now)) at
-      (ended (turn .before .loop .inv) (c .if2 .taken)
-      (comparison-ends (turn .formula-node-at .ensures) (arm .enum-told2 .given .1) (c .before .before .expression-end .ensures)
-      (c .before .expression-end2 .ensures)))
+      (ended (turn .before .loop .inv) (c .if2 .taken) (sides (c .before)))
 
   loop-less-2 : lts.Need-loop-less-2 (formula-claims t) (formula-at t) reads.Post kept left
   loop-less-2 c =
-      let arm = c .before .before .before in
-      let opens = arm .before .before .formula-node-at .ensures in
-      let inside = formula-stands opens (arm .enum-told2 .given .1) refl in
-      let ends =
-      comparison-ends opens (arm .enum-told2 .given .1) (c .before .before .expression-end .ensures) (c .before .expression-end2 .ensures) in
-      omega (arith, inside, formula-farther (omega (arith, inside)) ends)
+      let arm = c .before .before .before .before .before .before in
+      let inside = formula-stands (arm .before .before .formula-node-at .ensures) (arm .enum-told2 .given .1) refl in
+      omega (arith, inside, formula-farther (omega (arith, inside)) (sides (c .before)))
 
   loop-again-2 : lts.Need-loop-again-2 (formula-claims t) (formula-at t) reads.Post kept left
   loop-again-2 c =
-      let arm = c .before .before .before in
-      let opens = arm .before .before .formula-node-at .ensures in
-      let inside = formula-stands opens (arm .enum-told2 .given .1) refl in
-      let ends =
-      comparison-ends opens (arm .enum-told2 .given .1) (c .before .before .expression-end .ensures) (c .before .expression-end2 .ensures) in
-      passed _ (arm .before .before .before .loop .inv) (c .if2 .left) ends (formula-farther (omega (arith, inside)) ends)
+      let arm = c .before .before .before .before .before .before in
+      let inside = formula-stands (arm .before .before .formula-node-at .ensures) (arm .enum-told2 .given .1) refl in
+      passed _ (arm .before .before .before .loop .inv) (c .if2 .left) (sides (c .before))
+      (formula-farther (omega (arith, inside)) (sides (c .before)))
 
   add-at-2 : lts.Need-add-at-2 (formula-claims t) (formula-at t) reads.Post kept left
   add-at-2 c = omega (arith, formula-stands (c .before .before .formula-node-at .ensures) (c .enum-told3 .given .1) refl)
@@ -152,8 +165,14 @@ module _ (t : ℕ) where
       loop-less
       loop-again
       (λ c. search needs)
+      (λ c κs. search needs)
+      (λ c. search needs)
+      (λ c. search needs)
+      part-end
       add-expression-end
       expression-end-requires
+      (λ c. search needs)
+      (λ c κs. search needs)
       expression-end-requires-2
       returns-2
       (λ c. search needs)
