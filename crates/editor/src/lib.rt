@@ -3,7 +3,7 @@
 // functions that hold the records are proved by hand.
 use script::Answer;
 ghost use mathlib.Core.Path.{_≡_};
-ghost use Prim.Native.Nat.{_+_, _*_, _<_, _≤_, min};
+ghost use Prim.Native.Nat.{_+_, _*_, _<_, _≤_};
 ghost use lib.ListN.{length, getD, take};
 ghost use Rattle.editor.specs.Flat.{none, flat, put-row, copy-first, rows-copied};
 ghost use Rattle.generate.specs.Whole.{Left};
@@ -79,19 +79,4 @@ pub fn generate_records(records: &[Record], list: &mut [i32], scratch: &mut [i32
     let n = records.len();
     copy_first(records, within(n), &mut table);
     front(&table, n, list, scratch)
-}
-
-// How many of the first n of 2,049 records there are.
-fn at_most_2049(n: usize) -> usize
-    ensures { λ r. ⌜ r ≡ min n 2049 ⌝ }
-{
-    if n <= 2049 { n } else { 2049 }
-}
-
-// The entry on the first n records, for callers with records by value: such a caller is not proved by hand.
-pub fn of_first(records: [Record; 2049], n: usize, list: &mut [i32], scratch: &mut [i32]) -> Answer
-    ensures { λ r. ⌜ Left (flat (take n records)) (length (now (list .entry))) (length (now (scratch .entry))) r (now (list .exit)) (now (scratch .exit)) ⌝ }
-{
-    let end = at_most_2049(n);
-    generate_records(&records[..end], list, scratch)
 }

@@ -2,13 +2,14 @@
 // conditions not yet read end, and walks back one condition at a time. `new` reads the whole list once, and so knows
 // whether it is torn; a step then reads the words of one condition, so that all steps together cost time linear in the
 // words of the list. A function over the struct is thin and proved by hand: it takes the struct apart and leaves the
-// work to a covered function. Callers with a plain slice use `start`, `step_from`, `formula_before` and `walk_back`.
+// work to a covered function. Callers with a plain slice use `start`
+// and `step_from`.
 
 use script::Line;
 ghost use mathlib.Core.Path.{_≡_};
 ghost use Prim.Native.Nat.{min};
-ghost use Rattle.script.specs.Listing.{first-place, step-back};
-ghost use Rattle.reader.specs.Steps.{opened, stepped, Part, step-at, answer-back};
+ghost use Rattle.script.specs.Listing.{first-place};
+ghost use Rattle.reader.specs.Steps.{opened, stepped, Part, step-at};
 
 pub struct Reader<'a> {
     pub words: &'a [i32],
@@ -87,25 +88,4 @@ pub fn step_from(words: &[i32], end: usize) -> Walked
         line: s.line,
         end: s.reader.end,
     }
-}
-
-// The formula of the line that ends at a place, as the part of the words where it stands.
-pub fn formula_before<'a>(words: &'a [i32], end: usize) -> &'a [i32]
-    ensures { λ p. ⌜ Part (words .entry) (step-back (now (words .entry)) end) p ⌝ }
-{
-    let s = step(Reader { words, end });
-    formula(s.reader, s.line)
-}
-
-// The answer of a new reader's step after n others.
-pub fn walk_back(words: &[i32], n: usize) -> Line
-    ensures { λ r. ⌜ r ≡ answer-back (now (words .entry)) n ⌝ }
-{
-    let mut end = start(words);
-    for i in 0..n {
-        let passed = step_from(words, end);
-        end = passed.end;
-    }
-    let last = step_from(words, end);
-    last.line
 }
