@@ -16,7 +16,7 @@ use Rattle.editor.specs.Flat.{none, flat, put-row, copy-first, few, rows
 use Rattle.editor.specs.declared.Record.{Record}
 use Rattle.script.specs.Generated.{outcome}
 use Rattle.theorems.specs.Numbers.{length-refused}
-use Rattle.generate.specs.Outcomes.{outcome-refused}
+use Rattle.generator.specs.Outcomes.{outcome-refused}
 use Rattle.editor.proofs.Few.{taken, left}
 
 -- four times n, in successors, so that `take`, `drop` and `set` compute

@@ -6,7 +6,7 @@ ghost use mathlib.Core.Path.{_≡_};
 ghost use Prim.Native.Nat.{_+_, _*_, _<_, _≤_};
 ghost use lib.ListN.{length, getD, take};
 ghost use Rattle.editor.specs.Flat.{none, flat, put-row, copy-first, rows-copied};
-ghost use Rattle.generate.specs.Whole.{Left};
+ghost use Rattle.generator.specs.Whole.{Left};
 
 // A row of a table: its kind and its three fields.
 #[repr(C)]
@@ -68,7 +68,7 @@ fn front(table: &[i32], n: usize, list: &mut [i32], scratch: &mut [i32]) -> Answ
     ensures { λ r. ⌜ Left (take (4 * rows-copied n) (now (table .entry))) (length (now (list .entry))) (length (now (scratch .entry))) r (now (list .exit)) (now (scratch .exit)) ⌝ }
 {
     let end = 4 * within(n);
-    generate::generate(&table[..end], list, scratch)
+    generator::generate(&table[..end], list, scratch)
 }
 
 // Lists the conditions of the script that the records hold.

@@ -50,7 +50,7 @@ pub extern "C" fn leqwarti_line(
     ensures start { λ _. ⌜ now (start .exit) ≡ line-at (now (words .entry)) index .start ⌝ }
     ensures end { λ _. ⌜ now (end .exit) ≡ line-at (now (words .entry)) index .end ⌝ }
 {
-    let line = listing::line_at(words, index);
+    let line = list_reader::line_at(words, index);
     *number = line.number;
     *kind = line.kind;
     *row = line.row;
@@ -63,7 +63,7 @@ pub extern "C" fn leqwarti_line(
 pub extern "C" fn leqwarti_first_place(words: &[i32], place: &mut usize)
     ensures place { λ _. ⌜ now (place .exit) ≡ first-place (now (words .entry)) ⌝ }
 {
-    *place = reader::start(words);
+    *place = list_walker::start(words);
 }
 
 // A reader's step: the line that ends at its place, and the place moved back before it.
@@ -84,7 +84,7 @@ pub extern "C" fn leqwarti_step(
     ensures start { λ _. ⌜ now (start .exit) ≡ step-back (now (words .entry)) (now (place .entry)) .start ⌝ }
     ensures end { λ _. ⌜ now (end .exit) ≡ step-back (now (words .entry)) (now (place .entry)) .end ⌝ }
 {
-    let walked = reader::step_from(words, *place);
+    let walked = list_walker::step_from(words, *place);
     let passed = walked.line;
     *place = walked.end;
     *number = passed.number;
@@ -129,7 +129,7 @@ pub extern "C" fn leqwarti_generate(
     ensures scratch { λ _. ⌜ now (scratch .exit) ≡ outcome (now (table .entry)) (length (now (list .entry))) (length (now (scratch .entry))) .scratch ⌝ }
     ensures demand { λ _. ⌜ Demand-3 (now (table .entry)) (answer-of (now (number .exit)) (now (row .exit)) (now (conditions .exit)) (now (words .exit))) (now (list .exit)) ⌝ }
 {
-    let answer = generate::generate(table, list, scratch);
+    let answer = generator::generate(table, list, scratch);
     tell(answer, number, row, conditions, words)
 }
 

@@ -6,7 +6,7 @@ pub mod kinds;
 ghost use mathlib.Core.Path.{_≡_};
 ghost use Prim.Native.Nat.{ℕ, _+_, _*_, _<_, _≤_};
 ghost use lib.ListN.{length};
-ghost use Rattle.script.specs.Rows.{field-number, row-no, var-no, row-of, row};
+ghost use Rattle.script.specs.Rows.{field-number, row-no, var-no, row-of, row, word};
 
 // A row number and a variable number are both small whole numbers: two types keep them apart.
 pub struct RowNumber(pub usize);
@@ -115,6 +115,14 @@ pub fn field_number(w: i32) -> usize
     ensures { λ r. ⌜ r ≡ field-number w ⌝ }
 {
     if w < 0 { 4294967295 } else { w as usize }
+}
+
+// The number in field f of row r of a table; field 0 is the kind.
+pub fn field(table: &[i32], r: usize, f: usize) -> usize
+    requires { ⌜ (4 * r + 3 < length (now table)) × (f < 4) ⌝ }
+    ensures { λ n. ⌜ n ≡ field-number (word (now (table .entry)) r f) ⌝ }
+{
+    field_number(table[4 * r + f])
 }
 
 fn row_number(w: i32) -> RowNumber

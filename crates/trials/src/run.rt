@@ -32,7 +32,7 @@ pub fn part(name: &[u8], table: &[i32], n: usize, room: usize, bench: usize) {
             if bench <= 5120 {
                 say(
                     name,
-                    generate::generate(&table[..n], &mut list[..room], &mut scratch[..bench]),
+                    generator::generate(&table[..n], &mut list[..room], &mut scratch[..bench]),
                 );
             }
         }

@@ -14,7 +14,7 @@ pub fn list() {
     let mut scratch = [7; 14];
     run::say(
         b"four rows",
-        generate::generate(&FOUR_ROWS, &mut list, &mut scratch),
+        generator::generate(&FOUR_ROWS, &mut list, &mut scratch),
     );
     io::write_all(1, b"four rows, list:");
     run::say_words(&list);

@@ -13,7 +13,7 @@ use borrow.Author.Needs.{needs}
 use native.Mathlib.Omega.{arith}
 use Rattle.script.specs.declared.Answer.{Answer}
 use Rattle.editor.specs.Flat.{rows-copied}
-use Rattle.generate.specs.Whole.{Left}
+use Rattle.generator.specs.Whole.{Left}
 use Rattle.editor.proofs.Copied.{within-fits}
 use Rattle.editor.proofs.front.Statement.{statement}
 use Rattle.editor.proofs.front.Tie as tie

@@ -56,7 +56,7 @@ use Rattle.editor.proofs.Copied.{within-fits, same-outcome}
 use Rattle.editor.proofs.Room.{zeroed, starts, room-again}
 use Rattle.editor.proofs.Record as R
 use Rattle.script.specs.Generated.{outcome}
-use Rattle.generate.specs.Whole.{Left, left-as}
+use Rattle.generator.specs.Whole.{Left, left-as}
 use Rattle.script.proofs.Answer as S
 use Rattle.script.proofs.Answer.Laws as S′
 use Rattle.editor.proofs.within as within

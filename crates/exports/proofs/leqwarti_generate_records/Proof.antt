@@ -44,7 +44,7 @@ use denote.Triple.Walked.{ends-at, walked, walk-meets}
 use denote.Exit.{yes}
 use Rattle.editor.specs.declared.Record.{Record}
 use Rattle.editor.specs.Flat.{flat}
-use Rattle.generate.specs.Whole.{Left}
+use Rattle.generator.specs.Whole.{Left}
 use Rattle.editor.proofs.Record as R
 use Rattle.script.specs.declared.Answer.{Answer}
 use Rattle.script.proofs.Answer as S

@@ -2,7 +2,7 @@
 -- Assumes nothing.
 use mathlib.Core.Path.{ap}
 use Rattle.script.specs.declared.Line.{Line}
-use Rattle.reader.specs.declared.Walked.{Walked}
+use Rattle.list_walker.specs.declared.Walked.{Walked}
 use borrow.Author.Needs.{needs}
 use Rattle.exports.proofs.leqwarti_step.Statement.{statement}
 use Rattle.exports.proofs.leqwarti_step.Tie as tie

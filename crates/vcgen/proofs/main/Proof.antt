@@ -1,5 +1,5 @@
 -- `vcgen::main` meets its contract: what was written lies within the buffer. Assumes nothing.
-use Rattle.report.specs.Answers.{written-within, written-length}
+use Rattle.program.specs.Answers.{written-within, written-length}
 use borrow.Author.Needs.{needs}
 use Rattle.vcgen.proofs.main.Statement.{statement}
 use Rattle.vcgen.proofs.main.Tie as tie

@@ -1,0 +1,181 @@
+// The lines of a list, one function for each kind of condition: its formula, then its trailer. Nothing is kept of a formula:
+// each is written straight into the list. Once there is no room, nothing more is written.
+
+use script::RowNumber;
+use script::Rule;
+use script::field;
+use script::kinds;
+ghost use mathlib.Core.Path.{_≡_};
+ghost use mathlib.Core.List.{[], _∷_};
+ghost use lib.IntN.{pos};
+ghost use Rattle.script.specs.declared.Connective.the-variants.{And};
+ghost use Rattle.script.specs.Syntax.{join};
+ghost use Rattle.script.specs.Words.{rule-number, formula-words};
+ghost use Rattle.formula_writer.specs.Writing.{Wrote};
+ghost use Rattle.wp_writer.specs.Loops.{Loop, guard-at, invariant-at};
+ghost use Rattle.wp_writer.specs.Walked.{Before};
+ghost use Rattle.line_writer.specs.Listed.{Listed, InRoom};
+ghost use Rattle.line_writer.specs.Spelled.{Finishing, Finished, Counted};
+ghost use Rattle.line_writer.specs.Loops.{Lined, StepReady, MainReady, exit-line, floor-line, step-line, main-line};
+
+// Where the next word goes, with the number of conditions before it; a place past the end of the list says that there was no
+// room.
+pub struct Progress {
+    pub at: usize,
+    pub count: usize,
+}
+
+fn rule_word(rule: Rule) -> i32
+    ensures { λ r. ⌜ r ≡ pos (rule-number rule) ⌝ }
+{
+    match rule {
+        Rule::Exit => 1,
+        Rule::Floor => 2,
+        Rule::Step => 3,
+        Rule::Main => 4,
+    }
+}
+
+// Writes the trailer of the formula that was written from `start` to `past`.
+fn finish_line(
+    list: &mut [i32],
+    start: Progress,
+    past: usize,
+    rule: Rule,
+    row: RowNumber,
+) -> Progress
+    requires { ⌜ Finishing (now list) start past (row .0) ⌝ }
+    ensures { λ q. ⌜ Finished (now (list .entry)) start past rule (row .0) q (now (list .exit)) ⌝ }
+{
+    let from = start.at;
+    let count = start.count;
+    if list.len() < past {
+        return Progress { at: past, count };
+    }
+    let p1 = formula_writer::push_two(list, past, rule_word(rule), row.0 as i32);
+    let p2 = formula_writer::push(list, p1, (past - from) as i32);
+    Progress {
+        at: p2,
+        count: count + 1,
+    }
+}
+
+// "(I and (not B)) implies Q", where Q is W of what follows the loop.
+pub fn write_exit(
+    table: &[i32],
+    k: RowNumber,
+    follow: &[i32],
+    path: &mut [i32],
+    list: &mut [i32],
+    end: RowNumber,
+    at: Progress,
+) -> Progress
+    requires { ⌜ Loop (now table) (k .0) × (Before (now table) (now follow) (now path) 0 (end .0) (k .0) × InRoom (now list) at) ⌝ }
+    ensures { λ q. ⌜ Lined (now (path .entry))
+        (exit-line (now (table .entry)) (now (follow .entry)) (end .0) (k .0) ∷ [])
+        (now (list .entry)) at q (now (list .exit)) (now (path .exit)) ⌝ }
+{
+    let row = k.0;
+    let guard = RowNumber(field(table, row, 1));
+    let next = script::field_number(follow[row]);
+    let p1 = formula_writer::push_kind(list, at.at, kinds::IMPLIES);
+    let p2 = formula_writer::push_kind(list, p1, kinds::AND);
+    let p3 = formula_writer::write_formula(table, wp_writer::invariant(table, k), list, path, 0, p2);
+    let p4 = formula_writer::push_kind(list, p3, kinds::NOT);
+    let p5 = formula_writer::write_formula(table, guard, list, path, 0, p4);
+    let p6 = wp_writer::write_before(table, next, follow, path, 0, list, end, p5);
+    finish_line(list, at, p6, Rule::Exit, k)
+}
+
+// Writes (I and B), which holds where the body of a loop begins.
+fn write_entered(table: &[i32], k: RowNumber, path: &[i32], list: &mut [i32], at: usize) -> usize
+    requires { ⌜ Loop (now table) (k .0) ⌝ }
+    ensures { λ p. ⌜ Wrote (now (list .entry)) at
+        (formula-words (join And (invariant-at (now (table .entry)) (k .0)) (guard-at (now (table .entry)) (k .0))))
+        p (now (list .exit)) ⌝ }
+{
+    let guard = RowNumber(field(table, k.0, 1));
+    let p1 = formula_writer::push_kind(list, at, kinds::AND);
+    let p2 = formula_writer::write_formula(table, wp_writer::invariant(table, k), list, path, 0, p1);
+    formula_writer::write_formula(table, guard, list, path, 0, p2)
+}
+
+// "(I and B) implies (0 at most V)"
+pub fn write_floor(
+    table: &[i32],
+    k: RowNumber,
+    path: &[i32],
+    list: &mut [i32],
+    at: Progress,
+) -> Progress
+    requires { ⌜ Loop (now table) (k .0) × InRoom (now list) at ⌝ }
+    ensures { λ q. ⌜ Listed (now (list .entry)) at (floor-line (now (table .entry)) (k .0) ∷ []) q (now (list .exit)) ⌝ }
+{
+    let p1 = formula_writer::push_kind(list, at.at, kinds::IMPLIES);
+    let p2 = write_entered(table, k, path, list, p1);
+    let p3 = formula_writer::push_kind(list, p2, kinds::AT_MOST);
+    let p4 = formula_writer::push_constant(list, p3, 0);
+    let p5 = formula_writer::write_expression(table, wp_writer::variant(table, k), list, path, 0, p4);
+    finish_line(list, at, p5, Rule::Floor, k)
+}
+
+// "((I and B) and (V equal m)) implies W(body, I and (V less m))"
+pub fn write_step(
+    table: &[i32],
+    k: RowNumber,
+    follow: &[i32],
+    path: &mut [i32],
+    list: &mut [i32],
+    at: Progress,
+) -> Progress
+    requires { ⌜ StepReady (now table) (k .0) (now follow) (now path) × InRoom (now list) at ⌝ }
+    ensures { λ q. ⌜ Lined (now (path .entry)) (step-line (now (table .entry)) (k .0) ∷ [])
+        (now (list .entry)) at q (now (list .exit)) (now (path .exit)) ⌝ }
+{
+    let body = field(table, k.0, 3);
+    let p1 = formula_writer::push_kind(list, at.at, kinds::IMPLIES);
+    let p2 = formula_writer::push_kind(list, p1, kinds::AND);
+    let p3 = write_entered(table, k, path, list, p2);
+    let p4 = formula_writer::push_kind(list, p3, kinds::EQUAL);
+    let p5 = formula_writer::write_expression(table, wp_writer::variant(table, k), list, path, 0, p4);
+    let p6 = formula_writer::push_mark(list, p5, k);
+    let p7 = wp_writer::write_before(table, body, follow, path, 0, list, k, p6);
+    finish_line(list, at, p7, Rule::Step, k)
+}
+
+// "P implies W(S, Q)", of the script at a row.
+pub fn write_main(
+    table: &[i32],
+    row: RowNumber,
+    follow: &[i32],
+    path: &mut [i32],
+    list: &mut [i32],
+    at: Progress,
+) -> Progress
+    requires { ⌜ MainReady (now table) (row .0) (now follow) (now path) × InRoom (now list) at ⌝ }
+    ensures { λ q. ⌜ Lined (now (path .entry)) (main-line (now (table .entry)) (row .0) ∷ [])
+        (now (list .entry)) at q (now (list .exit)) (now (path .exit)) ⌝ }
+{
+    let pre = RowNumber(field(table, row.0, 1));
+    let statement = field(table, row.0, 2);
+    let p1 = formula_writer::push_kind(list, at.at, kinds::IMPLIES);
+    let p2 = formula_writer::write_formula(table, pre, list, path, 0, p1);
+    let p3 = wp_writer::write_before(table, statement, follow, path, 0, list, row, p2);
+    finish_line(list, at, p3, Rule::Main, row)
+}
+
+// Writes the last word of a list, the number of its conditions.
+pub fn write_count(list: &mut [i32], at: Progress) -> Progress
+    requires { ⌜ InRoom (now list) at ⌝ }
+    ensures { λ q. ⌜ Counted (now (list .entry)) at q (now (list .exit)) ⌝ }
+{
+    let place = at.at;
+    let count = at.count;
+    if list.len() < place {
+        return at;
+    }
+    Progress {
+        at: formula_writer::push(list, place, count as i32),
+        count,
+    }
+}

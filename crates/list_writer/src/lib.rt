@@ -1,0 +1,81 @@
+// The walk that lists the conditions of a script into the list. It calls itself on a statement's first-listed part and on a
+// loop's body, and the row number falls at every turn and every call. What follows a statement is found once, before the walk.
+
+use line_writer::Progress;
+use script::RowNumber;
+use script::field;
+use script::kinds;
+ghost use mathlib.Core.Path.{_≡_};
+ghost use Prim.Native.Nat.{_≤_};
+ghost use lib.ListN.{length};
+ghost use Rattle.script.specs.Conditions.{conditions};
+ghost use Rattle.script.specs.Trees.{tree};
+ghost use Rattle.script.specs.Refusals.{verdict, accepted};
+ghost use Rattle.line_writer.specs.Spelled.{Whole};
+ghost use Rattle.line_writer.specs.Loops.{Lined};
+ghost use Rattle.list_writer.specs.Walks.{Walking, walk-at};
+
+// Lists the conditions of the statement at row `first`, met with what follows it and the formula at the end after it.
+fn list_conditions(
+    table: &[i32],
+    first: usize,
+    follow: &[i32],
+    path: &mut [i32],
+    list: &mut [i32],
+    end: RowNumber,
+    at: Progress,
+) -> Progress
+    requires { ⌜ Walking (now table) (now follow) (now path) (end .0) first (now list) at ⌝ }
+    ensures { λ q. ⌜ Lined (now (path .entry))
+        (walk-at (now (table .entry)) (now (follow .entry)) (end .0) first)
+        (now (list .entry)) at q (now (list .exit)) (now (path .exit)) ⌝ }
+{
+    let mut s = first;
+    let mut p = at;
+    loop {
+        if list.len() < p.at {
+            return p;
+        }
+        let kind = field(table, s, 0);
+        match kind {
+            kinds::SEQUENCE => {
+                let a = field(table, s, 1);
+                let b = field(table, s, 2);
+                p = list_conditions(table, b, follow, path, list, end, p);
+                s = a;
+            }
+            kinds::IF => {
+                let x = field(table, s, 2);
+                let y = field(table, s, 3);
+                p = list_conditions(table, x, follow, path, list, end, p);
+                s = y;
+            }
+            kinds::WHILE => {
+                let k = RowNumber(s);
+                let body = field(table, s, 3);
+                let p1 = line_writer::write_exit(table, k, follow, path, list, end, p);
+                let p2 = line_writer::write_floor(table, k, path, list, p1);
+                let p3 = list_conditions(table, body, follow, path, list, k, p2);
+                return line_writer::write_step(table, k, follow, path, list, p3);
+            }
+            // skip, an assignment, an assertion
+            _ => return p,
+        }
+    }
+}
+
+// Writes the whole list of a table that is accepted: the conditions of the script's statement, main, and their number.
+pub fn write_list(table: &[i32], list: &mut [i32]) -> Progress
+    requires { ⌜ (verdict (now table) ≡ accepted) × (length (now list) ≤ 16384) ⌝ }
+    ensures { λ q. ⌜ Whole (now (list .entry)) (conditions (tree (now (table .entry)))) q (now (list .exit)) ⌝ }
+{
+    let mut follow = [0i32; 2048];
+    let mut path = [0i32; 2048];
+    following::find_follow(table, &mut follow);
+    let script = RowNumber(table.len() / 4 - 1);
+    let statement = field(table, script.0, 2);
+    let start = Progress { at: 0, count: 0 };
+    let p = list_conditions(table, statement, &follow, &mut path, list, script, start);
+    let q = line_writer::write_main(table, script, &follow, &mut path, list, p);
+    line_writer::write_count(list, q)
+}

@@ -1,0 +1,171 @@
+-- A list walked from the front. From each place that the walk reaches, the list has the lines of the conditions that are
+-- left, and then its count (`Left`). The formula at the front ends where `formula-back` says, so the words after it are its
+-- trailer, and past that the conditions but the first are left (`turn`). Assumes nothing.
+use Prim.Native.Nat.{ℕ, _+_, _*_, _-_, _≤_, _<_}
+use mathlib.Core.Path.{_≡_, refl, sym, ap, _∙_}
+use mathlib.Core.Option.{Option, some}
+use mathlib.Core.List.{List, [], _∷_, _++_, append-assoc}
+use native.Mathlib.Nat.{add-zero}
+use native.Mathlib.Omega.{arith as linear}
+use lib.IntN.{ℤ, pos}
+use lib.ListN.{length, getD, take, drop, length-append, length-drop}
+use lib.Seq.{getD-drop, drop-drop, take-append-seam}
+use Rattle.script.specs.Rows.{field-number}
+use Rattle.script.specs.Conditions.{Condition}
+use Rattle.script.specs.Words.{formula-words, rule-number, trailer, line-words, all-lines, list-words}
+use Rattle.script.specs.WellFormed.{All-in-range, In-rangeᶠ}
+use Rattle.script.specs.Syntax.{Formula}
+use Rattle.theorems.specs.Options.{none-is-not, some-inj}
+use Rattle.theorems.specs.Reading.{formula-back}
+use Rattle.list_reader.specs.Ends.{rest-of, after-formula, Ends, nowhere, here, Formula-ends}
+use Rattle.printer.specs.Text.{line, name-of, lines, conditions-in, Listed}
+use Rattle.printer.specs.Writing.{Wrote, Writing, begun, went-on, finished}
+use Rattle.printer.specs.Output.{conditions-back}
+use Rattle.printer.proofs.Lines.{name-is}
+
+-- from the place i on, ws has the lines of cs, and then its count
+pub record Left (ws : List ℤ) (i : ℕ) (cs : List Condition) : Type 0 where
+  pub count : ℤ
+  pub words : drop i ws ≡ all-lines cs ++ (count ∷ [])
+  pub ranges : All-in-range cs
+
+pub all-left : (ws : List ℤ) → Listed ws → Left ws 0 (conditions-in ws)
+unfolding list-words
+all-left ws l =
+    let cs = l .conditions in
+    let w = l .well-formed in
+    rw (conditions-back ws cs w) (record { count = pos (length cs); words = sym (w .spells); ranges = w .ranges })
+
+-- ---- where the formula at the front ends
+
+ends-at : {ws us : List ℤ} {i e : ℕ} {o : Option (List ℤ)} → Ends ws i e o → o ≡ some us → (us ≡ drop e ws) × (i < e) × (e ≤ length ws)
+ends-at (nowhere p) q = none-is-not q
+ends-at (here p h l) q = (sym (some-inj q) ∙ p, h, l)
+
+after-back : (f : Formula) (n : ℕ) (rest : List ℤ) → In-rangeᶠ f → length (formula-words f) ≤ n
+    → after-formula n (formula-words f ++ rest) ≡ some rest
+unfolding after-formula
+after-back f n rest h l = ap rest-of (formula-back f n h l rest)
+
+-- ws from i on is the words of a formula and a tail
+module _ (ws tail : List ℤ) (i e : ℕ) (f : Formula) (range : In-rangeᶠ f) (words : drop i ws ≡ formula-words f ++ tail)
+    (ends : Formula-ends ws i e) where
+  part-length : length (formula-words f) + length tail ≡ length ws - i
+  part-length = sym (length-append (formula-words f) tail) ∙ ap length (sym words) ∙ length-drop i ws
+
+  end-is : (tail ≡ drop e ws) × (i < e) × (e ≤ length ws)
+  end-is =
+      let read = ends .reads (length ws) (omega linear) in
+      ends-at (rw words at read) (after-back f (length ws) tail range (omega (linear, part-length)))
+
+  end-place : e ≡ i + length (formula-words f)
+  end-place =
+      let left = ap length (end-is .0) ∙ length-drop e ws in
+      omega (linear, part-length, left, end-is .1, end-is .2)
+
+  part-size : e - i ≡ length (formula-words f)
+  part-size = omega (linear, end-place)
+
+  formula-part : take (e - i) (drop i ws) ≡ formula-words f
+  formula-part = rw (part-size, words) (take-append-seam (formula-words f) tail)
+
+  word-past : (k : ℕ) → getD ws (e + k) (pos 0) ≡ getD tail k (pos 0)
+  word-past k = sym (getD-drop e ws k (pos 0)) ∙ ap (λ l. getD l k (pos 0)) (sym (end-is .0))
+
+  words-past : (k : ℕ) → drop (e + k) ws ≡ drop k tail
+  words-past k = sym (drop-drop k e ws) ∙ ap (λ l. drop k l) (sym (end-is .0))
+
+-- ---- a turn of the walk
+
+pub record Turn (ws : List ℤ) (i e : ℕ) (cs : List Condition) : Type 0 where
+  pub first : Condition
+  pub others : List Condition
+  pub is : cs ≡ first ∷ others
+  pub forward : i < e
+  pub inside : e + 3 < length ws
+  pub kind : getD ws e (pos 0) ≡ pos (rule-number (first .rule))
+  pub row : getD ws (e + 1) (pos 0) ≡ pos (first .row)
+  pub formula : take (e - i) (drop i ws) ≡ formula-words (first .claim)
+  pub size : length (take (e - i) (drop i ws)) ≡ e - i
+  pub left : Left ws (e + 3) others
+
+-- the line of c, then the lines of cs and the count
+regroup : (part trail rest : List ℤ) (n : ℤ) → ((part ++ trail) ++ rest) ++ (n ∷ []) ≡ part ++ (trail ++ (rest ++ (n ∷ [])))
+regroup part trail rest n = simp append-assoc
+
+pub turn : (ws : List ℤ) (i e : ℕ) (cs : List Condition) → Left ws i cs → i + 1 < length ws → Formula-ends ws i e → Turn ws i e cs
+unfolding all-lines line-words
+turn ws i e [] l h ends = absurd (omega (linear, ap length (l .words), length-drop i ws))
+turn ws i e (c ∷ cs) l h ends =
+    let f = c .claim in
+    let rest = all-lines cs ++ (l .count ∷ []) in
+    let tail = trailer c ++ rest in
+    let words = l .words ∙ regroup (formula-words f) (trailer c) (all-lines cs) (l .count) in
+    let range = l .ranges .1 in
+    let end = end-is ws tail i e f range words ends in
+    let part = formula-part ws tail i e f range words ends in
+    let past = word-past ws tail i e f range words ends in
+    record {
+      first = c;
+      others = cs;
+      is = refl;
+      forward = end .1;
+      inside = omega (linear, end .1, end .2, ap length (end .0), length-drop e ws, length-append (all-lines cs) (l .count ∷ []));
+      kind = rw add-zero at (past 0);
+      row = past 1;
+      formula = part;
+      size = ap length part ∙ sym (part-size ws tail i e f range words ends);
+      left = record { count = l .count; words = words-past ws tail i e f range words ends 3; ranges = l .ranges .2 };
+    }
+
+-- the walk is over where only the count is left
+pub over : (ws : List ℤ) (i : ℕ) (cs : List Condition) → Left ws i cs → length ws ≤ i + 1 → cs ≡ []
+unfolding all-lines line-words
+over ws i [] l h = refl
+over ws i (c ∷ cs) l h =
+    let words = l .words ∙ regroup (formula-words (c .claim)) (trailer c) (all-lines cs) (l .count) in
+    let tail = trailer c ++ (all-lines cs ++ (l .count ∷ [])) in
+    absurd (omega (linear, ap length words, length-drop i ws, length-append (formula-words (c .claim)) tail))
+
+-- k is the kind and r the row that were read of the first condition that is left
+pub turn-text : {ws : List ℤ} {i e k : ℕ} {cs : List Condition} {w r : ℤ} → (t : Turn ws i e cs) → k ≡ field-number w → w ≡ getD ws e (pos 0)
+    → r ≡ getD ws (e + 1) (pos 0) → lines cs ≡ line (name-of k) (r ∷ take (e - i) (drop i ws)) ++ lines (t .others)
+unfolding lines
+turn-text t hk hw hr = rw (t .is, hk, hw, hr, t .kind, t .row, t .formula, name-is (t .first .rule))
+
+-- ---- the walk that writes a line for each condition
+
+pub record Walking (out₀ : List ℕ) (at : ℕ) (ws : List ℤ) (out : List ℕ) (end i : ℕ) : Type 0 where
+  pub conditions : List Condition
+  pub left : Left ws i conditions
+  pub inside : i < length ws
+  pub within : end ≤ at + 12 * i
+  pub text : Writing out₀ at (lines (conditions-in ws)) (lines conditions) end out
+
+pub set-out : (out : List ℕ) (at : ℕ) (ws : List ℤ) → Listed ws → at ≤ length out → Walking out at ws out at 0
+set-out out at ws l h =
+    let start = all-left ws l in
+    record {
+      conditions = conditions-in ws;
+      left = start;
+      inside = omega (linear, ap length (start .words), length-append (all-lines (conditions-in ws)) (start .count ∷ []));
+      within = omega linear;
+      text = begun out at (lines (conditions-in ws)) h;
+    }
+
+pub arrived : {out₀ out : List ℕ} {at end i : ℕ} {ws : List ℤ} → Walking out₀ at ws out end i → length ws ≤ i + 1
+    → Wrote out₀ at (lines (conditions-in ws)) end out
+unfolding lines
+arrived w h = finished (rw (over _ _ (w .conditions) (w .left) h) at (w .text))
+
+module _ {out₀ out : List ℕ} {at end i e k : ℕ} {ws : List ℤ} {w r : ℤ} (here : Walking out₀ at ws out end i) (t : Turn ws i e (here .conditions))
+    (hk : k ≡ field-number w) (hw : w ≡ getD ws e (pos 0)) (hr : r ≡ getD ws (e + 1) (pos 0)) where
+  pub walked-on : {end′ : ℕ} {out′ : List ℕ} → Wrote out end (line (name-of k) (r ∷ take (e - i) (drop i ws))) end′ out′
+      → end′ ≤ end + 12 * length (take (e - i) (drop i ws)) + 36 → Walking out₀ at ws out′ end′ (e + 3)
+  walked-on wrote short = record {
+    conditions = t .others;
+    left = t .left;
+    inside = t .inside;
+    within = omega (linear, here .within, t .size, t .forward, short);
+    text = went-on (line (name-of k) (r ∷ take (e - i) (drop i ws))) (lines (t .others)) (rw (turn-text t hk hw hr) at (here .text)) wrote;
+  }

@@ -1,0 +1,194 @@
+-- The turns of the writer of W at skip, an assignment, a sequence and an assertion, and its end at a loop. Assumes nothing.
+use Prim.Native.Nat.{ℕ, suc, _+_, _*_, _<_}
+use mathlib.Core.Path.{_≡_, sym, ap, _∙_}
+use mathlib.Core.Logic.{_⊎_, ⊎-elim}
+use mathlib.Core.List.{List, [], _∷_, _++_}
+use native.Mathlib.Omega.{arith as linear}
+use native.Mathlib.Nat.{eq-or-lt-of-le}
+use native.Mathlib.Numerals.{add-one}
+use lib.IntN.{ℤ, pos}
+use lib.ListN.{length, getD, set, length-set}
+use lib.Seq.{getD-set-same}
+use mir.Val.{SFits}
+use mir.Syntax.{w32}
+use Rattle.script.specs.declared.RowNumber.{RowNumber}
+use Rattle.script.specs.declared.VariableNumber.{VariableNumber}
+use Rattle.script.specs.declared.StatementRow.the-variants.{Skip, Assign, Sequence, Assert}
+use Rattle.script.specs.declared.Row.{Row}
+use Rattle.script.specs.declared.Row.the-variants as Row
+use Rattle.script.specs.declared.Sort.{Sort}
+use Rattle.script.specs.declared.Sort.the-variants as Sort
+use Rattle.script.specs.Syntax.{Stmt, Formula}
+use Rattle.script.specs.Conditions.{wp}
+use Rattle.script.specs.Words.{formula-words}
+use Rattle.script.specs.Rows.{field-number, row, rows, word}
+use Rattle.script.specs.Trees.{stmt-node, expr-at, formula-at, stmt-at}
+use Rattle.formula_writer.specs.Writing.{Wrote, then, wrote-as}
+use Rattle.formula_writer.specs.Paths.{replaceᶠ, row-on, formula-under, assign-passed}
+use Rattle.formula_writer.specs.Links.{Linked}
+use Rattle.formula_writer.specs.Nodes.{Assignment, Ready}
+use Rattle.following.specs.Course.{left, next, stands, course-at, left-bounded}
+use Rattle.following.specs.Kinds.{number, Past, assert-row}
+use Rattle.following.specs.Parts.{inside, stmt-here, links-here, passed-on, on-from, left-falls, first-course, after-sequence, left-first}
+use Rattle.wp_writer.specs.Loops.{Loop, invariant-row, invariant-linked, loop-is, row-fits}
+use Rattle.wp_writer.specs.Ends.{end-formula, words-under, ready-at}
+use Rattle.wp_writer.specs.Same.{same-refl, same-set, under-same}
+use Rattle.wp_writer.specs.Walked.{Before, before-end, Step}
+
+eq-or-lt : (i j : ℕ) → i < suc j → (i ≡ j) ⊎ (i < j)
+eq-or-lt i j h = eq-or-lt-of-le (omega linear)
+
+-- a store at place n: the entries below it are as they were, and there stands the row
+entry-kept : (xs : List ℤ) (n i : ℕ) (z : ℤ) → i < n → row-on (set xs n z) i ≡ row-on xs i
+entry-kept xs n i z h = rw (same-set n xs z .at i h)
+
+entry-stored : (xs : List ℤ) (n s : ℕ) {z : ℤ} → n < length xs → z ≡ pos s → row-on (set xs n z) n ≡ s
+entry-stored xs n s {z} h e = rw (getD-set-same xs n z (pos 0) h, e)
+
+module _ (t follow path : List ℤ) (j end s : ℕ) (g : Before t follow path j end s) (more : s ≡ 2048 → ⊥) where
+  abbrev spell : Formula → List ℤ
+  spell f = words-under t path j f
+
+  -- what is to hold after the statement at hand
+  abbrev rest : Formula
+  rest = before-end t follow (next t follow s) end
+
+  pub in-rows : s < rows t
+  in-rows = inside t follow (g .course) more
+
+  pub in-table : 4 * s + 3 < length t
+  in-table = let h = in-rows in let k = g .course .table .fours in omega linear
+
+  pub in-follow : s < length follow
+  in-follow = let h = in-rows in let k = g .course .table .short in let e = g .course .followed .long in omega linear
+
+  pub here-fits : SFits w32 (pos s)
+  here-fits = row-fits t s (g .course .table) in-rows
+
+  -- the row of an assertion, where the other kinds were passed over
+  pub assert-known : {n f : ℕ} → n ≡ field-number (word t s 0) → Past n → f ≡ field-number (word t s 1) → row t s ≡ Row.Statement (Assert (number f))
+  assert-known read p h = assert-row t s read (stands t follow more (g .course) .here .1) p h
+
+  -- a node below s
+  pub node-here : (a : ℕ) {k : Sort} → Linked t s a k → Ready t path j a k
+  node-here a l = let h = in-rows in let i = l .0 in ready-at t path j a (g .course .table) (g .along) (omega linear, l .1)
+
+  -- W from s on, where its row is known
+  pub after-here : {w : Row} → row t s ≡ w → before-end t follow s end ≡ wp (stmt-node (expr-at t) (formula-at t) (stmt-at t) (row t) s w) rest
+  after-here e = stands t follow more (g .course) .after-step (end-formula t end) ∙ ap (λ (x : Stmt). wp x rest) (stmt-here t follow (g .course) more e)
+
+  -- ---- what follows comes next
+
+  -- from what was read
+  next-is : {s′ : ℕ} {z : ℤ} → s′ ≡ field-number z → z ≡ getD follow s (pos 0) → s′ ≡ next t follow s
+  next-is hf hz = rw (hf, hz)
+
+  pub next-falls : {s′ : ℕ} {z : ℤ} → s′ ≡ field-number z → z ≡ getD follow s (pos 0) → left t follow s′ < left t follow s
+  next-falls hf hz = rw (next-is hf hz) (left-falls t follow (g .course) more)
+
+  on-before : {s′ : ℕ} → s′ ≡ next t follow s → Before t follow path j end s′
+  on-before e = record { course = course-at t follow e (on-from t follow (g .course) more); ended = g .ended; along = g .along; long = g .long }
+
+  -- with the words ws written
+  on-step : {s′ : ℕ} {p p′ : ℕ} {l l′ : List ℤ} → s′ ≡ next t follow s
+      → ((q : ℕ) (l″ : List ℤ) → Wrote l′ p′ (spell rest) q l″ → Wrote l p (spell (before-end t follow s end)) q l″)
+      → Step t follow end s j p path l s′ j p′ path l′
+  on-step {s′} e f = record {
+    before = on-before e;
+    longer = omega linear;
+    kept = same-refl j path;
+    falls = rw e (left-falls t follow (g .course) more);
+    words = λ q l″ w. f q l″ (rw e at w);
+  }
+
+  pub skip-step : {s′ : ℕ} {z : ℤ} {p : ℕ} {l : List ℤ} → row t s ≡ Row.Statement Skip → s′ ≡ field-number z → z ≡ getD follow s (pos 0)
+      → Step t follow end s j p path l s′ j p path l
+  unfolding wp
+  skip-step r hf hz = on-step (next-is hf hz) (λ q l″ w. rw (after-here r) w)
+
+  -- ---- an assertion
+
+  module _ {f : RowNumber} (r : row t s ≡ Row.Statement (Assert f)) where
+    pub assert-ready : Ready t path j (f .0) Sort.Formula
+    assert-ready = node-here (f .0) (links-here t follow (g .course) more r .0)
+
+    assert-spelled : spell (before-end t follow s end) ≡ pos 23 ∷ (spell (formula-at t (f .0)) ++ spell rest)
+    unfolding wp formula-words replaceᶠ
+    assert-spelled = ap spell (after-here r)
+
+    pub assert-step : {s′ : ℕ} {z : ℤ} {p p₁ p₂ : ℕ} {l l₁ l₂ : List ℤ} → s′ ≡ field-number z → z ≡ getD follow s (pos 0) → Wrote l p (pos 23 ∷ []) p₁ l₁
+        → Wrote l₁ p₁ (formula-under t path j (f .0)) p₂ l₂ → Step t follow end s j p path l s′ j p₂ path l₂
+    assert-step hf hz w₁ w₂ = on-step (next-is hf hz) (λ q l″ w. rw assert-spelled (then w₁ (then w₂ w)))
+
+  -- ---- a sequence
+
+  pub sequence-step : {a b : RowNumber} {p : ℕ} {l : List ℤ} → row t s ≡ Row.Statement (Sequence a b)
+      → Step t follow end s j p path l (a .0) j p path l
+  sequence-step r = record {
+    before = record { course = first-course t follow (g .course) more r; ended = g .ended; along = g .along; long = g .long };
+    longer = omega linear;
+    kept = same-refl j path;
+    falls = left-first t follow (g .course) more r;
+    words = λ q l″ w. rw (after-sequence t follow (g .course) more r (end-formula t end)) w;
+  }
+
+  -- ---- an assignment
+
+  pub assign-room : j < length path
+  assign-room =
+      let w = left-bounded t follow (passed-on t follow (g .course) more) in
+      let u = g .long in
+      omega linear
+
+  module _ {z : ℤ} (is : z ≡ pos s) {v : VariableNumber} {x : RowNumber} (r : row t s ≡ Row.Statement (Assign v x)) where
+    on-path : (i : ℕ) → i < suc j → Assignment t (row-on (set path j z) i)
+    on-path i h =
+        ⊎-elim (λ q.
+        let k : row-on (set path j z) i ≡ s = ap (row-on (set path j z)) q ∙ entry-stored path j s assign-room is in
+        rw k (record { inside = in-rows; target = v; value = x; is = r }))
+        (λ q. rw (entry-kept path j i z q) (g .along .assigns i q))
+        (eq-or-lt i j h)
+
+    assign-words : (q : Formula) → spell (wp (stmt-at t s) q) ≡ words-under t (set path j z) (j + 1) q
+    assign-words q =
+        let k = entry-stored path j s assign-room is in
+        let c = assign-passed t (set path j z) j q (ap (stmt-at t) k ∙ stmt-here t follow (g .course) more r) in
+        ap formula-words (rw (← under-same t j (same-set j path z), ← k, add-one) c)
+
+    assign-spelled : spell (before-end t follow s end) ≡ words-under t (set path j z) (j + 1) rest
+    assign-spelled = ap spell (stands t follow more (g .course) .after-step (end-formula t end)) ∙ assign-words rest
+
+    pub assign-step : {s′ : ℕ} {y : ℤ} {p : ℕ} {l : List ℤ} → s′ ≡ field-number y → y ≡ getD follow s (pos 0)
+        → Step t follow end s j p path l s′ (j + 1) p (set path j z) l
+    assign-step hf hz =
+        let e = next-is hf hz in
+        let a = length-set path j z in
+        let h = assign-room in
+        record {
+          before = record {
+            course = course-at t follow e (passed-on t follow (g .course) more);
+            ended = g .ended;
+            along = record { bound = omega linear; assigns = λ i k. on-path i (omega linear) };
+            long = a ∙ g .long;
+          };
+          longer = omega linear;
+          kept = same-set j path z;
+          falls = rw e (left-falls t follow (g .course) more);
+          words = λ q l″ w. wrote-as (sym assign-spelled) (rw e at w);
+        }
+
+  -- ---- a loop
+
+  module _ {n : ℕ} (read : n ≡ field-number (word t s 0)) (kind : n ≡ 36) where
+    pub loop-here : Loop t s
+    loop-here = record { table = g .course .table; inside = in-rows; while = sym read ∙ kind }
+
+    pub invariant-ready : {i : ℕ} → i ≡ invariant-row t s → Ready t path j i Sort.Formula
+    invariant-ready {i} e = ready-at t path j i (g .course .table) (g .along) (rw e (invariant-linked t s loop-here))
+
+    pub loop-wrote : {i p q : ℕ} {l l′ : List ℤ} → i ≡ invariant-row t s → Wrote l p (formula-under t path j i) q l′
+        → Wrote l p (spell (before-end t follow s end)) q l′
+    unfolding wp
+    loop-wrote e w =
+        let a = stands t follow more (g .course) .after-step (end-formula t end) ∙ ap (λ (x : Stmt). wp x rest) (loop-is t s loop-here) in
+        rw a (rw e at w)
