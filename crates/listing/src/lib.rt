@@ -14,8 +14,8 @@ ghost use mathlib.Core.Bool.{cond};
 ghost use Prim.Native.Nat.{_+_, _*_};
 ghost use lib.IntN.{pos};
 ghost use denote.Ref.{ptr};
-ghost use Rattle.script.specs.Listing.{lines-before, lines, line-at, part-at, first-place};
-ghost use Rattle.listing.specs.Lines.{is-some, line-among, Claimed, condition-count};
+ghost use Rattle.script.specs.Listing.{lines-before, lines, line-at, part-at, first-place, condition-count};
+ghost use Rattle.listing.specs.Lines.{is-some, line-among, Claimed};
 
 fn chosen(take: bool, line: Line, kept: Line) -> Line
     ensures { λ r. ⌜ r ≡ cond take line kept ⌝ }
