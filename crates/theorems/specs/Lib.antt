@@ -34,3 +34,4 @@ pub mod Lookup
 pub mod Outcomes
 pub mod Demand
 pub mod Attempts
+pub mod ReaderAttempts
