@@ -32,6 +32,7 @@ pub mod Line
 pub mod ReadBack
 pub mod Lookup
 pub mod Outcomes
+pub mod WholeAnswer
 pub mod Demand
 pub mod Attempts
 pub mod ReaderAttempts
