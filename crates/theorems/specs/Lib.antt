@@ -31,6 +31,7 @@ pub mod Spelling
 pub mod Line
 pub mod ReadBack
 pub mod Lookup
+pub mod Nesting
 pub mod Outcomes
 pub mod WholeAnswer
 pub mod Demand
