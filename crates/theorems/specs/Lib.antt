@@ -37,3 +37,4 @@ pub mod WholeAnswer
 pub mod Demand
 pub mod Attempts
 pub mod ReaderAttempts
+pub mod WrongTurns
