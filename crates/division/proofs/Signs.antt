@@ -1,13 +1,12 @@
 -- Signed differences and the quotients by the signs of dividend and divisor, over whole numbers. Assumes nothing.
 use Prim.Native.Nat.{ℕ, zero, suc, _/_, _%_, _-_, _+_, _<_, _≤_}
 use native.Mathlib.Omega.{arith}
-use native.Mathlib.Nat.{div-le-self, mod-lt, zero-add}
-use mathlib.Core.Path.{_≡_, refl, sym, ap, _∙_}
-use mathlib.Core.Bool.{Bool, true, false, cond}
+use native.Mathlib.Nat.{div-le-self, mod-lt}
+use mathlib.Core.Path.{_≡_, refl, ap, _∙_}
+use mathlib.Core.Bool.{true, false}
 use lib.IntN.{ℤ, pos, negsuc, negℤ, natAbs, _-ℤ_}
 use lib.Signed.{ltZ, mag}
-use lib.Dec.{ltb}
-use borrow.Author.Tests.{ltb-true, lt-ltb, le-ltb}
+use borrow.Author.Tests.{ltb-true, lt-ltb}
 use mir.Facts.{toZ-ofZ}
 use mir.Val.{toZ, ofZ, SFits}
 use mir.Syntax.{w64}

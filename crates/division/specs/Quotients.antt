@@ -1,5 +1,4 @@
 -- The quotient of two 64-bit numbers as the answer that tells apart the one that is no 64-bit number. Assumes nothing.
-use Prim.Native.Nat.{ℕ}
 use mathlib.Core.Bool.{cond}
 use lib.IntN.{ℤ}
 use lib.Signed.{mag}

@@ -2,12 +2,9 @@
 use mathlib.Core.Path.{_≡_, ap, _∙_}
 use Prim.Native.Nat.{ℕ, _+_}
 use native.Mathlib.Omega.{arith}
-use lib.IntN.{ℤ, natAbs}
 use lib.Signed.{mag}
 use borrow.Author.Needs.{needs}
 use mir.Facts.{toZ-ofZ}
-use mir.Val.{toZ, ofZ}
-use mir.Syntax.{w64}
 use Rattle.division.proofs.Signs.{size-negative, size-other}
 use Rattle.division.proofs.size.Statement.{statement}
 use Rattle.division.proofs.size.Tie as tie
