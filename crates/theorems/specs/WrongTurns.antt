@@ -2,13 +2,16 @@
 -- from it at one input. Those of the rules and of their words differ from the right ones in one field of `Rules`
 -- (`right-list`: with the right fields it is the list defined), and give other words for the table of a trial row
 -- (`other-words`), so that row fails for them. Assumes nothing.
-use Prim.Native.Nat.{ℕ, zero, suc, _-_, _%_, _≤_}
+use Prim.Native.Nat.{ℕ, zero, suc, _+_, _-_, _%_, _≤_}
 use native.Mathlib.Omega.{arith as linear}
-use mathlib.Core.Path.{_≡_, refl, sym, ap, _∙_}
+use mathlib.Core.Path.{_≡_, refl, sym, ap, _∙_, subst}
 use mathlib.Core.Logic.{_≢_}
-use mathlib.Core.Bool.{Bool, true, false, _&&_, true≢false}
+use mathlib.Core.Bool.{Bool, true, false, _&&_, _||_, true≢false}
+use mathlib.Core.Bool as Bool
 use mathlib.Core.List.{List, [], _∷_, _++_}
-use lib.IntN.{ℤ, pos, negsuc, negℤ, natAbs}
+use lib.IntN.{ℤ, pos, negsuc, negℤ, natAbs, _-ℤ_}
+use lib.Signed.{leZ, ltZ}
+use lib.Dec.{T, lt→ltb}
 use lib.ListN.{length}
 use Rattle.script.specs.declared.StatementRow.the-variants.{Skip, Assign, Sequence, If, While, Assert}
 use Rattle.script.specs.declared.Row.{Row}
@@ -16,16 +19,17 @@ use Rattle.script.specs.declared.Row.the-variants as Row
 use Rattle.script.specs.declared.Connective.the-variants.{And, Implies}
 use Rattle.script.specs.declared.Rule.the-variants.{Exit, Floor, Step, Main}
 use Rattle.script.specs.declared.Relation.the-variants.{Equal}
-use borrow.Author.Tests.{eq-eqb}
+use borrow.Author.Tests.{eqb-true, eq-eqb, le-ltb}
 use Rattle.script.specs.Syntax.{Expr, mark, Formula, cmp, not, join, Stmt, skip, assign, seq, branch, loop, assert, Tree}
-use Rattle.script.specs.Meaning.{modZ, eqZ, whole, value, holds}
-use Rattle.script.specs.Run.{Frame, begin, again, Config, at, failed, Good, first-step, step-of, after}
+use Rattle.script.specs.Meaning.{State, modZ, eqZ, whole, value, holds}
+use Rattle.script.specs.Run.{Frame, begin, again, Config, at, failed, first-step, step-of, after}
 use Rattle.script.specs.Run as Run
 use Rattle.script.specs.Rows.{rows, row, row-of}
 use Rattle.script.specs.Conditions.{Condition, condition, decreased, exit, floor, conditions, walk, wp, subst-expr, subst-formula}
 use Rattle.script.specs.Words.{rule-number, trailer, line-words, all-lines, list-words, expr-words, formula-words}
 use Rattle.script.specs.Trees.{expr, formula, stmt, expr-at, formula-at, stmt-at, tree}
 use Rattle.script.specs.Refusals.{misread-node, misread, misreads}
+use Rattle.script.specs.Promise.{All-valid}
 use Rattle.script.specs.Computed.{_⨾_, example, example-a, loops-in-branches, loops-in-sequence, loop-in-loop, counting-down, zero-state, moment}
 
 -- ---- the rules, with what a wrong turn changes as fields
@@ -238,9 +242,56 @@ abbrev pub Good-below : Config → Type 0
 Good-below (at k s) = Passes-below k
 Good-below failed = ⊥
 
-pub one-pass-too-many : Good-below (moment 1) → ⊥
+too-many : Good-below (moment 1) → ⊥
 unfolding moment counting-down zero-state after Run.step step-of first-step Run.test value holds
-one-pass-too-many h = omega (linear, h .0)
+too-many h = omega (linear, h .0)
+
+-- the conditions of that script are true in all states
+either-way : (b : Bool) → T (Bool.not b || true)
+either-way true = tt
+either-way false = tt
+
+itself : (b : Bool) → T (Bool.not b || b)
+itself true = tt
+itself false = tt
+
+one-less : (x : ℤ) → T (ltZ (x -ℤ pos 1) x)
+one-less (pos zero) = tt
+one-less (pos (suc k)) = rw (le-ltb (suc k) 1 (omega linear)) (lt→ltb (suc k - 1) (suc k) (omega linear))
+one-less (negsuc k) = lt→ltb k (suc (k + 0)) (omega linear)
+
+equal : (x m : ℤ) → eqZ x m ≡ true → x ≡ m
+equal (pos a) (pos b) e = ap pos (eqb-true a b e)
+equal (pos a) (negsuc b) e = absurd (true≢false (sym e))
+equal (negsuc a) (pos b) e = absurd (true≢false (sym e))
+equal (negsuc a) (negsuc b) e = ap negsuc (eqb-true a b e)
+
+falls : (a : Bool) (x m : ℤ) → T (Bool.not (a && eqZ x m) || ltZ (x -ℤ pos 1) m)
+falls false x m = tt
+falls true x m = go (eqZ x m) refl
+  where
+    go : (b : Bool) → eqZ x m ≡ b → T (Bool.not b || ltZ (x -ℤ pos 1) m)
+    go true e = subst (λ (y : ℤ). T (ltZ (x -ℤ pos 1) y)) (equal x m e) (one-less x)
+    go false e = tt
+
+all-true : All-valid whole (conditions counting-down)
+unfolding counting-down conditions walk wp subst-expr subst-formula value holds
+all-true = (
+  λ s. either-way (Bool.not (leZ (pos 0) (s .var 0))),
+  (
+    λ s. itself (leZ (pos 0) (s .var 0)),
+    (
+      λ s. falls (leZ (pos 0) (s .var 0)) (s .var 0) (s .mark 0),
+      (λ s. tt, tt),
+    ),
+  ),
+)
+
+-- so a promise with this bound, made of every script and start, would be false
+pub bound-unsound : ((t : Tree) → All-valid whole (conditions t) → (s : State) → T (holds whole s (t .pre)) → (n : ℕ)
+    → Good-below (after whole n (Run.start t s))) → ⊥
+unfolding moment counting-down holds
+bound-unsound h = too-many (h counting-down all-true zero-state tt 1)
 
 -- ---- "Letting a loop's invariant read its own mark"
 
@@ -273,10 +324,12 @@ own-mark-unseen = (refl, refl)
 
 -- ---- "Taking the remainder's sign from the dividend."
 
-abbrev signed : ℤ → ℕ → ℤ
-signed n zero = n
-signed (pos a) (suc d) = pos (a % suc d)
-signed (negsuc a) (suc d) = negℤ (pos (suc a % suc d))
+-- by the divisor's size
+abbrev pub signed-by : ℤ → ℕ → ℤ
+signed-by n zero = n
+signed-by (pos a) (suc d) = pos (a % suc d)
+signed-by (negsuc a) (suc d) = negℤ (pos (suc a % suc d))
 
-pub signed-remainder : (signed (negsuc 6) (natAbs (pos 2)) ≡ negsuc 0) × (modZ (negsuc 6) (pos 2) ≡ pos 1)
-signed-remainder = (refl, refl)
+-- the trial row of -7 by 2: -1, and not 1
+pub sign-differs : (signed-by (negsuc 6) (natAbs (pos 2)) ≡ negsuc 0) × (modZ (negsuc 6) (pos 2) ≡ pos 1)
+sign-differs = (refl, refl)
