@@ -10,23 +10,23 @@ use mathlib.Core.Option.{none, some}
 use mathlib.Core.List.{List, [], _∷_, _++_}
 use lib.Dec.{T, lit≤}
 use lib.IntN.{ℤ, pos}
-use lib.ListN.{length, getD, take, replicate}
+use lib.ListN.{length, getD, take}
 use lib.Seq.{take-append-seam}
 use Rattle.script.specs.declared.Answer.{Answer}
 use Rattle.script.specs.declared.Rule.the-variants.{Main}
 use Rattle.script.specs.declared.Connective.the-variants.{Implies}
 use mathlib.Core.Bool.{Bool, true, false}
 use Rattle.script.specs.Syntax.{Formula, truth, join, Stmt, skip, assign, seq, branch, loop, assert, Tree}
-use Rattle.script.specs.Meaning.{State, whole, value, holds}
-use Rattle.script.specs.Run.{Config, failed, start, step, step-of, first-step, test, after, Good, Total-correctness}
+use Rattle.script.specs.Meaning.{whole, value, holds}
+use Rattle.script.specs.Run.{failed, start, step, step-of, first-step, test, after, Good, Total-correctness}
 use Rattle.script.specs.Conditions.{Condition, condition, conditions, walk, wp, subst-expr, subst-formula}
 use Rattle.script.specs.Words.{list-words, all-lines, line-words, expr-words, formula-words}
 use Rattle.script.specs.Rows.{rows, row, row-of}
 use Rattle.script.specs.Trees.{expr, formula, stmt, expr-at, formula-at, stmt-at, tree, nesting}
 use Rattle.script.specs.Refusals.{accepted, lowest, row-fault, linked, misread, misreads, length-test, row-test, script-test, unlinked-test, target-test, reading-test, nesting-test, verdict}
-use Rattle.script.specs.Generated.{Outcome, zeros, plan, scratch-need, outcome-for, outcome}
+use Rattle.script.specs.Generated.{Outcome, zeros, scratch-need, outcome-for, outcome}
 use Rattle.script.specs.Listing.{Found, guarded, read-expr, read-formula, spelled, found, line-before, lines-before, lines, read-list}
-use Rattle.script.specs.Promise.{Valid, All-valid, List-valid, Demand-3}
+use Rattle.script.specs.Promise.{All-valid, List-valid, Demand-3}
 use Rattle.script.specs.Computed.{_⨾_, example, example-a, loops-in-sequence, zero-state}
 use Rattle.theorems.specs.Options.{none-is-not, some-inj}
 use Rattle.theorems.specs.Outcomes.{outcome-cases}

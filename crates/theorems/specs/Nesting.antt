@@ -1,7 +1,7 @@
 -- 01, "Room and scratch": "Nesting is the largest number of if and while rows on one path from the script down." A path goes
 -- from a statement to a part of it, and so on down. There is one with `nesting` many ifs and whiles (`deepest`), and none has
 -- more (`none-deeper`): both by induction on the statement. Assumes nothing.
-use Prim.Native.Nat.{ℕ, zero, suc, _+_, _≤_, max}
+use Prim.Native.Nat.{ℕ, _+_, _≤_, max}
 use native.Mathlib.Omega.{arith as linear}
 use mathlib.Core.Path.{_≡_, refl}
 use mathlib.Core.Bool.{Bool, true, false}

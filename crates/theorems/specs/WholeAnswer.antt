@@ -2,7 +2,7 @@
 -- occasion, with its row, and what both buffers then hold. `occasions` are those of 1 to 12 in the order of their tests, each
 -- as 01 words it; a number is answered where its occasion arises and none of an earlier test does (`First`), and 0 where none
 -- arises. Argument: the tests and their occasions are taken in step (`Tests`). Assumes nothing.
-use Prim.Native.Nat.{ℕ, zero, suc, _<_}
+use Prim.Native.Nat.{ℕ, zero, suc, _≤_, _<_}
 use native.Mathlib.Omega.{arith}
 use mathlib.Core.Path.{_≡_, refl, sym, ap, _∙_}
 use mathlib.Core.Logic.{_↔_, _≢_, _⊎_, inl, inr, ⊎-elim}
@@ -21,7 +21,7 @@ use Rattle.script.specs.Generated.{Outcome, refuse, plan, room, scratch-need, o
 use Rattle.theorems.specs.Lowest.{Says, Lowest}
 use Rattle.theorems.specs.Occasions.{Unlinked, unlinked-row, Assigns-frozen, frozen-target}
 use Rattle.theorems.specs.Misplaced.{Misplaced, misplaced-name}
-use Rattle.theorems.specs.Numbers.{Bad-length, Faulty-row, fact-says, length-says, row-says, nesting-says}
+use Rattle.theorems.specs.Numbers.{Bad-length, Faulty-row, fact-says, length-says, row-says, row-numbers, nesting-says}
 use Rattle.theorems.specs.Outcomes.{outcome-cases}
 
 -- ---- the statement
@@ -30,6 +30,7 @@ use Rattle.theorems.specs.Outcomes.{outcome-cases}
 abbrev pub Occasion : Type 1
 Occasion = ℕ → ℕ → Type 0
 
+-- in the order of the tests; those of 2 to 6 are a faulty row's
 abbrev pub occasions : List ℤ → ℕ → ℕ → List Occasion
 occasions t list scratch =
     (λ k r. (k ≡ 1) × (r ≡ 0) × Bad-length (length t))
@@ -74,9 +75,9 @@ data Tests : Verdict → List Occasion → Type 1 where
 first-of : {v : Verdict} {Os : List Occasion} → Tests v Os → (k r : ℕ) → ((number v ≡ k) × (row-in v ≡ r)) ↔ First Os k r
 first-of done k r = (λ h. (sym (h .0), sym (h .1)), λ h. (sym (h .0), sym (h .1)))
 first-of (test accepted says rest) k r =
-    let later = first-of (rest refl) k r in
+    let rest-says = first-of (rest refl) k r in
     let never : (j q : ℕ) → ¬ _ = λ j q o. clash (says j q .1 o) in
-    (λ h. inr (never, later .0 h), ⊎-elim (λ o. absurd (never k r o)) (λ h. later .1 (h .1)))
+    (λ h. inr (never, rest-says .0 h), ⊎-elim (λ o. absurd (never k r o)) (λ h. rest-says .1 (h .1)))
   where
     clash : {j q : ℕ} → accepted ≡ refused j q → ⊥
     clash e = let z : _≡_ {A = ℕ} 0 1 = cc in omega arith
@@ -171,3 +172,19 @@ module _ (t : List ℤ) (list scratch : ℕ) where
             (λ h. f .0 (sym n ∙ h .0, sym q ∙ h .1), λ h. let g = f .1 h in (n ∙ g .0, q ∙ g .1));
         leaves = outcome-cases Leaves t list scratch refused-leaves (λ h fits. refl);
       }
+
+-- what follows from an occasion that arises, or from a later one
+later : {A B C N : Type 0} → (A → C) → (B → C) → A ⊎ (N × B) → C
+later f g = ⊎-elim f (λ h. g (h .1))
+
+pub zero-to-twelve : (t : List ℤ) (list scratch : ℕ) → outcome t list scratch .answer .number ≤ 12
+zero-to-twelve t list scratch =
+    later (λ h. omega arith)
+    (later (λ F. omega (arith, row-numbers t _ _ F))
+    (later (λ h. omega arith)
+    (later (λ h. omega arith)
+    (later (λ h. omega arith)
+    (later (λ h. omega arith)
+    (later (λ h. omega arith)
+    (later (λ h. omega arith) (λ h. omega arith))))))))
+    (whole-answer t list scratch .numbered _ _ .0 (refl, refl))
