@@ -32,6 +32,7 @@ pub mod Line
 pub mod ReadBack
 pub mod Lookup
 pub mod Nesting
+pub mod RowPaths
 pub mod Outcomes
 pub mod WholeAnswer
 pub mod Demand
