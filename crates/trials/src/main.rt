@@ -1,6 +1,6 @@
-// Runs the generator over the trial rows of document 01 and a wider set. It writes a line for each group of cases; a case that
-// gives another answer, other words, or words that are not zeros where 01 says zeros, adds a line with its name. The answers
-// wanted are worked out from 01's rules. Both buffers are full of words that are not zeros before each call.
+// Runs the generator, and div and mod, over the trial rows of document 01 and a wider set. It writes a line for each group of
+// cases; a case that gives another answer, other words, or words that are not zeros where 01 says zeros, adds a line with its
+// name. The answers wanted are worked out from 01's rules. Both buffers are full of words that are not zeros before each call.
 
 mod text; // tables and lists as text
 mod bases; // tables that several cases share
@@ -9,6 +9,7 @@ mod shared; // cases of those tables
 mod rows; // the trial rows
 mod edges; // room and scratch at their edges
 mod shapes; // scripts of each shape, with their whole lists
+mod divisions; // div and mod
 
 fn main() {
     rows::example_a();
@@ -29,4 +30,5 @@ fn main() {
     shapes::sequences();
     shapes::expressions();
     shapes::limits();
+    divisions::div_and_mod();
 }
