@@ -220,6 +220,12 @@ module _ (g : List ℤ → ℕ) (s : List ℤ → ℕ → Line) (k : List ℤ �
   pub ends-at-once : Of-every-list (λ ws. k ws (g ws) ≡ 0) → ⊥
   ends-at-once h = let a = h two two-conditions two-formed in omega (linear, next-is)
 
+  -- only the first one is found
+  pub starts-at-first : Of-every-list (λ ws. s ws (g ws) ≡ line-at ws (pos 0)) → ⊥
+  starts-at-first h =
+      let z : _≡_ {A = ℕ} 4 1 = sym (ap kind-of last-answer) ∙ ap kind-of (h two two-conditions two-formed ∙ facts .first) in
+      omega linear
+
   -- whatever it invents: from the last condition to the first, then 21; of words that are no list, 20
   pub invents-answers : (ws : List ℤ) (fs : List Found) (n : ℕ) → lines ws ≡ some fs
       → walks ws (length fs + n) (g ws) ≢ reverse (map line fs) ++ replicate n (no-line 21) → ⊥
