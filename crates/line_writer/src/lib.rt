@@ -80,7 +80,14 @@ pub fn write_exit(
     let next = script::field_number(follow[row]);
     let p1 = formula_writer::push_kind(list, at.at, kinds::IMPLIES);
     let p2 = formula_writer::push_kind(list, p1, kinds::AND);
-    let p3 = formula_writer::write_formula(table, wp_writer::invariant(table, k), list, path, 0, p2);
+    let p3 = formula_writer::write_formula(
+        table,
+        wp_writer::invariant(table, k),
+        list,
+        path,
+        0,
+        p2,
+    );
     let p4 = formula_writer::push_kind(list, p3, kinds::NOT);
     let p5 = formula_writer::write_formula(table, guard, list, path, 0, p4);
     let p6 = wp_writer::write_before(table, next, follow, path, 0, list, end, p5);
@@ -96,7 +103,14 @@ fn write_entered(table: &[i32], k: RowNumber, path: &[i32], list: &mut [i32], at
 {
     let guard = RowNumber(field(table, k.0, 1));
     let p1 = formula_writer::push_kind(list, at, kinds::AND);
-    let p2 = formula_writer::write_formula(table, wp_writer::invariant(table, k), list, path, 0, p1);
+    let p2 = formula_writer::write_formula(
+        table,
+        wp_writer::invariant(table, k),
+        list,
+        path,
+        0,
+        p1,
+    );
     formula_writer::write_formula(table, guard, list, path, 0, p2)
 }
 
@@ -115,7 +129,14 @@ pub fn write_floor(
     let p2 = write_entered(table, k, path, list, p1);
     let p3 = formula_writer::push_kind(list, p2, kinds::AT_MOST);
     let p4 = formula_writer::push_constant(list, p3, 0);
-    let p5 = formula_writer::write_expression(table, wp_writer::variant(table, k), list, path, 0, p4);
+    let p5 = formula_writer::write_expression(
+        table,
+        wp_writer::variant(table, k),
+        list,
+        path,
+        0,
+        p4,
+    );
     finish_line(list, at, p5, Rule::Floor, k)
 }
 
@@ -137,7 +158,14 @@ pub fn write_step(
     let p2 = formula_writer::push_kind(list, p1, kinds::AND);
     let p3 = write_entered(table, k, path, list, p2);
     let p4 = formula_writer::push_kind(list, p3, kinds::EQUAL);
-    let p5 = formula_writer::write_expression(table, wp_writer::variant(table, k), list, path, 0, p4);
+    let p5 = formula_writer::write_expression(
+        table,
+        wp_writer::variant(table, k),
+        list,
+        path,
+        0,
+        p4,
+    );
     let p6 = formula_writer::push_mark(list, p5, k);
     let p7 = wp_writer::write_before(table, body, follow, path, 0, list, k, p6);
     finish_line(list, at, p7, Rule::Step, k)

@@ -13,8 +13,8 @@ use lib.ListN.{length, getD, getElem?}
 use borrow.Author.Tests.{eqb-true, eqb-false, ltb-true, lt-ltb, le-leb, lt-leb}
 use Rattle.script.specs.declared.Line.{Line}
 use Rattle.script.specs.Rows.{field-number}
-use Rattle.script.specs.Listing.{_>>=_, guarded, natural, Found, lines-before, lines, line, line-at, no-line, first-place, malformed-place}
-use Rattle.list_reader.specs.Lines.{is-some, line-among, or-zero, claimed, Claimed, condition-count}
+use Rattle.script.specs.Listing.{_>>=_, guarded, natural, Found, lines-before, lines, line, line-at, no-line, first-place, malformed-place, condition-count}
+use Rattle.list_reader.specs.Lines.{is-some, line-among, or-zero, claimed, Claimed}
 use Rattle.list_reader.proofs.Walking.{lines-length}
 
 -- ---- the count

@@ -10,7 +10,7 @@ use lib.ListN.{length, getD}
 use lib.Seq.{slice}
 use Rattle.script.specs.declared.Line.{Line}
 use Rattle.script.specs.Rows.{field-number}
-use Rattle.script.specs.Listing.{Found, natural, below, row-limit, rule-of, spelled, line, line-of, no-line, lines}
+use Rattle.script.specs.Listing.{Found, natural, below, row-limit, rule-of, spelled, line, line-of, no-line}
 
 abbrev pub is-some : {A : Type 0} → Option A → Bool
 is-some none = false
@@ -61,7 +61,3 @@ claimed ws = cond (leb (length ws) 16384) (or-zero (natural (getD ws (length ws 
 pub record Claimed (ws : List ℤ) (n : ℕ) : Type 0 where
   pub is : n ≡ claimed ws
   pub small : n < 4294967295
-
--- how many conditions a list has; 0 where the words are no list
-unfoldable pub condition-count : List ℤ → ℕ
-condition-count ws = elim (lines ws) [ some fs ↦ length fs | none ↦ 0 ]

@@ -17,8 +17,8 @@ ghost use mathlib.Core.Bool.{cond};
 ghost use Prim.Native.Nat.{_+_, _*_};
 ghost use lib.IntN.{pos};
 ghost use denote.Ref.{ptr};
-ghost use Rattle.script.specs.Listing.{lines-before, lines, line-at, part-at, first-place};
-ghost use Rattle.list_reader.specs.Lines.{is-some, line-among, Claimed, condition-count};
+ghost use Rattle.script.specs.Listing.{lines-before, lines, line-at, part-at, first-place, condition-count};
+ghost use Rattle.list_reader.specs.Lines.{is-some, line-among, Claimed};
 
 fn chosen(take: bool, place: usize, kept: usize) -> usize
     ensures { λ r. ⌜ r ≡ cond take place kept ⌝ }

@@ -48,7 +48,7 @@ unfoldable pub four-rows : List ℤ
 four-rows = (16, 0, 0, 0) ⨾ (32, 0, 0, 0) ⨾ (16, 0, 0, 0) ⨾ (48, 0, 1, 2) ⨾ []
 
 -- true; if true then while true do skip (invariant true, variant 0) else while false do skip (true, 1); true
-loops-in-branches : List ℤ
+unfoldable pub loops-in-branches : List ℤ
 loops-in-branches =
     (16, 0, 0, 0) ⨾ (16, 0, 0, 0) ⨾ (16, 0, 0, 0) ⨾ (16, 0, 0, 0) ⨾ (1, 0, 0, 0) ⨾ (37, 3, 4, 0) ⨾ (32, 0, 0, 0) ⨾ (36, 2, 5, 6)
     ⨾ (17, 0, 0, 0) ⨾ (16, 0, 0, 0) ⨾ (1, 1, 0, 0) ⨾ (37, 9, 10, 0) ⨾ (32, 0, 0, 0) ⨾ (36, 8, 11, 12)
@@ -60,6 +60,13 @@ loops-in-sequence =
     (16, 0, 0, 0) ⨾ (17, 0, 0, 0) ⨾ (16, 0, 0, 0) ⨾ (1, 0, 0, 0) ⨾ (37, 2, 3, 0) ⨾ (32, 0, 0, 0) ⨾ (36, 1, 4, 5)
     ⨾ (17, 0, 0, 0) ⨾ (16, 0, 0, 0) ⨾ (1, 1, 0, 0) ⨾ (37, 8, 9, 0) ⨾ (16, 0, 0, 0) ⨾ (38, 11, 0, 0) ⨾ (36, 7, 10, 12)
     ⨾ (34, 6, 13, 0) ⨾ (16, 0, 0, 0) ⨾ (48, 0, 14, 15) ⨾ []
+
+-- while true (true, 0) do while false (true, 1) do skip: the inner one is walked with what its outer one has to restore
+unfoldable pub loop-in-loop : List ℤ
+loop-in-loop =
+    (16, 0, 0, 0) ⨾ (16, 0, 0, 0) ⨾ (16, 0, 0, 0) ⨾ (1, 0, 0, 0) ⨾ (37, 2, 3, 0)
+    ⨾ (17, 0, 0, 0) ⨾ (16, 0, 0, 0) ⨾ (1, 1, 0, 0) ⨾ (37, 6, 7, 0) ⨾ (32, 0, 0, 0) ⨾ (36, 5, 8, 9)
+    ⨾ (36, 1, 4, 10) ⨾ (16, 0, 0, 0) ⨾ (48, 0, 11, 12) ⨾ []
 
 -- n branches, each the then part of the next; the last stands at row 3 × n
 branches : ℕ → List ℤ
@@ -164,6 +171,14 @@ trials =
     ∷ 25 ∷ 23 ∷ 16 ∷ 17 ∷ 19 ∷ 1 ∷ 0 ∷ 1 ∷ 0 ∷ 2 ∷ 6 ∷ 9
     ∷ 25 ∷ 23 ∷ 23 ∷ 16 ∷ 17 ∷ 20 ∷ 1 ∷ 0 ∷ 9 ∷ 6 ∷ 23 ∷ 16 ∷ 18 ∷ 1 ∷ 0 ∷ 9 ∷ 6 ∷ 3 ∷ 6 ∷ 17
     ∷ 25 ∷ 16 ∷ 16 ∷ 4 ∷ 16 ∷ 3 ∷ 7 ∷ [])
+    ∷ lists loop-in-loop
+    (25 ∷ 23 ∷ 16 ∷ 22 ∷ 16 ∷ 16 ∷ 1 ∷ 11 ∷ 6
+    ∷ 25 ∷ 23 ∷ 16 ∷ 16 ∷ 19 ∷ 1 ∷ 0 ∷ 1 ∷ 0 ∷ 2 ∷ 11 ∷ 9
+    ∷ 25 ∷ 23 ∷ 16 ∷ 22 ∷ 17 ∷ 23 ∷ 16 ∷ 18 ∷ 1 ∷ 0 ∷ 9 ∷ 11 ∷ 1 ∷ 10 ∷ 12
+    ∷ 25 ∷ 23 ∷ 16 ∷ 17 ∷ 19 ∷ 1 ∷ 0 ∷ 1 ∷ 1 ∷ 2 ∷ 10 ∷ 9
+    ∷ 25 ∷ 23 ∷ 23 ∷ 16 ∷ 17 ∷ 20 ∷ 1 ∷ 1 ∷ 9 ∷ 10 ∷ 23 ∷ 16 ∷ 18 ∷ 1 ∷ 1 ∷ 9 ∷ 10 ∷ 3 ∷ 10 ∷ 17
+    ∷ 25 ∷ 23 ∷ 23 ∷ 16 ∷ 16 ∷ 20 ∷ 1 ∷ 0 ∷ 9 ∷ 11 ∷ 16 ∷ 3 ∷ 11 ∷ 11
+    ∷ 25 ∷ 16 ∷ 16 ∷ 4 ∷ 13 ∷ 3 ∷ 7 ∷ [])
     ∷ reads (numbers (25 ∷ 16 ∷ 16 ∷ 4 ∷ 3 ∷ 3 ∷ 1 ∷ [])) (pos 0) (record { number = 0; kind = 4; row = 3; start = 0; end = 3 })
     ∷ reads (numbers (25 ∷ 16 ∷ 16 ∷ 4 ∷ 3 ∷ 3 ∷ 1 ∷ [])) (pos 1) (no-line 21)
     ∷ reads (numbers (25 ∷ 16 ∷ 16 ∷ 4 ∷ 3 ∷ 3 ∷ 1 ∷ [])) (negsuc 0) (no-line 21)
@@ -172,12 +187,12 @@ trials =
     ∷ []
 
 trials-hold : map observed trials ≡ map expected trials
-unfolding trials observed expected numbers example example-a four-rows loops-in-branches loops-in-sequence branches nested _⨾_ outcome outcome-for verdict length-test row-test script-test unlinked-test target-test reading-test nesting-test lowest row-fault linked misread misreads row row-of expr formula stmt expr-at formula-at stmt-at tree nesting conditions walk wp subst-expr subst-formula list-words all-lines line-words expr-words formula-words read-expr read-formula spelled found line-before lines-before lines line-at
+unfolding trials observed expected numbers example example-a four-rows loops-in-branches loops-in-sequence loop-in-loop branches nested _⨾_ outcome outcome-for verdict length-test row-test script-test unlinked-test target-test reading-test nesting-test lowest row-fault linked misread misreads row row-of expr formula stmt expr-at formula-at stmt-at tree nesting conditions walk wp subst-expr subst-formula list-words all-lines line-words expr-words formula-words read-expr read-formula spelled found line-before lines-before lines line-at
 trials-hold = refl
 
 -- ---- "With guard 0 ≤ x, variant x and body x := x − 1, a start at 0 makes one pass."
 
-counting-down : Tree
+unfoldable pub counting-down : Tree
 counting-down = record {
   pre = truth true;
   body = loop 0 (cmp AtMost (const (pos 0)) (var 0)) (truth true) (var 0) (assign 0 (arith Minus (var 0) (const (pos 1))));
@@ -185,7 +200,7 @@ counting-down = record {
   row = 1;
 }
 
-zero-state : State
+unfoldable pub zero-state : State
 zero-state = record { var = λ v. pos 0; mark = λ m. pos 0 }
 
 -- how often the bodies of the loops that a run is in were begun
@@ -198,7 +213,7 @@ begun : Config → List ℕ
 begun (at k s) = passes k
 begun failed = []
 
-moment : ℕ → Config
+unfoldable pub moment : ℕ → Config
 moment n = after whole n (start counting-down zero-state)
 
 -- the first step begins the body, which the bound allows; the third leaves the loop

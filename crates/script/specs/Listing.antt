@@ -1,5 +1,5 @@
 -- 01, "Reading a finished list". In this order: a formula read from its first word, the condition that ends at a place, a
--- whole list, the line at an index, the reader that walks back. Assumes nothing.
+-- whole list, the line at an index, the count, the reader that walks back. Assumes nothing.
 use Prim.Native.Nat.{ℕ, zero, suc, _-_}
 use mathlib.Core.Option.{Option, none, some}
 use mathlib.Core.List.{List, [], _∷_, _++_, map}
@@ -193,6 +193,10 @@ line-at ws i = elim (lines ws) [ some fs ↦ line-of fs i | none ↦ no-line 20 
 
 abbrev pub part-at : List ℤ → ℤ → List ℤ
 part-at ws i = slice (line-at ws i .start) (line-at ws i .end) ws
+
+-- how many conditions a list has; 0 where the words are no list
+unfoldable pub condition-count : List ℤ → ℕ
+condition-count ws = elim (lines ws) [ some fs ↦ length fs | none ↦ 0 ]
 
 -- ---- "A reader over a finished list keeps the words and its place, and walks back one condition at a time." Its place is
 -- where the conditions not yet read end.

@@ -1,90 +1,85 @@
--- 01, "A reviewer's attempts": no function with the results of one of these wrong bodies meets the contract, which equates
--- what the generator answers and leaves with `outcome`, and what the list reader answers with `line-at`. Each is refuted at
--- one table or list. Assumes nothing.
-use Prim.Native.Nat.{ℕ}
+-- 01, "A reviewer's attempts": no body with the results of one of these wrong generators meets the contract. By demands 1 and
+-- 2, which equate what is answered and left with `outcome` (`Meets`); by demand 3 alone, where 01 says "by 3" (`Demanded`).
+-- Each is refuted at one table. What is assumed of a wrong body is what it does with accepted tables where it has room:
+-- `such-a-body` is one that does so. Assumes nothing.
+use Prim.Native.Nat.{ℕ, zero, suc, _-_, _≤_}
 use native.Mathlib.Omega.{arith as linear}
-use mathlib.Core.Path.{_≡_, refl, sym, ap, _∙_}
+use mathlib.Core.Path.{_≡_, refl, sym, ap, _∙_, subst}
 use mathlib.Core.Logic.{_≢_}
+use mathlib.Core.Option.{none, some}
 use mathlib.Core.List.{List, [], _∷_, _++_}
+use lib.Dec.{T, lit≤}
 use lib.IntN.{ℤ, pos}
-use lib.ListN.{length, getD}
+use lib.ListN.{length, getD, take}
+use lib.Seq.{take-append-seam}
 use Rattle.script.specs.declared.Answer.{Answer}
-use Rattle.script.specs.declared.Line.{Line}
 use Rattle.script.specs.declared.Rule.the-variants.{Main}
 use Rattle.script.specs.declared.Connective.the-variants.{Implies}
-use Rattle.script.specs.Syntax.{Formula, join, Stmt, skip, assign, seq, branch, loop, assert, Tree}
+use mathlib.Core.Bool.{Bool, true, false}
+use Rattle.script.specs.Syntax.{Formula, truth, join, Stmt, skip, assign, seq, branch, loop, assert, Tree}
+use Rattle.script.specs.Meaning.{whole, value, holds}
+use Rattle.script.specs.Run.{failed, start, step, step-of, first-step, test, after, Good, Total-correctness}
 use Rattle.script.specs.Conditions.{Condition, condition, conditions, walk, wp, subst-expr, subst-formula}
 use Rattle.script.specs.Words.{list-words, all-lines, line-words, expr-words, formula-words}
-use Rattle.script.specs.Rows.{row, row-of}
+use Rattle.script.specs.Rows.{rows, row, row-of}
 use Rattle.script.specs.Trees.{expr, formula, stmt, expr-at, formula-at, stmt-at, tree, nesting}
-use Rattle.script.specs.Refusals.{lowest, row-fault, linked, misread, misreads, length-test, row-test, script-test, unlinked-test, target-test, reading-test, nesting-test, verdict}
-use Rattle.script.specs.Generated.{Outcome, zeros, outcome-for, outcome}
-use Rattle.script.specs.Listing.{read-expr, read-formula, spelled, found, line-before, lines-before, lines, line-at}
-use Rattle.script.specs.Computed.{_⨾_, example, example-a, four-rows, loops-in-sequence, numbers}
+use Rattle.script.specs.Refusals.{accepted, lowest, row-fault, linked, misread, misreads, length-test, row-test, script-test, unlinked-test, target-test, reading-test, nesting-test, verdict}
+use Rattle.script.specs.Generated.{Outcome, zeros, scratch-need, outcome-for, outcome}
+use Rattle.script.specs.Listing.{Found, guarded, read-expr, read-formula, spelled, found, line-before, lines-before, lines, read-list}
+use Rattle.script.specs.Promise.{All-valid, List-valid, Demand-3}
+use Rattle.script.specs.Computed.{_⨾_, example, example-a, loops-in-sequence, zero-state}
+use Rattle.theorems.specs.Options.{none-is-not, some-inj}
+use Rattle.theorems.specs.Outcomes.{outcome-cases}
 
--- ---- the generator
+-- ---- bodies, and what is asked of them
 
--- the contract: answer, list and scratch, for every table and length
-pub record Meets (f : List ℤ → ℕ → ℕ → Outcome) : Type 0 where
+-- what a body answers and leaves, for a table, a list length and a scratch length
+abbrev pub Body : Type 0
+Body = List ℤ → ℕ → ℕ → Outcome
+
+-- demands 1 and 2: answer, list and scratch
+pub record Meets (f : Body) : Type 0 where
   pub answer : (t : List ℤ) (l s : ℕ) → f t l s .answer ≡ outcome t l s .answer
   pub list : (t : List ℤ) (l s : ℕ) → f t l s .list ≡ outcome t l s .list
   pub scratch : (t : List ℤ) (l s : ℕ) → f t l s .scratch ≡ outcome t l s .scratch
 
--- what the contract says at three tables
-example-answer : outcome example-a 512 5120 .answer ≡ record { number = 0; row = 0; conditions = 4; words = 94 }
-unfolding example-a example _⨾_ outcome outcome-for verdict length-test row-test script-test unlinked-test target-test reading-test nesting-test lowest row-fault linked misread misreads row row-of expr formula stmt expr-at formula-at stmt-at tree nesting conditions walk wp subst-expr subst-formula list-words all-lines line-words expr-words formula-words
-example-answer = refl
+-- demand 3, and nothing else
+abbrev pub Demanded : Body → Type 0
+Demanded f = (t : List ℤ) (l s : ℕ) → Demand-3 t (f t l s .answer) (f t l s .list)
 
-example-second : getD (outcome example-a 512 5120 .list) 1 (pos 0) ≡ pos 23
-unfolding example-a example _⨾_ outcome outcome-for verdict length-test row-test script-test unlinked-test target-test reading-test nesting-test lowest row-fault linked misread misreads row row-of expr formula stmt expr-at formula-at stmt-at tree nesting conditions walk wp subst-expr subst-formula list-words all-lines line-words expr-words formula-words
-example-second = refl
+abbrev planned : ℕ → ℕ → Answer
+planned n w = record { number = 0; row = 0; conditions = n; words = w }
 
-four-second : getD (outcome four-rows 7 14 .list) 1 (pos 0) ≡ pos 16
-unfolding four-rows _⨾_ outcome outcome-for verdict length-test row-test script-test unlinked-test target-test reading-test nesting-test lowest row-fault linked misread misreads row row-of expr formula stmt expr-at formula-at stmt-at tree nesting conditions walk wp subst-expr subst-formula list-words all-lines line-words expr-words formula-words
-four-second = refl
+-- a body that plans every accepted table for which it has room and scratch, with the words `ws` of n conditions for it
+abbrev pub Lists : Body → (List ℤ → ℕ) → (List ℤ → List ℤ) → Type 0
+Lists f n ws = (t : List ℤ) (l s : ℕ) → verdict t ≡ accepted → length (ws t) ≤ l → scratch-need (tree t) l ≤ s
+    → (f t l s .answer ≡ planned (n t) (length (ws t))) × (take (length (ws t)) (f t l s .list) ≡ ws t)
 
-sequence-count : outcome loops-in-sequence 512 5120 .answer .conditions ≡ 7
-unfolding loops-in-sequence _⨾_ outcome outcome-for verdict length-test row-test script-test unlinked-test target-test reading-test nesting-test lowest row-fault linked misread misreads row row-of expr formula stmt expr-at formula-at stmt-at tree nesting conditions walk wp subst-expr subst-formula list-words all-lines line-words expr-words formula-words
-sequence-count = refl
+-- there is such a body, whatever the words
+pub such-a-body : (n : List ℤ → ℕ) (ws : List ℤ → List ℤ) → (f : Body) × Lists f n ws
+such-a-body n ws = (f, λ t l s h fits enough. (refl, take-append-seam (ws t) _))
+  where
+    f : Body
+    f t l s = record { answer = planned (n t) (length (ws t)); list = ws t ++ zeros (l - length (ws t)); scratch = zeros s }
 
-sequence-planned : outcome loops-in-sequence 512 5120 .answer .number ≡ 0
-unfolding loops-in-sequence _⨾_ outcome outcome-for verdict length-test row-test script-test unlinked-test target-test reading-test nesting-test lowest row-fault linked misread misreads row row-of expr formula stmt expr-at formula-at stmt-at tree nesting conditions walk wp subst-expr subst-formula list-words all-lines line-words expr-words formula-words
-sequence-planned = refl
+-- ---- the wrong lists
 
-apart : {m n : ℕ} → pos m ≡ pos n → m ≡ n
-apart e = cc
+-- the list of one condition that is true everywhere, and that condition
+abbrev true-words : ℕ → List ℤ
+true-words r = pos 25 ∷ pos 16 ∷ pos 16 ∷ pos 4 ∷ pos r ∷ pos 3 ∷ pos 1 ∷ []
 
-module _ (f : List ℤ → ℕ → ℕ → Outcome) (meets : Meets f) where
-  -- "refuses every script"
-  pub refuses-all : ((t : List ℤ) (l s : ℕ) → f t l s .answer .number ≢ 0) → ⊥
-  refuses-all h = h example-a 512 5120 (ap (λ (a : Answer). a .number) (meets .answer example-a 512 5120 ∙ example-answer))
+abbrev true-condition : ℕ → Condition
+true-condition r = condition Main r (join Implies (truth true) (truth true))
 
-  -- gives the list `25 16 16 4 3 3 1` to all: its second word
-  pub one-list-for-all : ((t : List ℤ) (l s : ℕ) → getD (f t l s .list) 1 (pos 0) ≡ pos 16) → ⊥
-  one-list-for-all h =
-      let e = apart (sym (h example-a 512 5120) ∙ ap (λ (l : List ℤ). getD l 1 (pos 0)) (meets .list example-a 512 5120) ∙ example-second) in
-      omega linear
+-- `25 16 16 4 3 3 1`
+abbrev pub one-list : List ℤ → List ℤ
+one-list t = true-words 3
 
-  -- gives one false condition to all, `17 4 r 1 1`: its second word
-  pub one-false-for-all : ((t : List ℤ) (l s : ℕ) → getD (f t l s .list) 1 (pos 0) ≡ pos 4) → ⊥
-  one-false-for-all h =
-      let e = apart (sym (h four-rows 7 14) ∙ ap (λ (l : List ℤ). getD l 1 (pos 0)) (meets .list four-rows 7 14) ∙ four-second) in
-      omega linear
+-- one false condition: `17 4 r 1 1`, r the script's row
+abbrev pub one-false : List ℤ → List ℤ
+one-false t = pos 17 ∷ pos 4 ∷ pos (rows t - 1) ∷ pos 1 ∷ pos 1 ∷ []
 
-  -- "writes nothing and reports planned"
-  pub writes-nothing : ((t : List ℤ) (l s : ℕ) → f t l s .list ≡ zeros l) → ⊥
-  writes-nothing h =
-      let e = apart (ap (λ (l : List ℤ). getD l 1 (pos 0)) (sym (h example-a 512 5120) ∙ meets .list example-a 512 5120) ∙ example-second) in
-      omega linear
-
-  -- "invents the counts of conditions or words": whatever they are, they are those of the list defined
-  pub invents-conditions : (t : List ℤ) (l s : ℕ) → f t l s .answer .conditions ≢ outcome t l s .answer .conditions → ⊥
-  invents-conditions t l s h = h (ap (λ (a : Answer). a .conditions) (meets .answer t l s))
-
-  pub invents-words : (t : List ℤ) (l s : ℕ) → f t l s .answer .words ≢ outcome t l s .answer .words → ⊥
-  invents-words t l s h = h (ap (λ (a : Answer). a .words) (meets .answer t l s))
-
--- "walks only the first statement of a sequence and passes the rest by"
+-- "walks only the first statement of a sequence and passes the rest by": in the walk alone, where W still has the rest
 unfoldable pub first-only : Stmt → Formula → List Condition
 first-only skip q = []
 first-only (assign v e) q = []
@@ -96,50 +91,210 @@ first-only (assert a) q = []
 unfoldable pub first-conditions : Tree → List Condition
 first-conditions t = first-only (t .body) (t .post) ++ (condition Main (t .row) (join Implies (t .pre) (wp (t .body) (t .post))) ∷ [])
 
-first-count : length (first-conditions (tree loops-in-sequence)) ≡ 4
-unfolding first-conditions first-only loops-in-sequence _⨾_ outcome outcome-for verdict length-test row-test script-test unlinked-test target-test reading-test nesting-test lowest row-fault linked misread misreads row row-of expr formula stmt expr-at formula-at stmt-at tree nesting conditions walk wp subst-expr subst-formula list-words all-lines line-words expr-words formula-words
-first-count = refl
+abbrev pub first-count : List ℤ → ℕ
+first-count t = length (first-conditions (tree t))
 
-pub walks-first-only : (f : List ℤ → ℕ → ℕ → Outcome) → Meets f
-    → ((t : List ℤ) (l s : ℕ) → f t l s .answer .number ≡ 0 → f t l s .answer .conditions ≡ length (first-conditions (tree t))) → ⊥
+abbrev pub first-words : List ℤ → List ℤ
+first-words t = list-words (first-conditions (tree t))
+
+-- and in W too: the conditions of the script without the rest
+unfoldable pub first-part : Stmt → Stmt
+first-part skip = skip
+first-part (assign v e) = assign v e
+first-part (seq a b) = first-part a
+first-part (branch b x y) = branch b (first-part x) (first-part y)
+first-part (loop m b i v x) = loop m b i v (first-part x)
+first-part (assert a) = assert a
+
+abbrev pub short-tree : List ℤ → Tree
+short-tree t = record { pre = tree t .pre; body = first-part (tree t .body); post = tree t .post; row = tree t .row }
+
+abbrev pub short-count : List ℤ → ℕ
+short-count t = length (conditions (short-tree t))
+
+abbrev pub short-words : List ℤ → List ℤ
+short-words t = list-words (conditions (short-tree t))
+
+-- ---- two tables, and what the definitions give for them and for two of 01
+
+-- assert false
+unfoldable false-assertion : List ℤ
+false-assertion = (16, 0, 0, 0) ⨾ (17, 0, 0, 0) ⨾ (38, 1, 0, 0) ⨾ (16, 0, 0, 0) ⨾ (48, 0, 2, 3) ⨾ []
+
+-- skip; while true (true, 0) do assert false
+unfoldable false-body : List ℤ
+false-body =
+    (16, 0, 0, 0) ⨾ (32, 0, 0, 0) ⨾ (16, 0, 0, 0) ⨾ (16, 0, 0, 0) ⨾ (1, 0, 0, 0) ⨾ (37, 3, 4, 0) ⨾ (17, 0, 0, 0) ⨾ (38, 6, 0, 0)
+    ⨾ (36, 2, 5, 7) ⨾ (34, 1, 8, 0) ⨾ (16, 0, 0, 0) ⨾ (48, 0, 9, 10) ⨾ []
+
+-- an accepted table whose run from a state that meets the precondition fails, with a bench for a list of n words
+record Fails (t : List ℤ) (n : ℕ) : Type 0 where
+  accepts : verdict t ≡ accepted
+  need : scratch-need (tree t) n ≤ 5120
+  pre : T (holds whole zero-state (tree t .pre))
+  steps : ℕ
+  fails : after whole steps (start (tree t) zero-state) ≡ failed
+
+record Facts : Type 0 where
+  example-accepted : verdict example-a ≡ accepted
+  example-need : scratch-need (tree example-a) 512 ≤ 5120
+  example-answer : outcome example-a 512 5120 .answer ≡ planned 4 94
+  example-second : getD (outcome example-a 512 5120 .list) 1 (pos 0) ≡ pos 23
+  sequence-accepted : verdict loops-in-sequence ≡ accepted
+  sequence-need : scratch-need (tree loops-in-sequence) 512 ≤ 5120
+  sequence-count : outcome loops-in-sequence 512 5120 .answer .conditions ≡ 7
+  first-four : first-count loops-in-sequence ≡ 4
+  first-fits : length (first-words loops-in-sequence) ≤ 512
+  short-four : short-count loops-in-sequence ≡ 4
+  short-fits : length (short-words loops-in-sequence) ≤ 512
+  assertion : Fails false-assertion 512
+  body : Fails false-body 512
+  body-words : first-words false-body ≡ true-words 11
+  body-short : short-words false-body ≡ true-words 11
+  one-read : read-list (true-words 3) ≡ some (true-condition 3 ∷ [])
+  first-read : read-list (true-words 11) ≡ some (true-condition 11 ∷ [])
+
+facts : Facts
+unfolding zero-state first-conditions first-only first-part false-assertion false-body example-a example loops-in-sequence _⨾_ outcome outcome-for verdict length-test row-test script-test unlinked-test target-test reading-test nesting-test lowest row-fault linked misread misreads row row-of expr formula stmt expr-at formula-at stmt-at tree nesting conditions walk wp subst-expr subst-formula list-words all-lines line-words expr-words formula-words value holds after step step-of first-step test read-expr read-formula spelled found line-before lines-before lines read-list
+facts = record {
+  example-accepted = refl;
+  example-need = lit≤ tt;
+  example-answer = refl;
+  example-second = refl;
+  sequence-accepted = refl;
+  sequence-need = lit≤ tt;
+  sequence-count = refl;
+  first-four = refl;
+  first-fits = lit≤ tt;
+  short-four = refl;
+  short-fits = lit≤ tt;
+  assertion = record { accepts = refl; need = lit≤ tt; pre = tt; steps = 1; fails = refl };
+  body = record { accepts = refl; need = lit≤ tt; pre = tt; steps = 3; fails = refl };
+  body-words = refl;
+  body-short = refl;
+  one-read = refl;
+  first-read = refl;
+}
+
+-- ---- "refuses every script: shut out by demand 1"
+
+pub refuses-all : (f : Body) → Meets f → ((t : List ℤ) (l s : ℕ) → f t l s .answer .number ≢ 0) → ⊥
+refuses-all f meets h = h example-a 512 5120 (ap (λ (a : Answer). a .number) (meets .answer example-a 512 5120 ∙ facts .example-answer))
+
+-- ---- by demand 2
+
+-- a body that lists n conditions gives as many as there are
+as-many : (f : Body) → Meets f → (n : List ℤ → ℕ) (ws : List ℤ → List ℤ) → Lists f n ws → (t : List ℤ) → verdict t ≡ accepted
+    → length (ws t) ≤ 512 → scratch-need (tree t) 512 ≤ 5120 → n t ≡ outcome t 512 5120 .answer .conditions
+as-many f meets n ws h t ok fits enough =
+    ap (λ (a : Answer). a .conditions) (sym (h t 512 5120 ok fits enough .0) ∙ meets .answer t 512 5120)
+
+not-one : outcome example-a 512 5120 .answer .conditions ≢ 1
+not-one e = let z = ap (λ (a : Answer). a .conditions) (facts .example-answer) in omega linear
+
+pub one-list-for-all : (f : Body) → Meets f → Lists f (λ t. 1) one-list → ⊥
+one-list-for-all f meets h =
+    not-one (sym (as-many f meets (λ t. 1) one-list h example-a (facts .example-accepted) (lit≤ tt) (facts .example-need)))
+
+pub one-false-for-all : (f : Body) → Meets f → Lists f (λ t. 1) one-false → ⊥
+one-false-for-all f meets h =
+    not-one (sym (as-many f meets (λ t. 1) one-false h example-a (facts .example-accepted) (lit≤ tt) (facts .example-need)))
+
+pub walks-first-only : (f : Body) → Meets f → Lists f first-count first-words → ⊥
 walks-first-only f meets h =
-    let a = meets .answer loops-in-sequence 512 5120 in
-    let three = h loops-in-sequence 512 5120 (ap (λ (x : Answer). x .number) a ∙ sequence-planned) ∙ first-count in
-    let all = ap (λ (x : Answer). x .conditions) a ∙ sequence-count in
+    let four = as-many f meets first-count first-words h loops-in-sequence (facts .sequence-accepted) (facts .first-fits) (facts .sequence-need) in
+    omega (linear, facts .first-four, facts .sequence-count)
+
+pub leaves-rest-out : (f : Body) → Meets f → Lists f short-count short-words → ⊥
+leaves-rest-out f meets h =
+    let four = as-many f meets short-count short-words h loops-in-sequence (facts .sequence-accepted) (facts .short-fits) (facts .sequence-need) in
+    omega (linear, facts .short-four, facts .sequence-count)
+
+-- "writes nothing and reports planned", whatever counts it reports
+abbrev pub Writes-nothing : Body → Type 0
+Writes-nothing f = (t : List ℤ) (l s : ℕ) → verdict t ≡ accepted → scratch-need (tree t) l ≤ s
+    → (f t l s .answer .number ≡ 0) × (f t l s .list ≡ zeros l)
+
+apart : {m n : ℕ} → pos m ≡ pos n → m ≡ n
+apart e = cc
+
+pub writes-nothing : (f : Body) → Meets f → Writes-nothing f → ⊥
+writes-nothing f meets h =
+    let none = h example-a 512 5120 (facts .example-accepted) (facts .example-need) .1 in
+    let e = apart (ap (λ (l : List ℤ). getD l 1 (pos 0)) (sym none ∙ meets .list example-a 512 5120) ∙ facts .example-second) in
     omega linear
 
--- ---- the list reader: `l` answers for words and an index
+-- "invents the counts of conditions or words: by 2, where both belong to the list defined"
+pub record Counted (t : List ℤ) (a : Answer) : Type 0 where
+  pub conditions-listed : a .number ≡ 0 → a .conditions ≡ length (conditions (tree t))
+  pub words-listed : a .number ≡ 0 → a .words ≡ length (list-words (conditions (tree t)))
+  pub none-refused : a .number ≢ 0 → (a .conditions ≡ 0) × (a .words ≡ 0)
 
-seven : List ℤ
-seven = numbers (25 ∷ 16 ∷ 16 ∷ 4 ∷ 3 ∷ 3 ∷ 1 ∷ [])
+pub invents-counts : (f : Body) → Meets f → (t : List ℤ) (l s : ℕ) → ¬ Counted t (f t l s .answer) → ⊥
+invents-counts f meets t l s h = h (rw (meets .answer t l s) counted)
+  where
+    counted : Counted t (outcome t l s .answer)
+    counted = outcome-cases (λ o. Counted t (o .answer)) t l s
+        (λ n r d. record { conditions-listed = λ z. absurd (d z); words-listed = λ z. absurd (d z); none-refused = λ e. (refl, refl) })
+        (λ ok fits. record { conditions-listed = λ z. refl; words-listed = λ z. refl; none-refused = λ e. absurd (e refl) })
 
-seven-found : line-at seven (pos 0) .number ≡ 0
-unfolding seven numbers row-of read-expr read-formula spelled found line-before lines-before lines line-at
-seven-found = refl
+-- ---- by demand 3 alone
 
-none-found : line-at [] (pos 0) .number ≡ 20
-unfolding row-of read-expr read-formula spelled found line-before lines-before lines line-at
-none-found = refl
+not-correct : (t : List ℤ) (n : ℕ) → Fails t n → Total-correctness whole (tree t) zero-state → ⊥
+not-correct t n F c = subst Good (F .fails) (c .good (F .steps))
 
-past-found : line-at seven (pos 1) .number ≡ 21
-unfolding seven numbers row-of read-expr read-formula spelled found line-before lines-before lines line-at
-past-found = refl
+-- where the words left claim nothing false, a run that fails refutes the body
+claims-nothing : (f : Body) → Demanded f → (t : List ℤ) → Fails t 512 → f t 512 5120 .answer .number ≡ 0
+    → List-valid whole (take (f t 512 5120 .answer .words) (f t 512 5120 .list)) → ⊥
+unfolding Demand-3
+claims-nothing f demanded t F planned valid = not-correct t 512 F (demanded t 512 5120 planned valid zero-state (F .pre))
 
-module _ (l : List ℤ → ℤ → Line) (meets : (ws : List ℤ) (i : ℤ) → l ws i ≡ line-at ws i) where
-  number-at : (ws : List ℤ) (i : ℤ) {n : ℕ} → line-at ws i .number ≡ n → l ws i .number ≡ n
-  number-at ws i e = ap (λ (x : Line). x .number) (meets ws i) ∙ e
+-- a list of one condition that is true in all states
+one-valid : (ws : List ℤ) (r : ℕ) → read-list ws ≡ some (true-condition r ∷ []) → List-valid whole ws
+unfolding holds
+one-valid ws r q cs p = subst (All-valid whole) (some-inj (sym q ∙ p)) (λ s. tt, tt)
 
-  pub accepts-no-list : ((ws : List ℤ) (i : ℤ) → l ws i .number ≢ 0) → ⊥
-  accepts-no-list h = h seven (pos 0) (number-at seven (pos 0) seven-found)
+lists-true : (f : Body) → Demanded f → (n : List ℤ → ℕ) (ws : List ℤ → List ℤ) → Lists f n ws → (t : List ℤ) → Fails t 512
+    → length (ws t) ≤ 512 → (r : ℕ) → read-list (ws t) ≡ some (true-condition r ∷ []) → ⊥
+lists-true f demanded n ws h t F fits r q =
+    let g = h t 512 5120 (F .accepts) fits (F .need) in
+    let words : f t 512 5120 .answer .words ≡ length (ws t) = ap (λ (a : Answer). a .words) (g .0) in
+    claims-nothing f demanded t F (ap (λ (a : Answer). a .number) (g .0)) (rw (words, g .1) (one-valid (ws t) r q))
 
-  pub accepts-every-list : ((ws : List ℤ) (i : ℤ) → l ws i .number ≢ 20) → ⊥
-  accepts-every-list h = h [] (pos 0) (number-at [] (pos 0) none-found)
+pub one-list-by-3 : (f : Body) → Demanded f → Lists f (λ t. 1) one-list → ⊥
+one-list-by-3 f demanded h = lists-true f demanded (λ t. 1) one-list h false-assertion (facts .assertion) (lit≤ tt) 3 (facts .one-read)
 
-  pub accepts-every-index : ((ws : List ℤ) (i : ℤ) → l ws i .number ≢ 21) → ⊥
-  accepts-every-index h = h seven (pos 1) (number-at seven (pos 1) past-found)
+pub first-only-by-3 : (f : Body) → Demanded f → Lists f first-count first-words → ⊥
+first-only-by-3 f demanded h =
+    lists-true f demanded first-count first-words h false-body (facts .body) (rw (facts .body-words) (lit≤ tt)) 11
+    (rw (facts .body-words) (facts .first-read))
 
-  pub one-line-for-all : ((ws vs : List ℤ) (i j : ℤ) → l ws i ≡ l vs j) → ⊥
-  one-line-for-all h =
-      let e = sym (number-at seven (pos 0) seven-found) ∙ ap (λ (x : Line). x .number) (h seven [] (pos 0) (pos 0)) ∙ number-at [] (pos 0) none-found in
-      let z : _≡_ {A = ℕ} 0 20 = e in
-      omega linear
+pub rest-out-by-3 : (f : Body) → Demanded f → Lists f short-count short-words → ⊥
+rest-out-by-3 f demanded h =
+    lists-true f demanded short-count short-words h false-body (facts .body) (rw (facts .body-short) (lit≤ tt)) 11
+    (rw (facts .body-short) (facts .first-read))
+
+-- zeros are no list
+zero-word : (w l k : ℕ) → getD (take w (zeros l)) k (pos 0) ≡ pos 0
+zero-word zero l k = refl
+zero-word (suc w) zero k = refl
+zero-word (suc w) (suc l) zero = refl
+zero-word (suc w) (suc l) (suc k) = zero-word w l k
+
+no-list : (ws : List ℤ) → getD ws (length ws - 1) (pos 0) ≡ pos 0 → read-list ws ≡ none
+unfolding read-list lines
+no-list ws h = rw (h, neither)
+  where
+    neither : (b : Bool) → guarded {A = List Found} b none ≡ none
+    neither true = refl
+    neither false = refl
+
+zeros-unread : (ws : List ℤ) (w l : ℕ) → ws ≡ zeros l → read-list (take w ws) ≡ none
+zeros-unread ws w l e = rw e (no-list (take w (zeros l)) (zero-word w l _))
+
+pub writes-nothing-by-3 : (f : Body) → Demanded f → Writes-nothing f → ⊥
+writes-nothing-by-3 f demanded h =
+    let F = facts .assertion in
+    let g = h false-assertion 512 5120 (F .accepts) (F .need) in
+    let unread = zeros-unread (f false-assertion 512 5120 .list) (f false-assertion 512 5120 .answer .words) 512 (g .1) in
+    claims-nothing f demanded false-assertion F (g .0) (λ cs q. none-is-not (sym unread ∙ q))

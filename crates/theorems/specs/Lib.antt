@@ -31,6 +31,11 @@ pub mod Spelling
 pub mod Line
 pub mod ReadBack
 pub mod Lookup
+pub mod Nesting
+pub mod RowPaths
 pub mod Outcomes
+pub mod WholeAnswer
 pub mod Demand
 pub mod Attempts
+pub mod ReaderAttempts
+pub mod WrongTurns

@@ -35,7 +35,7 @@ then-says accepted w f g k r = (λ e. inr (refl, g refl k r .0 e), ⊎-elim (λ 
 then-says (refused n q) w f g k r = (λ e. inl (f k r .0 e), ⊎-elim (f k r .1) (λ h. clash (sym (h .0))))
 
 -- a test of one fact gives its number and row
-fact-says : {P : Type 0} (b : Bool) (n q : ℕ) → (b ≡ true) ↔ P → Says (cond b (refused n q) accepted) (λ k r. (k ≡ n) × (r ≡ q) × P)
+pub fact-says : {P : Type 0} (b : Bool) (n q : ℕ) → (b ≡ true) ↔ P → Says (cond b (refused n q) accepted) (λ k r. (k ≡ n) × (r ≡ q) × P)
 fact-says true n q h k r = (λ e. (cc, cc, h .0 refl), λ s. cc (s .0, s .1))
 fact-says false n q h k r = (λ e. clash e, λ s. absurd (false≢true (h .1 (s .2))))
 
@@ -58,12 +58,12 @@ length-iff n = Iff·trans (or-iff (eqb n 0) (not (eqb (n % 4) 0) || ltb 8192 n))
     rest : ((not (eqb (n % 4) 0) || ltb 8192 n) ≡ true) ↔ ((n % 4 ≢ 0) ⊎ (8192 < n))
     rest = Iff·trans (or-iff (not (eqb (n % 4) 0)) (ltb 8192 n)) (either fours (ltb-true 8192 n, lt-ltb 8192 n))
 
-length-says : (ws : List ℤ) → Says (length-test ws) (λ k r. (k ≡ 1) × (r ≡ 0) × Bad-length (length ws))
+pub length-says : (ws : List ℤ) → Says (length-test ws) (λ k r. (k ≡ 1) × (r ≡ 0) × Bad-length (length ws))
 unfolding length-test
 length-says ws = fact-says (bad-length (length ws)) 1 0 (length-iff (length ws))
 
 -- "nesting over 8"
-nesting-says : (ws : List ℤ) → Says (nesting-test ws) (λ k r. (k ≡ 10) × (r ≡ 0) × (8 < nesting (tree ws .body)))
+pub nesting-says : (ws : List ℤ) → Says (nesting-test ws) (λ k r. (k ≡ 10) × (r ≡ 0) × (8 < nesting (tree ws .body)))
 unfolding nesting-test
 nesting-says ws =
     rw (turned (leb n 8) accepted (refused 10 0)) (fact-says (not (leb n 8)) 10 0 (Iff·trans (not-iff (leb n 8)) (leb-false n 8, lt-leb n 8)))
@@ -80,7 +80,7 @@ pub record Faulty-row (ws : List ℤ) (k r : ℕ) : Type 0 where
   pub some : k ≢ 0
   pub lower : (j : ℕ) → j < r → Fault ws j 0
 
-row-says : (ws : List ℤ) → Says (row-test ws) (Faulty-row ws)
+pub row-says : (ws : List ℤ) → Says (row-test ws) (Faulty-row ws)
 unfolding row-test
 row-says ws k r = Iff·trans (lowest-refuses (row-fault ws) (rows ws) 0 k r) (out, back)
   where

@@ -1,10 +1,11 @@
-// Runs the trial rows of document 01 and writes a line for each: its name, and what the generator answers.
+// Runs the trial rows of document 01 and writes a line for each: its name, and what the generator answers, or div and mod.
 
 mod text; // numbers as the document prints them
 mod run; // one trial
 mod example; // example A, by room and scratch, and with a row edited
 mod small; // the script of four rows, and tables by their number of words
 mod nesting; // branches in one another
+mod divisions; // div and mod
 
 fn main() {
     example::rooms();
@@ -14,4 +15,5 @@ fn main() {
     example::edits();
     nesting::eight();
     nesting::nine();
+    divisions::all();
 }
