@@ -200,20 +200,30 @@ pub fn first_place(words: &[i32]) -> usize {
 
 /// A reader's step: the line that ends at the place, which is moved back
 /// before it. It reads the words of that line alone.
+///
+/// The numbers are lent one by one: a struct that is lent by its fields and then
+/// returned is copied as a whole right after the fields were stored, which costs
+/// as much as the step.
 pub fn step(words: &[i32], place: &mut usize) -> Line {
-    let mut line = Line::default();
+    let (mut number, mut kind, mut row, mut start, mut end) = (0, 0, 0, 0, 0);
     // SAFETY: as in `check`, for all words and every place.
     unsafe {
         exported::leqwarti_step(
             words.as_ptr(),
             words.len(),
             from_mut(place),
-            from_mut(&mut line.number),
-            from_mut(&mut line.kind),
-            from_mut(&mut line.row),
-            from_mut(&mut line.start),
-            from_mut(&mut line.end),
+            from_mut(&mut number),
+            from_mut(&mut kind),
+            from_mut(&mut row),
+            from_mut(&mut start),
+            from_mut(&mut end),
         );
     }
-    line
+    Line {
+        number,
+        kind,
+        row,
+        start,
+        end,
+    }
 }
