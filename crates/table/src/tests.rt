@@ -90,12 +90,11 @@ fn either(a: bool, b: bool) -> bool
 fn is_named(kind: usize, a: usize) -> bool
     ensures { λ r. ⌜ r ≡ kind-named kind a ⌝ }
 {
-    match kind {
-        kinds::MARK => true,
-        kinds::VARIABLE => 128 <= a,
-        kinds::ASSIGN => 128 <= a,
-        _ => false,
-    }
+    let frozen = both(
+        either(kind == kinds::VARIABLE, kind == kinds::ASSIGN),
+        128 <= a,
+    );
+    either(kind == kinds::MARK, frozen)
 }
 
 // Whether any row is a mark or has a frozen name: where none is, 8 and 9 pass.
