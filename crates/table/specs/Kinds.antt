@@ -1,7 +1,7 @@
 -- What the tests 7 to 10 ask of a row, by the number of its kind: whether it is a script, has a name that may be misplaced or
 -- assigned to, and its nesting from those of its links. Argument: each of the 49 numbers up to 48 computes. Assumes nothing.
 use Prim.Native.Nat.{ℕ, suc, _<_, max}
-use mathlib.Core.Path.{_≡_, refl, ap, _∙_}
+use mathlib.Core.Path.{_≡_, refl, ap}
 use mathlib.Core.Bool.{Bool, true, false, cond, _&&_, _||_}
 use mathlib.Core.List.{List}
 use native.Mathlib.Omega.{arith as linear}

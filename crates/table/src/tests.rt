@@ -9,7 +9,7 @@ ghost use Prim.Native.Nat.{ℕ, _-_};
 ghost use lib.ListN.{length};
 ghost use Rattle.script.specs.Rows.{rows};
 ghost use Rattle.script.specs.Refusals.{bad-length, frozen, linked, unlinked-test, script-test, target-test};
-ghost use Rattle.rows.specs.Faults.{Sized, States};
+ghost use Rattle.rows.specs.States.{Sized, States};
 ghost use Rattle.table.specs.Kinds.{kind-assigns, kind-named};
 ghost use Rattle.table.specs.Verdicts.{verdict-of};
 ghost use Rattle.table.specs.Lowest.{Nameless-at, Rows-tested};
