@@ -7,7 +7,7 @@ ghost use lib.ListN.{length};
 ghost use Rattle.script.specs.Rows.{field-number, word};
 ghost use Rattle.rows.specs.Patterns.{blank, cell, limited};
 ghost use Rattle.rows.specs.Patterns.{patterns as Patterns·patterns};
-ghost use Rattle.rows.specs.Faults.{Ready, Tested, Tried};
+ghost use Rattle.rows.specs.States.{Ready, Tested, Tried};
 ghost use Rattle.rows.specs.Faults.{first as Faults·first};
 
 // The kinds of 01, four letters to each number from 0 to 48: the sort of its rows, then what their three fields hold. A capital

@@ -17,7 +17,7 @@ use Rattle.script.specs.declared.RowNumber.{RowNumber}
 use Rattle.table.specs.declared.Verdict.{Verdict as Answer}
 use Rattle.table.specs.declared.Verdict.the-variants as Answer
 use Rattle.table.specs.Verdicts.{verdict-of}
-use Rattle.rows.specs.Faults.{Sized}
+use Rattle.rows.specs.States.{Sized}
 use Rattle.table.specs.Misread.{Sound}
 
 pub sized : (t : List ℤ) {q : Bool} → q ≡ bad-length (length t) → q ≡ false → Sized t

@@ -1,8 +1,8 @@
 -- What the tests 7 to 10 ask of a row, by the number of its kind: whether it is a script, has a name that may be misplaced or
 -- assigned to, and its nesting from those of its links. Argument: each of the 49 numbers up to 48 computes. Assumes nothing.
 use Prim.Native.Nat.{ℕ, suc, _<_, max}
-use mathlib.Core.Path.{_≡_, refl, ap, _∙_}
-use mathlib.Core.Bool.{Bool, true, false, cond, _||_}
+use mathlib.Core.Path.{_≡_, refl, ap}
+use mathlib.Core.Bool.{Bool, true, false, cond, _&&_, _||_}
 use mathlib.Core.List.{List}
 use native.Mathlib.Omega.{arith as linear}
 use borrow.Author.Tests.{ne-eqb}
@@ -66,7 +66,7 @@ row-nesting D Row.Unknown = 0
 -- ---- the same by the number n of the kind, where a, b and c are the numbers in the fields
 
 abbrev pub kind-named : ℕ → ℕ → Bool
-kind-named n a = cond (eqb n 9) true (cond (eqb n 2) (leb 128 a) (cond (eqb n 33) (leb 128 a) false))
+kind-named n a = eqb n 9 || ((eqb n 2 || eqb n 33) && leb 128 a)
 
 abbrev pub kind-assigns : ℕ → ℕ → Bool
 kind-assigns n a = cond (eqb n 33) (frozen a || false) false

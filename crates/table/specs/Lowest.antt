@@ -4,7 +4,7 @@ use Prim.Native.Nat.{ℕ, suc, _+_, _-_, _%_, _≤_, _<_}
 use mathlib.Core.Path.{_≡_, refl, sym, ap, _∙_}
 use mathlib.Core.Logic.{_≢_}
 use mathlib.Core.Bool.{Bool, true, false, _||_}
-use mathlib.Core.List.{List, []}
+use mathlib.Core.List.{List}
 use native.Mathlib.Omega.{arith as linear}
 use native.Mathlib.Decide.{ℕ-discrete}
 use native.Mathlib.Numerals.{add-one}
@@ -17,7 +17,7 @@ use Rattle.script.specs.Refusals.{bad-length, Verdict, accepted, refused, lowes
 use Rattle.table.specs.declared.Verdict.{Verdict as Answer}
 use Rattle.table.specs.declared.Verdict.the-variants as Answer
 use Rattle.table.specs.Verdicts.{verdict-of}
-use Rattle.rows.specs.Faults.{Sized, States, Tested, states-none, small-letter, capital-letter}
+use Rattle.rows.specs.States.{Sized, States, Tested, states-none, small-letter, capital-letter}
 use Rattle.table.specs.Kinds.{kind-assigns, kind-named, named, assigns-at, named-at, script-at}
 
 -- ---- a loop over the rows below n, at row i

@@ -17,7 +17,7 @@ use Rattle.script.specs.Refusals.{frozen, all-below, well-sorted, in-range, mis
 use Rattle.table.specs.declared.Reads.{Reads}
 use Rattle.table.specs.declared.Reads.the-variants as Reads
 use Rattle.table.specs.Seen.{Shows, shows-more}
-use Rattle.rows.specs.Faults.{Sized}
+use Rattle.rows.specs.States.{Sized}
 use Rattle.table.specs.Reads.{reads-of, reads-node, node-is, Lower, reads-lower}
 
 -- what a descent needs of a table

@@ -19,7 +19,7 @@ use Rattle.theorems.specs.Lowest.{lowest-accepts}
 use Rattle.theorems.specs.Misplaced.{misread-iff}
 use Rattle.theorems.specs.Standing.{Wrong, frozen-in-code, mark-in-code, mark-outside}
 use Rattle.table.specs.Seen.{shows-none}
-use Rattle.rows.specs.Faults.{Sized}
+use Rattle.rows.specs.States.{Sized}
 use Rattle.table.specs.Kinds.{kind-assigns, kind-named, named, assigns-at, named-at}
 use Rattle.table.specs.Lowest.{Nameless, Reached, reached-none, reached-more, reached-fault, reached-all}
 use Rattle.table.specs.Misread.{Misread, least}

@@ -9,7 +9,7 @@ ghost use Prim.Native.Nat.{ℕ, _-_};
 ghost use lib.ListN.{length};
 ghost use Rattle.script.specs.Rows.{rows};
 ghost use Rattle.script.specs.Refusals.{bad-length, frozen, linked, unlinked-test, script-test, target-test};
-ghost use Rattle.rows.specs.Faults.{Sized, States};
+ghost use Rattle.rows.specs.States.{Sized, States};
 ghost use Rattle.table.specs.Kinds.{kind-assigns, kind-named};
 ghost use Rattle.table.specs.Verdicts.{verdict-of};
 ghost use Rattle.table.specs.Lowest.{Nameless-at, Rows-tested};
@@ -90,12 +90,11 @@ fn either(a: bool, b: bool) -> bool
 fn is_named(kind: usize, a: usize) -> bool
     ensures { λ r. ⌜ r ≡ kind-named kind a ⌝ }
 {
-    match kind {
-        kinds::MARK => true,
-        kinds::VARIABLE => 128 <= a,
-        kinds::ASSIGN => 128 <= a,
-        _ => false,
-    }
+    let frozen = both(
+        either(kind == kinds::VARIABLE, kind == kinds::ASSIGN),
+        128 <= a,
+    );
+    either(kind == kinds::MARK, frozen)
 }
 
 // Whether any row is a mark or has a frozen name: where none is, 8 and 9 pass.

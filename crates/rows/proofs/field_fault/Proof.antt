@@ -1,6 +1,6 @@
 -- `rows::field_fault` meets its contract: a lemma of Faults for each answer. Assumes nothing.
 use borrow.Author.Needs.{needs}
-use Rattle.rows.specs.Faults.{name-in, name-out, link-rises, link-taken, link-twice, link-other}
+use Rattle.rows.specs.States.{name-in, name-out, link-rises, link-taken, link-twice, link-other}
 use Rattle.rows.proofs.field_fault.Statement.{statement}
 use Rattle.rows.proofs.field_fault.Tie as tie
 

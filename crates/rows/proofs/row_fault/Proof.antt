@@ -2,7 +2,7 @@
 use mathlib.Core.Path.{refl}
 use native.Mathlib.Omega.{arith}
 use borrow.Author.Needs.{needs}
-use Rattle.rows.specs.Faults.{in-table, sort-letter, unlisted-row, unknown-row, row-tested}
+use Rattle.rows.specs.States.{in-table, sort-letter, unlisted-row, unknown-row, row-tested}
 use Rattle.rows.proofs.row_fault.Statement.{statement}
 use Rattle.rows.proofs.row_fault.Tie as tie
 

@@ -6,7 +6,7 @@ use mathlib.Core.List.{List}
 use lib.IntN.{ℤ}
 use lib.ListN.{length-replicate}
 use Rattle.script.specs.Refusals.{Verdict, accepted, row-test, script-test, nesting-test, verdict}
-use Rattle.rows.specs.Faults.{Sized}
+use Rattle.rows.specs.States.{Sized}
 use Rattle.table.specs.Misread.{Sound}
 use Rattle.table.specs.Verdicts.{verdict-of, passes, examined-accepted, examined-refused}
 use Rattle.table.specs.Check.{sized, sound, from-rows, from-script, from-unlinked, from-names, short-refused, length-passed, goes-on, decides, nesting-accepted, nesting-refused}

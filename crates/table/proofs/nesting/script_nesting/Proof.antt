@@ -4,7 +4,7 @@ use Prim.Native.Nat.{ℕ, _-_, _≤_}
 use native.Mathlib.Omega.{arith}
 use borrow.Author.Needs.{needs}
 use lib.ListN.{length-replicate}
-use Rattle.rows.specs.Faults.{in-table}
+use Rattle.rows.specs.States.{in-table}
 use Rattle.table.specs.Nesting.{Nestings, nestings-none, nestings-more, body-in, body-fits, script-nesting-of}
 use Rattle.table.proofs.nesting.script_nesting.Statement.{statement}
 use Rattle.table.proofs.nesting.script_nesting.Tie as tie

@@ -2,7 +2,7 @@
 use Prim.Native.Nat.{_-_, _≤_}
 use native.Mathlib.Omega.{arith}
 use borrow.Author.Needs.{needs}
-use Rattle.rows.specs.Faults.{in-table}
+use Rattle.rows.specs.States.{in-table}
 use Rattle.table.specs.Lowest.{Nameless-at, nameless-none, nameless-more, nameless-all}
 use Rattle.table.proofs.tests.any_named.Statement.{statement}
 use Rattle.table.proofs.tests.any_named.Tie as tie

@@ -3,7 +3,7 @@ use Prim.Native.Nat.{_-_}
 use native.Mathlib.Omega.{arith}
 use borrow.Author.Needs.{needs}
 use Rattle.script.specs.Refusals.{target-fault}
-use Rattle.rows.specs.Faults.{in-table}
+use Rattle.rows.specs.States.{in-table}
 use Rattle.table.specs.Lowest.{Reached, reached-none, targets-more, targets-refused, targets-accepted}
 use Rattle.table.proofs.tests.check_targets.Statement.{statement}
 use Rattle.table.proofs.tests.check_targets.Tie as tie

@@ -1,19 +1,19 @@
 -- `table::tests::is_named` meets its contract. Assumes nothing.
-use borrow.Author.Tests.{ne-eqb}
+use borrow.Author.Needs.{needs}
 use Rattle.table.proofs.tests.is_named.Statement.{statement}
 use Rattle.table.proofs.tests.is_named.Tie as tie
 
+either-requires : tie.Need-either-requires
+either-requires c κs = search needs
+
+both-requires : tie.Need-both-requires
+both-requires c κs = search needs
+
+either-requires-2 : tie.Need-either-requires-2
+either-requires-2 c κs = search needs
+
 returns : tie.Need-returns
-returns c = rw (c .match .keys1)
-
-returns-2 : tie.Need-returns-2
-returns-2 c = rw (c .match .keys2)
-
-returns-3 : tie.Need-returns-3
-returns-3 c = rw (c .match .keys3)
-
-returns-4 : tie.Need-returns-4
-returns-4 c = rw (ne-eqb _ 9 (c .match .rest .0 .0 .1), ne-eqb _ 2 (c .match .rest .0 .1), ne-eqb _ 33 (c .match .rest .1))
+returns c = rw (c .either2 .ensures, c .before .both .ensures, c .before .before .either .ensures)
 
 pub is-named-spec : {M : Type 1} → statement M
-is-named-spec = tie.close (tie.spec returns returns-2 returns-3 returns-4)
+is-named-spec = tie.close (tie.spec either-requires both-requires either-requires-2 returns)
