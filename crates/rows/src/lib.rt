@@ -2,9 +2,7 @@
 
 ghost use mathlib.Core.Path.{_≡_};
 ghost use mathlib.Core.Bool.{_&&_};
-ghost use Prim.Native.Nat.{ℕ, _+_, _*_, _≤_, _<_};
-ghost use lib.ListN.{length};
-ghost use Rattle.script.specs.Rows.{field-number, word};
+ghost use Prim.Native.Nat.{_≤_};
 ghost use Rattle.rows.specs.Patterns.{blank, cell, limited};
 ghost use Rattle.rows.specs.Patterns.{patterns as Patterns·patterns};
 ghost use Rattle.rows.specs.States.{Ready, Tested, Tried};
@@ -21,14 +19,6 @@ pub fn kinds() -> [u8; 196]
     ensures { λ r. ⌜ r ≡ Patterns·patterns ⌝ }
 {
     KINDS
-}
-
-// The number in field i of row r; of its kind, where i is 0.
-pub fn number(table: &[i32], r: usize, i: usize) -> usize
-    requires { ⌜ (4 * r + 3 < length (now table)) × (i ≤ 3) ⌝ }
-    ensures { λ n. ⌜ n ≡ field-number (word (now (table .entry)) r i) ⌝ }
-{
-    script::field_number(table[4 * r + i])
 }
 
 // 3: whether a field that is no link has a number that its letter allows, in a table of so many rows.
@@ -87,7 +77,7 @@ pub fn row_fault(table: &[i32], kinds: &[u8; 196], r: usize, states: &mut [u8; 2
     requires { ⌜ Ready (now table) r (now states) × (now kinds ≡ Patterns·patterns) ⌝ }
     ensures { λ f. ⌜ Tested (now (table .entry)) r f (now (states .exit)) ⌝ }
 {
-    let kind = number(table, r, 0);
+    let kind = script::field(table, r, 0);
     if 48 < kind {
         return 2;
     }
@@ -97,9 +87,9 @@ pub fn row_fault(table: &[i32], kinds: &[u8; 196], r: usize, states: &mut [u8; 2
         return 2;
     }
     let rows = table.len() / 4;
-    let a = field_fault(states, r, rows, kinds[of + 1], number(table, r, 1));
-    let b = field_fault(states, r, rows, kinds[of + 2], number(table, r, 2));
-    let c = field_fault(states, r, rows, kinds[of + 3], number(table, r, 3));
+    let a = field_fault(states, r, rows, kinds[of + 1], script::field(table, r, 1));
+    let b = field_fault(states, r, rows, kinds[of + 2], script::field(table, r, 2));
+    let c = field_fault(states, r, rows, kinds[of + 3], script::field(table, r, 3));
     states[r] = sort;
     first(a, first(b, c))
 }

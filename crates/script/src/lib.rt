@@ -179,11 +179,11 @@ pub fn row_of(n: usize, a: i32, b: i32, c: i32) -> Row
 }
 
 // Row r of a table, taken apart.
-pub fn row_at(table: &[i32], r: usize) -> Row
-    requires { ⌜ 4 * r + 3 < length (now table) ⌝ }
-    ensures { λ w. ⌜ w ≡ row (now (table .entry)) r ⌝ }
+pub fn row_at(table: &[i32], r: RowNumber) -> Row
+    requires { ⌜ 4 * r .0 + 3 < length (now table) ⌝ }
+    ensures { λ w. ⌜ w ≡ row (now (table .entry)) (r .0) ⌝ }
 {
-    let at = 4 * r;
+    let at = 4 * r.0;
     let kind = table[at];
     let a = table[at + 1];
     let b = table[at + 2];

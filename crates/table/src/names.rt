@@ -104,7 +104,7 @@ fn lowest_misread(
     requires { ⌜ Sound (now table) × (r .0 < rows (now table)) ⌝ }
     ensures { λ m. ⌜ Misread (now (table .entry)) (r .0) code (now (around .entry)) low m (now (around .exit)) ⌝ }
 {
-    let next = reads(code, script::row_at(table, r.0));
+    let next = reads(code, script::row_at(table, r));
     match next {
         Reads::Nothing => low,
         Reads::Variable(v) => lower(r, tests::both(code, tests::is_frozen(v.0)), low),

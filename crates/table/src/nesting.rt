@@ -29,10 +29,10 @@ fn row_nesting(table: &[i32], nestings: &[u16; 2048], r: usize) -> u16
     requires { ⌜ Sound (now table) × ((r < rows (now table)) × Nestings (now table) r (now nestings)) ⌝ }
     ensures { λ d. ⌜ Nested (now (table .entry)) r d ⌝ }
 {
-    let kind = rows::number(table, r, 0);
-    let a = rows::number(table, r, 1);
-    let b = rows::number(table, r, 2);
-    let c = rows::number(table, r, 3);
+    let kind = script::field(table, r, 0);
+    let a = script::field(table, r, 1);
+    let b = script::field(table, r, 2);
+    let c = script::field(table, r, 3);
     match kind {
         kinds::SEQUENCE => larger(nesting_at(nestings, a), nesting_at(nestings, b)),
         kinds::IF => larger(nesting_at(nestings, b), nesting_at(nestings, c)) + 1,
@@ -53,6 +53,6 @@ pub fn script_nesting(table: &[i32]) -> usize
         nestings[r] = row_nesting(table, &nestings, r);
         r += 1;
     }
-    let body = rows::number(table, rows - 1, 2);
+    let body = script::field(table, rows - 1, 2);
     nesting_at(&nestings, body) as usize
 }

@@ -51,7 +51,7 @@ pub fn check_script(table: &[i32]) -> Verdict
     ensures { λ v. ⌜ verdict-of v ≡ script-test (now (table .entry)) ⌝ }
 {
     let last = table.len() / 4 - 1;
-    if rows::number(table, last, 0) == kinds::SCRIPT {
+    if script::field(table, last, 0) == kinds::SCRIPT {
         Verdict::Accepted
     } else {
         Verdict::Refused(7, RowNumber(last))
@@ -106,7 +106,7 @@ pub fn any_named(table: &[i32]) -> bool
     let mut found = false;
     let mut r: usize = 0;
     while r < rows {
-        let named = is_named(rows::number(table, r, 0), rows::number(table, r, 1));
+        let named = is_named(script::field(table, r, 0), script::field(table, r, 1));
         found = either(found, named);
         r += 1;
     }
@@ -138,7 +138,7 @@ pub fn check_targets(table: &[i32]) -> Verdict
     let rows = table.len() / 4;
     let mut r: usize = 0;
     while r < rows {
-        if assigns_frozen(rows::number(table, r, 0), rows::number(table, r, 1)) {
+        if assigns_frozen(script::field(table, r, 0), script::field(table, r, 1)) {
             return Verdict::Refused(8, RowNumber(r));
         }
         r += 1;

@@ -6,11 +6,11 @@ use Rattle.rows.specs.States.{in-table, sort-letter, unlisted-row, unkno
 use Rattle.rows.proofs.row_fault.Statement.{statement}
 use Rattle.rows.proofs.row_fault.Tie as tie
 
-number-requires : tie.Need-number-requires
-number-requires c κs = (in-table (c .pre .0 .size) (c .pre .0 .inside), omega arith)
+field-requires : tie.Need-field-requires
+field-requires c κs = (in-table (c .pre .0 .size) (c .pre .0 .inside), omega arith)
 
 returns : tie.Need-returns
-returns c = unlisted-row (c .before .before .args .table .now) (c .before .before .args .r) (c .before .number .ensures) (c .if1 .taken)
+returns c = unlisted-row (c .before .before .args .table .now) (c .before .before .args .r) (c .before .field .ensures) (c .if1 .taken)
 
 mul-of : tie.Need-mul-of
 mul-of c = search needs
@@ -22,7 +22,7 @@ returns-2 : tie.Need-returns-2
 returns-2 c =
     let e = c .before .before in
     let start = e .before .before in
-    unknown-row (start .args .table .now) (start .args .r) (e .before .number .ensures) (omega (arith, e .if1 .left))
+    unknown-row (start .args .table .now) (start .args .r) (e .before .field .ensures) (omega (arith, e .if1 .left))
     (sort-letter _ (start .pre .1)) (c .if2 .taken)
 
 add-field-fault : tie.Need-add-field-fault
@@ -31,8 +31,8 @@ add-field-fault c = search needs
 element-copy-out-field-fault : tie.Need-element-copy-out-field-fault
 element-copy-out-field-fault c = search needs
 
-number-requires-2 : tie.Need-number-requires-2
-number-requires-2 c κs = search needs
+field-requires-2 : tie.Need-field-requires-2
+field-requires-2 c κs = search needs
 
 field-fault-requires : tie.Need-field-fault-requires
 field-fault-requires c κs = search needs
@@ -43,8 +43,8 @@ add-field-fault-2 c = search needs
 element-copy-out-field-fault-2 : tie.Need-element-copy-out-field-fault-2
 element-copy-out-field-fault-2 c = search needs
 
-number-requires-3 : tie.Need-number-requires-3
-number-requires-3 c κs = search needs
+field-requires-3 : tie.Need-field-requires-3
+field-requires-3 c κs = search needs
 
 field-fault-requires-2 : tie.Need-field-fault-requires-2
 field-fault-requires-2 c κs = search needs
@@ -55,8 +55,8 @@ add-field-fault-3 c = search needs
 element-copy-out-field-fault-3 : tie.Need-element-copy-out-field-fault-3
 element-copy-out-field-fault-3 c = search needs
 
-number-requires-4 : tie.Need-number-requires-4
-number-requires-4 c κs = search needs
+field-requires-4 : tie.Need-field-requires-4
+field-requires-4 c κs = search needs
 
 field-fault-requires-3 : tie.Need-field-fault-requires-3
 field-fault-requires-3 c κs = search needs
@@ -78,33 +78,33 @@ returns-3 c =
     let s = x .before .before .before .before in
     let e = s .before .before in
     let start = e .before .before in
-    row-tested (start .args .table .now) (start .args .r) (e .before .number .ensures) (omega (arith, e .if1 .left))
+    row-tested (start .args .table .now) (start .args .r) (e .before .field .ensures) (omega (arith, e .if1 .left))
     (start .pre .0) (sort-letter _ (start .pre .1)) (s .if2 .left) refl
-    (rw (start .pre .1, x .before .number2 .ensures) at (x .field-fault .ensures))
-    (rw (start .pre .1, y .before .number3 .ensures) at (y .field-fault2 .ensures))
-    (rw (start .pre .1, z .before .number4 .ensures) at (z .field-fault3 .ensures))
+    (rw (start .pre .1, x .before .field2 .ensures) at (x .field-fault .ensures))
+    (rw (start .pre .1, y .before .field3 .ensures) at (y .field-fault2 .ensures))
+    (rw (start .pre .1, z .before .field4 .ensures) at (z .field-fault3 .ensures))
     (c .before .first .ensures) (c .first2 .ensures)
 
 pub row-fault-spec : {M : Type 1} → statement M
 row-fault-spec =
     tie.close
     (tie.spec
-    number-requires
+    field-requires
     returns
     mul-of
     element-copy-out-sort
     returns-2
     add-field-fault
     element-copy-out-field-fault
-    number-requires-2
+    field-requires-2
     field-fault-requires
     add-field-fault-2
     element-copy-out-field-fault-2
-    number-requires-3
+    field-requires-3
     field-fault-requires-2
     add-field-fault-3
     element-copy-out-field-fault-3
-    number-requires-4
+    field-requires-4
     field-fault-requires-3
     element-write-states
     first-requires

@@ -61,12 +61,13 @@ row-of-requires c κs = search needs
 
 returns : tie.Need-returns
 returns c =
+    let kind = c .before .before .before .before .before in
+    let start = kind .before .before in
+    let t = start .args .table .now in
+    let r = start .args .r .0 in
     c .row-of .ensures
-    ∙ row-read (c .before .before .before .before .before .before .args .table .now) (c .before .before .before .before .before .before .args .r) (c .before .field-number .ensures)
-    (back-first (c .before .before .before .before .before .before .args .table .now) (c .before .before .before .before .before .before .args .r) (c .before .before .before .before .before .kind .given))
-    (back (c .before .before .before .before .a .given))
-    (back (c .before .before .before .b .given))
-    (back (c .before .before .c .given))
+    ∙ row-read t r (c .before .field-number .ensures) (back-first t r (kind .kind .given)) (back (c .before .before .before .before .a .given))
+    (back (c .before .before .before .b .given)) (back (c .before .before .c .given))
 
 pub row-at-spec : {M : Type 1} → statement M
 row-at-spec =

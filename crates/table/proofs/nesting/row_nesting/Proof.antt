@@ -6,36 +6,36 @@ use Rattle.table.proofs.nesting.row_nesting.Tie as tie
 
 -- the four numbers of the row, and what is asked of it
 
-abbrev Facts : tie.After-number4 → Type 0
+abbrev Facts : tie.After-field4 → Type 0
 Facts c =
     let start = c .before .before .before .before in
-    Of (start .args .table .now) (start .args .r) (start .args .nestings .now) (c .before .before .before .number .result)
-    (c .before .before .number2 .result) (c .before .number3 .result) (c .number4 .result)
+    Of (start .args .table .now) (start .args .r) (start .args .nestings .now) (c .before .before .before .field .result)
+    (c .before .before .field2 .result) (c .before .field3 .result) (c .field4 .result)
 
-facts : (c : tie.After-number4) → Facts c
+facts : (c : tie.After-field4) → Facts c
 facts c =
     let start = c .before .before .before .before in
     record {
       sound = start .pre .0;
       inside = start .pre .1 .0;
       nested = start .pre .1 .1;
-      kind = c .before .before .before .number .ensures;
-      first = c .before .before .number2 .ensures;
-      second = c .before .number3 .ensures;
-      third = c .number4 .ensures;
+      kind = c .before .before .before .field .ensures;
+      first = c .before .before .field2 .ensures;
+      second = c .before .field3 .ensures;
+      third = c .field4 .ensures;
     }
 
-number-requires : tie.Need-number-requires
-number-requires c κs = search needs
+field-requires : tie.Need-field-requires
+field-requires c κs = search needs
 
-number-requires-2 : tie.Need-number-requires-2
-number-requires-2 c κs = search needs
+field-requires-2 : tie.Need-field-requires-2
+field-requires-2 c κs = search needs
 
-number-requires-3 : tie.Need-number-requires-3
-number-requires-3 c κs = search needs
+field-requires-3 : tie.Need-field-requires-3
+field-requires-3 c κs = search needs
 
-number-requires-4 : tie.Need-number-requires-4
-number-requires-4 c κs = search needs
+field-requires-4 : tie.Need-field-requires-4
+field-requires-4 c κs = search needs
 
 nesting-at-requires : tie.Need-nesting-at-requires
 nesting-at-requires c κs = sequence-in (facts (c .before)) (c .match .keys1) .0
@@ -86,10 +86,10 @@ pub row-nesting-spec : {M : Type 1} → statement M
 row-nesting-spec =
     tie.close
     (tie.spec
-    number-requires
-    number-requires-2
-    number-requires-3
-    number-requires-4
+    field-requires
+    field-requires-2
+    field-requires-3
+    field-requires-4
     nesting-at-requires
     nesting-at-requires-2
     larger-requires

@@ -40,26 +40,26 @@ loop-again c =
     let l = c .before .before in
     (omega (arith, l .loop-test .taken), nestings-more (omega (arith, l .loop-test .taken, l .before .before .pre .0 .size .short)) (l .before .loop .inv .1) (c .row-nesting .ensures))
 
-sub-number : tie.Need-sub-number Inv-loop μ-loop
-sub-number c = omega (arith, c .before .before .pre .0 .size .filled)
+sub-field : tie.Need-sub-field Inv-loop μ-loop
+sub-field c = omega (arith, c .before .before .pre .0 .size .filled)
 
-number-requires : tie.Need-number-requires Inv-loop μ-loop
-number-requires c κs = (in-table (c .before .before .pre .0 .size) (omega (arith, c .before .before .pre .0 .size .filled)), omega arith)
+field-requires : tie.Need-field-requires Inv-loop μ-loop
+field-requires c κs = (in-table (c .before .before .pre .0 .size) (omega (arith, c .before .before .pre .0 .size .filled)), omega arith)
 
 nesting-at-requires : tie.Need-nesting-at-requires Inv-loop μ-loop
 nesting-at-requires c κs =
     let start = c .before .before .before .before in
-    body-in (start .pre .0) (start .pre .1) (c .before .number .ensures)
+    body-in (start .pre .0) (start .pre .1) (c .before .field .ensures)
 
 cast-result : tie.Need-cast-result Inv-loop μ-loop
 cast-result c =
     let l = c .before .before .before in
-    body-fits (l .before .before .pre .0) (l .before .before .pre .1) (c .before .before .number .ensures) (l .before .loop .inv .1) (l .loop-test .left) (c .nesting-at .ensures)
+    body-fits (l .before .before .pre .0) (l .before .before .pre .1) (c .before .before .field .ensures) (l .before .loop .inv .1) (l .loop-test .left) (c .nesting-at .ensures)
 
 returns : tie.Need-returns Inv-loop μ-loop
 returns c =
     let l = c .before .before .before in
-    script-nesting-of (l .before .before .pre .0) (l .before .before .pre .1) (c .before .before .number .ensures) (l .before .loop .inv .1) (l .loop-test .left) (c .nesting-at .ensures)
+    script-nesting-of (l .before .before .pre .0) (l .before .before .pre .1) (c .before .before .field .ensures) (l .before .loop .inv .1) (l .loop-test .left) (c .nesting-at .ensures)
 
 pub script-nesting-spec : {M : Type 1} → statement M
 script-nesting-spec =
@@ -74,8 +74,8 @@ script-nesting-spec =
     add-r
     loop-less
     loop-again
-    sub-number
-    number-requires
+    sub-field
+    field-requires
     nesting-at-requires
     cast-result
     returns)

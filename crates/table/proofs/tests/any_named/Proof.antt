@@ -16,11 +16,11 @@ abbrev μ-loop : tie.MeasureT-loop
 loop-holds : tie.Need-loop-holds Inv-loop μ-loop
 loop-holds c = (omega arith, nameless-none)
 
-number-requires : tie.Need-number-requires Inv-loop μ-loop
-number-requires c κs = (in-table (c .before .before .pre) (c .loop-test .taken), omega arith)
+field-requires : tie.Need-field-requires Inv-loop μ-loop
+field-requires c κs = (in-table (c .before .before .pre) (c .loop-test .taken), omega arith)
 
-number-requires-2 : tie.Need-number-requires-2 Inv-loop μ-loop
-number-requires-2 c κs = (in-table (c .before .before .before .pre) (c .before .loop-test .taken), omega arith)
+field-requires-2 : tie.Need-field-requires-2 Inv-loop μ-loop
+field-requires-2 c κs = (in-table (c .before .before .before .pre) (c .before .loop-test .taken), omega arith)
 
 is-named-requires : tie.Need-is-named-requires Inv-loop μ-loop
 is-named-requires c κs = search needs
@@ -39,7 +39,7 @@ loop-again c =
     let d = c .before in
     let n = d .before in
     let l = n .before .before in
-    (omega (arith, l .loop-test .taken), nameless-more (l .before .loop .inv .1) (n .before .number .ensures) (n .number2 .ensures) (d .is-named .ensures) (c .either .ensures))
+    (omega (arith, l .loop-test .taken), nameless-more (l .before .loop .inv .1) (n .before .field .ensures) (n .field2 .ensures) (d .is-named .ensures) (c .either .ensures))
 
 returns : tie.Need-returns Inv-loop μ-loop
 returns c = nameless-all (c .before .loop .inv .0) (c .loop-test .left) (c .before .loop .inv .1)
@@ -51,8 +51,8 @@ any-named-spec =
     Inv-loop
     μ-loop
     loop-holds
-    number-requires
-    number-requires-2
+    field-requires
+    field-requires-2
     is-named-requires
     either-requires
     add-r

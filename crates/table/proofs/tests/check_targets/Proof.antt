@@ -17,11 +17,11 @@ abbrev μ-loop : tie.MeasureT-loop
 loop-holds : tie.Need-loop-holds Inv-loop μ-loop
 loop-holds c = reached-none
 
-number-requires : tie.Need-number-requires Inv-loop μ-loop
-number-requires c κs = (in-table (c .before .before .pre) (c .loop-test .taken), omega arith)
+field-requires : tie.Need-field-requires Inv-loop μ-loop
+field-requires c κs = (in-table (c .before .before .pre) (c .loop-test .taken), omega arith)
 
-number-requires-2 : tie.Need-number-requires-2 Inv-loop μ-loop
-number-requires-2 c κs = (in-table (c .before .before .before .pre) (c .before .loop-test .taken), omega arith)
+field-requires-2 : tie.Need-field-requires-2 Inv-loop μ-loop
+field-requires-2 c κs = (in-table (c .before .before .before .pre) (c .before .loop-test .taken), omega arith)
 
 assigns-frozen-requires : tie.Need-assigns-frozen-requires Inv-loop μ-loop
 assigns-frozen-requires c κs = search needs
@@ -30,7 +30,7 @@ returns : tie.Need-returns Inv-loop μ-loop
 returns c =
     let d = c .before .before in
     let l = d .before .before in
-    targets-refused _ (l .before .loop .inv) (l .loop-test .taken) (d .before .number .ensures) (d .number2 .ensures)
+    targets-refused _ (l .before .loop .inv) (l .loop-test .taken) (d .before .field .ensures) (d .field2 .ensures)
     (c .before .assigns-frozen .ensures) (c .if1 .taken)
 
 add-r : tie.Need-add-r Inv-loop μ-loop
@@ -43,7 +43,7 @@ loop-again : tie.Need-loop-again Inv-loop μ-loop
 loop-again c =
     let d = c .before .before in
     let l = d .before .before in
-    targets-more _ (l .before .loop .inv) (l .loop-test .taken) (d .before .number .ensures) (d .number2 .ensures)
+    targets-more _ (l .before .loop .inv) (l .loop-test .taken) (d .before .field .ensures) (d .field2 .ensures)
     (c .before .assigns-frozen .ensures) (c .if1 .left)
 
 returns-2 : tie.Need-returns-2 Inv-loop μ-loop
@@ -56,8 +56,8 @@ check-targets-spec =
     Inv-loop
     μ-loop
     loop-holds
-    number-requires
-    number-requires-2
+    field-requires
+    field-requires-2
     assigns-frozen-requires
     returns
     add-r
