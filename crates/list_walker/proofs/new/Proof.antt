@@ -46,9 +46,9 @@ use Rattle.list_walker.proofs.Reader.Laws as T′
 use Rattle.script.specs.Listing.{first-place}
 use Rattle.list_reader.proofs.first_place as first
 use Rattle.list_reader.proofs.first_place.Symbol as first-def
-use Rattle.list_reader.proofs.first_place.Symbol.{name as #listing·first-place}
+use Rattle.list_reader.proofs.first_place.Symbol.{name as #list-reader·first-place}
 use Rattle.list_reader.proofs.first_place.Met as first-thm
-use Rattle.list_walker.proofs.new.Key.{name as #reader·new}
+use Rattle.list_walker.proofs.new.Key.{name as #list-walker·new}
 use Rattle.list_walker.proofs.new as f
 use Rattle.list_walker.proofs.new.Statement as stated
 use Rattle.list_walker.proofs.new.Code as code
@@ -86,7 +86,7 @@ module _ {M : Type 1} (𝓤 : URA M) (H : Heap 𝓤) (A : Atoms 𝓤) (W : Given
       frame ! $ use1 W (‵ (Own-words κ s) ⊛ ‵ (Own-words κ s)) (words-twice 𝓤 H A W κ s) $ split ! $ nothing ! $ move ! (1 ∷ 0 ∷ []) $ fjoin ! $
       frame ! $ by ! (reader-made 𝓤 H A W κ s n fits)
 
-  module _ (C : Calls 𝓤 H) (Λ : Loops 𝓤 H) (fm : FmC 𝓤 H (W .laws) C) (known : Triple 𝓤 (C #listing·first-place) (FirstPlace 𝓤 H A mem run)) where
+  module _ (C : Calls 𝓤 H) (Λ : Loops 𝓤 H) (fm : FmC 𝓤 H (W .laws) C) (known : Triple 𝓤 (C #list-reader·first-place) (FirstPlace 𝓤 H A mem run)) where
     walk : Is (Words κ) s (slice-val s ∷ [])
         → ent 𝓤 (onEntry 𝓤 H A f.signature (κ, tt) (q, tt) (s, tt) at) (WpFn 𝓤 H C Λ code.function (slice-val s ∷ []) Post)
     walk p =
@@ -113,14 +113,14 @@ module _ {M : Type 1} (𝓤 : URA M) (H : Heap 𝓤) (A : Atoms 𝓤) (W : Given
         move ! (6 ∷ 7 ∷ []) $ free1 ! $ move ! (4 ∷ 5 ∷ []) $ free1 ! $ move ! (2 ∷ 3 ∷ []) $ free1 ! $ free0 ! $ by ! (exits n (is .1) e))))))))
 
 module _ {M : Type 1} (𝓤 : URA M) (H : Heap 𝓤) (A : Atoms 𝓤) (W : Given 𝓤 H A) (mem : Memory → SProp 𝓤) (run : Routine → Fun 𝓤) where
-  f-walks : (C : Calls 𝓤 H) (Λ : Loops 𝓤 H) → FmC 𝓤 H (W .laws) C → Triple 𝓤 (C #listing·first-place) (FirstPlace 𝓤 H A mem run)
+  f-walks : (C : Calls 𝓤 H) (Λ : Loops 𝓤 H) → FmC 𝓤 H (W .laws) C → Triple 𝓤 (C #list-reader·first-place) (FirstPlace 𝓤 H A mem run)
       → Walks 𝓤 H A f.ended stayed (WpFn 𝓤 H C Λ code.function) (f.clauses 𝓤 H A mem run)
   f-walks C Λ fm k₁ = walked 𝓤 H A f.ended stayed (f.clauses 𝓤 H A mem run) (WpFn 𝓤 H C Λ code.function) (λ κs. (slice-vals, tt))
       (λ κs. (shr-slice-tells (named 0) (κs .0) i32, tt))
       (λ κs qs bounds a g are. via 𝓤 _ (fst∗ 𝓤 _ (emp 𝓤)) (walk 𝓤 H A W mem run (κs .0) (qs .0) (a .0) C Λ fm k₁ (are .0)))
 
 f-meets : {M : Type 1} (𝓤 : URA M) (H : Heap 𝓤) (A : Atoms 𝓤) (W : Given 𝓤 H A) (mem : Memory → SProp 𝓤) (run : Routine → Fun 𝓤) (𝓣 : Tables 𝓤 H)
-    → Triple 𝓤 (𝓣 .C #listing·first-place) (FirstPlace 𝓤 H A mem run)
+    → Triple 𝓤 (𝓣 .C #list-reader·first-place) (FirstPlace 𝓤 H A mem run)
     → Meets 𝓤 H A f.signature (WpFn 𝓤 H (𝓣 .C) (𝓣 .Λ) code.function) (f.spec 𝓤 H A mem run)
 f-meets 𝓤 H A W mem run 𝓣 k₁ = walk-meets 𝓤 H A f.ended stayed W (goes-none-slice 𝓤 H A W 1 (0 ∷ []) tt (plain (λ _. i32)) yes, tt)
     (f.clauses 𝓤 H A mem run) (WpFn 𝓤 H (𝓣 .C) (𝓣 .Λ) code.function) (WpFn-mono 𝓤 H (W .laws) 𝓣 code.function)
@@ -130,7 +130,7 @@ pub new-spec : {M : Type 1} → stated.statement M
 unfolding code.routine tablesOf
 new-spec 𝓤 H 𝓜 𝓖 𝓡 =
     entered 𝓤 H (tripleOf 𝓤 H (𝓖 .A) f.signature (f.spec 𝓤 H (𝓖 .A) (𝓜 .mem) (𝓡 .run)))
-    (tables 𝓤 H 𝓜 𝓡 code.env .C) (tables 𝓤 H 𝓜 𝓡 code.env .Λ) #reader·new code.function (code.unfolded 𝓤 H 𝓜 𝓡)
+    (tables 𝓤 H 𝓜 𝓡 code.env .C) (tables 𝓤 H 𝓜 𝓡 code.env .Λ) #list-walker·new code.function (code.unfolded 𝓤 H 𝓜 𝓡)
     (f-meets 𝓤 H (𝓖 .A) (givenOf 𝓤 H 𝓜 𝓖) (𝓜 .mem) (𝓡 .run) (tablesOf 𝓤 H 𝓜 (tables 𝓤 H 𝓜 𝓡 code.env))
-    (cited 𝓤 H (FirstPlace 𝓤 H (𝓖 .A) (𝓜 .mem) (𝓡 .run)) 𝓜 𝓡 code.env #listing·first-place first-def.routine code.calls-listing·first-place
+    (cited 𝓤 H (FirstPlace 𝓤 H (𝓖 .A) (𝓜 .mem) (𝓡 .run)) 𝓜 𝓡 code.env #list-reader·first-place first-def.routine code.calls-list-reader·first-place
     (first-thm.met 𝓤 H 𝓜 𝓖 𝓡)))

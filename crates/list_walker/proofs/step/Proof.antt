@@ -56,13 +56,13 @@ use Rattle.list_reader.specs.Lines.{place-after}
 use Rattle.list_reader.proofs.Places.{place-after-is}
 use Rattle.list_reader.proofs.line_before as back
 use Rattle.list_reader.proofs.line_before.Symbol as back-def
-use Rattle.list_reader.proofs.line_before.Symbol.{name as #listing·line-before}
+use Rattle.list_reader.proofs.line_before.Symbol.{name as #list-reader·line-before}
 use Rattle.list_reader.proofs.line_before.Met as back-thm
 use Rattle.list_reader.proofs.place_after as after
 use Rattle.list_reader.proofs.place_after.Symbol as after-def
-use Rattle.list_reader.proofs.place_after.Symbol.{name as #listing·place-after}
+use Rattle.list_reader.proofs.place_after.Symbol.{name as #list-reader·place-after}
 use Rattle.list_reader.proofs.place_after.Met as after-thm
-use Rattle.list_walker.proofs.step.Key.{name as #reader·step}
+use Rattle.list_walker.proofs.step.Key.{name as #list-walker·step}
 use Rattle.list_walker.proofs.step as f
 use Rattle.list_walker.proofs.step.Statement as stated
 use Rattle.list_walker.proofs.step.Code as code
@@ -137,8 +137,8 @@ module _ {M : Type 1} (𝓤 : URA M) (H : Heap 𝓤) (A : Atoms 𝓤) (W : Given
       use1 W (‵ (Own-reader κ (placed (d .words) n))) (reader-made 𝓤 H A W κ (d .words) n fits) $
       move ! (1 ∷ 0 ∷ []) $ by ! (answer-made 𝓤 H A W κ r (placed (d .words) n))
 
-  module _ (C : Calls 𝓤 H) (Λ : Loops 𝓤 H) (fm : FmC 𝓤 H (W .laws) C) (known-back : Triple 𝓤 (C #listing·line-before) (LineBefore 𝓤 H A mem run))
-      (known-after : Triple 𝓤 (C #listing·place-after) (PlaceAfter 𝓤 H A mem run)) where
+  module _ (C : Calls 𝓤 H) (Λ : Loops 𝓤 H) (fm : FmC 𝓤 H (W .laws) C) (known-back : Triple 𝓤 (C #list-reader·line-before) (LineBefore 𝓤 H A mem run))
+      (known-after : Triple 𝓤 (C #list-reader·place-after) (PlaceAfter 𝓤 H A mem run)) where
     walk : Holds (hasTy (T′.mir (named 0)) (T′.lowered d)) × WT (T′.lowered d)
         → ent 𝓤 (onEntry 𝓤 H A f.signature (κ, tt) (q, tt) (d, tt) (T′.lowered d ∷ [], tt)) (WpFn 𝓤 H C Λ code.function (T′.lowered d ∷ []) Post)
     walk wt =
@@ -199,8 +199,8 @@ module _ {M : Type 1} (𝓤 : URA M) (H : Heap 𝓤) (A : Atoms 𝓤) (W : Given
         by ! (exits r n (here .1) (is-step r n e₁ e₂))))))))))))))))))))
 
 module _ {M : Type 1} (𝓤 : URA M) (H : Heap 𝓤) (A : Atoms 𝓤) (W : Given 𝓤 H A) (mem : Memory → SProp 𝓤) (run : Routine → Fun 𝓤) where
-  f-walks : (C : Calls 𝓤 H) (Λ : Loops 𝓤 H) → FmC 𝓤 H (W .laws) C → Triple 𝓤 (C #listing·line-before) (LineBefore 𝓤 H A mem run)
-      → Triple 𝓤 (C #listing·place-after) (PlaceAfter 𝓤 H A mem run)
+  f-walks : (C : Calls 𝓤 H) (Λ : Loops 𝓤 H) → FmC 𝓤 H (W .laws) C → Triple 𝓤 (C #list-reader·line-before) (LineBefore 𝓤 H A mem run)
+      → Triple 𝓤 (C #list-reader·place-after) (PlaceAfter 𝓤 H A mem run)
       → Walks 𝓤 H A f.ended stayed (WpFn 𝓤 H C Λ code.function) (f.clauses 𝓤 H A mem run)
   f-walks C Λ fm k₁ k₂ = walked 𝓤 H A f.ended stayed (f.clauses 𝓤 H A mem run) (WpFn 𝓤 H C Λ code.function)
       (λ κs. (LL.vals (T.the-type (namedLft 1 0 tt κs)) (T′.the-laws (namedLft 1 0 tt κs)), tt))
@@ -210,7 +210,7 @@ module _ {M : Type 1} (𝓤 : URA M) (H : Heap 𝓤) (A : Atoms 𝓤) (W : Given
       (LL.lawful (T.the-type (namedLft 1 0 tt κs)) (T′.the-laws (namedLft 1 0 tt κs)) 𝓤 H A W .typed (a .0) _ (are .0) .0)))
 
 f-meets : {M : Type 1} (𝓤 : URA M) (H : Heap 𝓤) (A : Atoms 𝓤) (W : Given 𝓤 H A) (mem : Memory → SProp 𝓤) (run : Routine → Fun 𝓤) (𝓣 : Tables 𝓤 H)
-    → Triple 𝓤 (𝓣 .C #listing·line-before) (LineBefore 𝓤 H A mem run) → Triple 𝓤 (𝓣 .C #listing·place-after) (PlaceAfter 𝓤 H A mem run)
+    → Triple 𝓤 (𝓣 .C #list-reader·line-before) (LineBefore 𝓤 H A mem run) → Triple 𝓤 (𝓣 .C #list-reader·place-after) (PlaceAfter 𝓤 H A mem run)
     → Meets 𝓤 H A f.signature (WpFn 𝓤 H (𝓣 .C) (𝓣 .Λ) code.function) (f.spec 𝓤 H A mem run)
 f-meets 𝓤 H A W mem run 𝓣 k₁ k₂ = walk-meets 𝓤 H A f.ended stayed W (goes-none 𝓤 H A W 1 Readers yes (λ κs x f. refl), tt) (f.clauses 𝓤 H A mem run)
     (WpFn 𝓤 H (𝓣 .C) (𝓣 .Λ) code.function) (WpFn-mono 𝓤 H (W .laws) 𝓣 code.function)
@@ -220,9 +220,9 @@ pub step-spec : {M : Type 1} → stated.statement M
 unfolding code.routine tablesOf
 step-spec 𝓤 H 𝓜 𝓖 𝓡 =
     entered 𝓤 H (tripleOf 𝓤 H (𝓖 .A) f.signature (f.spec 𝓤 H (𝓖 .A) (𝓜 .mem) (𝓡 .run)))
-    (tables 𝓤 H 𝓜 𝓡 code.env .C) (tables 𝓤 H 𝓜 𝓡 code.env .Λ) #reader·step code.function (code.unfolded 𝓤 H 𝓜 𝓡)
+    (tables 𝓤 H 𝓜 𝓡 code.env .C) (tables 𝓤 H 𝓜 𝓡 code.env .Λ) #list-walker·step code.function (code.unfolded 𝓤 H 𝓜 𝓡)
     (f-meets 𝓤 H (𝓖 .A) (givenOf 𝓤 H 𝓜 𝓖) (𝓜 .mem) (𝓡 .run) (tablesOf 𝓤 H 𝓜 (tables 𝓤 H 𝓜 𝓡 code.env))
-    (cited 𝓤 H (LineBefore 𝓤 H (𝓖 .A) (𝓜 .mem) (𝓡 .run)) 𝓜 𝓡 code.env #listing·line-before back-def.routine code.calls-listing·line-before
+    (cited 𝓤 H (LineBefore 𝓤 H (𝓖 .A) (𝓜 .mem) (𝓡 .run)) 𝓜 𝓡 code.env #list-reader·line-before back-def.routine code.calls-list-reader·line-before
     (back-thm.met 𝓤 H 𝓜 𝓖 𝓡))
-    (cited 𝓤 H (PlaceAfter 𝓤 H (𝓖 .A) (𝓜 .mem) (𝓡 .run)) 𝓜 𝓡 code.env #listing·place-after after-def.routine code.calls-listing·place-after
+    (cited 𝓤 H (PlaceAfter 𝓤 H (𝓖 .A) (𝓜 .mem) (𝓡 .run)) 𝓜 𝓡 code.env #list-reader·place-after after-def.routine code.calls-list-reader·place-after
     (after-thm.met 𝓤 H 𝓜 𝓖 𝓡)))
