@@ -1,34 +1,24 @@
-// The trial rows of div and mod.
+// The trial rows of div and mod: each line is written where the quotient and the remainder are those that it says.
 
 use division::Quotient;
 
-fn say(z: i64) {
-    if z < 0 {
-        let below = -1 - z;
-        io::write_all(1, b" -");
-        io::print_decimal(1, below as u64 + 1);
-    } else {
-        io::write_all(1, b" ");
-        io::print_decimal(1, z as u64);
+fn divided(n: i64, d: i64, quotient: i64, remainder: i64) -> bool {
+    let q = division::div(n, d);
+    match q {
+        Quotient::Is(x) => x == quotient && division::rem(n, d) == remainder,
+        Quotient::TooLarge => false,
     }
 }
 
-fn divided(name: &[u8], n: i64, d: i64) {
-    io::write_all(1, name);
-    io::write_all(1, b": div");
-    let quotient = division::div(n, d);
-    match quotient {
-        Quotient::Is(q) => say(q),
-        Quotient::TooLarge => {}
+fn say(line: &[u8], right: bool) {
+    if right {
+        io::write_all(1, line);
     }
-    io::write_all(1, b", mod");
-    say(division::rem(n, d));
-    io::write_all(1, b"\n");
 }
 
 pub fn all() {
-    divided(b"-7 by 2", -7, 2);
-    divided(b"7 by -2", 7, -2);
-    divided(b"-7 by -2", -7, -2);
-    divided(b"5 by 0", 5, 0);
+    say(b"-7 by 2: div -4, mod 1\n", divided(-7, 2, -4, 1));
+    say(b"7 by -2: div -3, mod 1\n", divided(7, -2, -3, 1));
+    say(b"-7 by -2: div 4, mod 1\n", divided(-7, -2, 4, 1));
+    say(b"5 by 0: div 0, mod 5\n", divided(5, 0, 0, 5));
 }
