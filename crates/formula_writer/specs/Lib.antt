@@ -5,3 +5,4 @@ pub mod Nodes
 pub mod Kinds
 pub mod Latest
 pub mod Turns
+pub mod Wrong

@@ -39,3 +39,4 @@ pub mod Demand
 pub mod Attempts
 pub mod ReaderAttempts
 pub mod WrongTurns
+pub mod Reads
