@@ -20,33 +20,30 @@ use Rattle.script.specs.declared.Row.{Row}
 use Rattle.script.specs.declared.Row.the-variants as Row
 use Rattle.script.specs.declared.Sort.the-variants.{Expression, Formula}
 use Rattle.script.specs.Rows.{field-number, row-no, row-of, row, word, sort-of}
-use Rattle.script.specs.Laws.{row-is}
+use Rattle.script.specs.Laws.{row-is, pos-inj}
 use Rattle.script.specs.Refusals.{same-sort}
 use Rattle.script.specs.Words.{op-word, rel-word, conn-word}
 use Rattle.theorems.specs.Kinds.{row-with, operator-row, relation-row, connective-row, Fits, row-fits}
 
 -- ---- kind words as numbers
 
-unspell : {m n : ℕ} → pos m ≡ pos n → m ≡ n
-unspell e = cc
-
 operator-below : (o : Operator) {n : ℕ} → pos n ≡ op-word o → n < 8
-operator-below Plus e = let i = unspell e in omega linear
-operator-below Minus e = let i = unspell e in omega linear
-operator-below Times e = let i = unspell e in omega linear
-operator-below Div e = let i = unspell e in omega linear
-operator-below Mod e = let i = unspell e in omega linear
+operator-below Plus e = let i = pos-inj e in omega linear
+operator-below Minus e = let i = pos-inj e in omega linear
+operator-below Times e = let i = pos-inj e in omega linear
+operator-below Div e = let i = pos-inj e in omega linear
+operator-below Mod e = let i = pos-inj e in omega linear
 
 relation-below : (o : Relation) {n : ℕ} → pos n ≡ rel-word o → n < 22
-relation-below Less e = let i = unspell e in omega linear
-relation-below AtMost e = let i = unspell e in omega linear
-relation-below Equal e = let i = unspell e in omega linear
-relation-below Unequal e = let i = unspell e in omega linear
+relation-below Less e = let i = pos-inj e in omega linear
+relation-below AtMost e = let i = pos-inj e in omega linear
+relation-below Equal e = let i = pos-inj e in omega linear
+relation-below Unequal e = let i = pos-inj e in omega linear
 
 connective-within : (o : Connective) {n : ℕ} → pos n ≡ conn-word o → (22 ≤ n) × (n < 26)
-connective-within And e = let i = unspell e in omega linear
-connective-within Or e = let i = unspell e in omega linear
-connective-within Implies e = let i = unspell e in omega linear
+connective-within And e = let i = pos-inj e in omega linear
+connective-within Or e = let i = pos-inj e in omega linear
+connective-within Implies e = let i = pos-inj e in omega linear
 
 -- ---- which kinds are left
 
@@ -61,12 +58,12 @@ Past-formulas n = ((Unit {0} × (n ≡ 16 → ⊥)) × (n ≡ 17 → ⊥)) × (n
 module _ (n : ℕ) (a : ℤ) where
   operator-left : (w : Row) → Fits (pos n) a w → T (same-sort (sort-of w) Expression) → Past-expressions n
       → (o : Operator) × (pos n ≡ op-word o)
-  operator-left (Row.Expression (Constant z)) f s p = absurd (p .0 .0 .0 .0 .1 (unspell (f .0)))
-  operator-left (Row.Expression (Variable v)) f s p = absurd (p .0 .0 .0 .1 (unspell (f .0)))
+  operator-left (Row.Expression (Constant z)) f s p = absurd (p .0 .0 .0 .0 .1 (pos-inj (f .0)))
+  operator-left (Row.Expression (Variable v)) f s p = absurd (p .0 .0 .0 .1 (pos-inj (f .0)))
   operator-left (Row.Expression (Arithmetic o x y)) f s p = (o, f)
-  operator-left (Row.Expression (Negate x)) f s p = absurd (p .0 .0 .1 (unspell f))
-  operator-left (Row.Expression (Mark m)) f s p = absurd (p .0 .1 (unspell (f .0)))
-  operator-left (Row.Expression (Choose x y z)) f s p = absurd (p .1 (unspell f))
+  operator-left (Row.Expression (Negate x)) f s p = absurd (p .0 .0 .1 (pos-inj f))
+  operator-left (Row.Expression (Mark m)) f s p = absurd (p .0 .1 (pos-inj (f .0)))
+  operator-left (Row.Expression (Choose x y z)) f s p = absurd (p .1 (pos-inj f))
   operator-left (Row.Formula w) f s p = absurd s
   operator-left (Row.Statement w) f s p = absurd s
   operator-left (Row.Note i v) f s p = absurd s
@@ -75,10 +72,10 @@ module _ (n : ℕ) (a : ℤ) where
 
   pair-left : (w : Row) → Fits (pos n) a w → T (same-sort (sort-of w) Formula) → Past-formulas n
       → ((o : Relation) × (pos n ≡ rel-word o)) ⊎ ((o : Connective) × (pos n ≡ conn-word o))
-  pair-left (Row.Formula True) f s p = absurd (p .0 .0 .1 (unspell f))
-  pair-left (Row.Formula False) f s p = absurd (p .0 .1 (unspell f))
+  pair-left (Row.Formula True) f s p = absurd (p .0 .0 .1 (pos-inj f))
+  pair-left (Row.Formula False) f s p = absurd (p .0 .1 (pos-inj f))
   pair-left (Row.Formula (Comparison o x y)) f s p = inl (o, f)
-  pair-left (Row.Formula (Not x)) f s p = absurd (p .1 (unspell f))
+  pair-left (Row.Formula (Not x)) f s p = absurd (p .1 (pos-inj f))
   pair-left (Row.Formula (Junction o x y)) f s p = inr (o, f)
   pair-left (Row.Expression w) f s p = absurd s
   pair-left (Row.Statement w) f s p = absurd s

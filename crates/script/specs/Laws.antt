@@ -23,6 +23,10 @@ pub row-read : (ws : List ℤ) (r : ℕ) {n : ℕ} {k a b c : ℤ} → n ≡ fie
     → c ≡ word ws r 3 → row-of n a b c ≡ row ws r
 row-read ws r hn hk ha hb hc = rw (hn, hk, ha, hb, hc) (row-is ws r)
 
+-- numbers that are one word are one number
+pub pos-inj : {m n : ℕ} → pos m ≡ pos n → m ≡ n
+pos-inj e = cc
+
 -- a signed word that a local holds as bits
 pub back : {z : ℤ} → mag z < 2 ^ 31 → toZ w32 (ofZ w32 z) ≡ z
 back h = toZ-ofZ (record { sfits = h })

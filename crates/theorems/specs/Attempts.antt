@@ -21,6 +21,7 @@ use Rattle.script.specs.Meaning.{whole, value, holds}
 use Rattle.script.specs.Run.{failed, start, step, step-of, first-step, test, after, Good, Total-correctness}
 use Rattle.script.specs.Conditions.{Condition, condition, conditions, walk, wp, subst-expr, subst-formula}
 use Rattle.script.specs.Words.{list-words, all-lines, line-words, expr-words, formula-words}
+use Rattle.script.specs.Laws.{pos-inj}
 use Rattle.script.specs.Rows.{rows, row, row-of}
 use Rattle.script.specs.Trees.{expr, formula, stmt, expr-at, formula-at, stmt-at, tree, nesting}
 use Rattle.script.specs.Refusals.{accepted, lowest, row-fault, linked, misread, misreads, length-test, row-test, script-test, unlinked-test, target-test, reading-test, nesting-test, verdict}
@@ -215,13 +216,10 @@ abbrev pub Writes-nothing : Body → Type 0
 Writes-nothing f = (t : List ℤ) (l s : ℕ) → verdict t ≡ accepted → scratch-need (tree t) l ≤ s
     → (f t l s .answer .number ≡ 0) × (f t l s .list ≡ zeros l)
 
-apart : {m n : ℕ} → pos m ≡ pos n → m ≡ n
-apart e = cc
-
 pub writes-nothing : (f : Body) → Meets f → Writes-nothing f → ⊥
 writes-nothing f meets h =
     let none = h example-a 512 5120 (facts .example-accepted) (facts .example-need) .1 in
-    let e = apart (ap (λ (l : List ℤ). getD l 1 (pos 0)) (sym none ∙ meets .list example-a 512 5120) ∙ facts .example-second) in
+    let e = pos-inj (ap (λ (l : List ℤ). getD l 1 (pos 0)) (sym none ∙ meets .list example-a 512 5120) ∙ facts .example-second) in
     omega linear
 
 -- "invents the counts of conditions or words: by 2, where both belong to the list defined"

@@ -60,7 +60,7 @@ below-it f x (suc r) h =
     let b = below-it f x r (omega linear) in
     omega linear
 
-eq-or-lt : (i j : ℕ) → i < suc j → (i ≡ j) ⊎ (i < j)
+pub eq-or-lt : (i j : ℕ) → i < suc j → (i ≡ j) ⊎ (i < j)
 eq-or-lt i j h = eq-or-lt-of-le (omega linear)
 
 taken-out : (f : ℕ → ℕ) (x r : ℕ) → x < r → sum-below f r ≡ f x + sum-below (without x f) r

@@ -1,10 +1,9 @@
 -- The turns of the writer of W at skip, an assignment, a sequence and an assertion, and its end at a loop. Assumes nothing.
 use Prim.Native.Nat.{ℕ, suc, _+_, _*_, _<_}
 use mathlib.Core.Path.{_≡_, sym, ap, _∙_}
-use mathlib.Core.Logic.{_⊎_, ⊎-elim}
+use mathlib.Core.Logic.{⊎-elim}
 use mathlib.Core.List.{List, [], _∷_, _++_}
 use native.Mathlib.Omega.{arith as linear}
-use native.Mathlib.Nat.{eq-or-lt-of-le}
 use native.Mathlib.Numerals.{add-one}
 use lib.IntN.{ℤ, pos}
 use lib.ListN.{length, getD, set, length-set}
@@ -23,6 +22,7 @@ use Rattle.script.specs.Conditions.{wp}
 use Rattle.script.specs.Words.{formula-words}
 use Rattle.script.specs.Rows.{field-number, row, rows, word}
 use Rattle.script.specs.Trees.{stmt-node, expr-at, formula-at, stmt-at}
+use Rattle.theorems.specs.Counting.{eq-or-lt}
 use Rattle.formula_writer.specs.Writing.{Wrote, then, wrote-as}
 use Rattle.formula_writer.specs.Paths.{replaceᶠ, row-on, formula-under, assign-passed}
 use Rattle.formula_writer.specs.Links.{Linked}
@@ -34,9 +34,6 @@ use Rattle.wp_writer.specs.Loops.{Loop, invariant-row, invariant-linked,
 use Rattle.wp_writer.specs.Ends.{end-formula, words-under, ready-at}
 use Rattle.wp_writer.specs.Same.{same-refl, same-set, under-same}
 use Rattle.wp_writer.specs.Walked.{Before, before-end, Step}
-
-eq-or-lt : (i j : ℕ) → i < suc j → (i ≡ j) ⊎ (i < j)
-eq-or-lt i j h = eq-or-lt-of-le (omega linear)
 
 -- a store at place n: the entries below it are as they were, and there stands the row
 entry-kept : (xs : List ℤ) (n i : ℕ) (z : ℤ) → i < n → row-on (set xs n z) i ≡ row-on xs i
