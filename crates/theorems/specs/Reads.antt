@@ -4,7 +4,7 @@ use lib.IntN.{pos, negsuc}
 use Rattle.script.specs.declared.ExpressionRow.the-variants.{Variable, Mark}
 use Rattle.script.specs.declared.StatementRow.the-variants.{Skip, Sequence}
 use Rattle.script.specs.declared.Row.the-variants as Row
-use Rattle.script.specs.Rows.{field-number, row-no, var-no, row-of, row}
+use Rattle.script.specs.Rows.{field-number, row-no, var-no, row-of, row, word}
 use Rattle.script.specs.Computed.{_⨾_, four-rows}
 
 -- a negative field is beyond every range, and no other is
@@ -26,3 +26,8 @@ kinds-read = record { mark = refl; variable = refl; sequence = refl; unlisted = 
 rows-read : (row four-rows 1 ≡ Row.Statement Skip) × (row four-rows 3 ≡ Row.Script (row-no (pos 0)) (row-no (pos 1)) (row-no (pos 2)))
 unfolding row row-of four-rows _⨾_
 rows-read = (refl, refl)
+
+-- a field is that of its own row and place: the script's statement and postcondition, and the kind of the row before
+fields-read : (field-number (word four-rows 3 2) ≡ 1) × ((field-number (word four-rows 3 3) ≡ 2) × (field-number (word four-rows 2 0) ≡ 16))
+unfolding four-rows _⨾_
+fields-read = (refl, (refl, refl))
