@@ -22,7 +22,7 @@ use Rattle.script.specs.Trees.{expr-at}
 use Rattle.theorems.specs.Accepted.{Accepted}
 use Rattle.theorems.specs.Kinds.{assigned}
 use Rattle.theorems.specs.RowTrees.{stmt-is}
-use Rattle.formula_writer.specs.Writing.{Wrote}
+use Rattle.theorems.specs.Writing.{Wrote}
 use Rattle.formula_writer.specs.Links.{links-of}
 use Rattle.formula_writer.specs.Nodes.{Assignment, OnPath, Ready, base}
 use Rattle.formula_writer.specs.Paths.{replaceᵉ, row-on, under, expr-under}

@@ -1,4 +1,3 @@
-pub mod Writing
 pub mod Links
 pub mod Paths
 pub mod Nodes

@@ -21,7 +21,7 @@ use Rattle.script.specs.Trees.{expr-node, formula-node, expr-at, formula-at}
 use Rattle.script.specs.Refusals.{same-sort, in-range}
 use Rattle.theorems.specs.Accepted.{Accepted, both}
 use Rattle.theorems.specs.RowTrees.{expr-is, formula-is}
-use Rattle.formula_writer.specs.Writing.{Wrote}
+use Rattle.theorems.specs.Writing.{Wrote}
 use Rattle.formula_writer.specs.Links.{Links, links-of}
 use Rattle.formula_writer.specs.Paths.{replaceᵉ, replaceᶠ, row-on, under, expr-under, formula-under}
 

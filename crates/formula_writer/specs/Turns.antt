@@ -11,7 +11,7 @@ use Rattle.script.specs.declared.Sort.{Sort}
 use Rattle.script.specs.declared.Sort.the-variants.{Expression, Formula}
 use Rattle.script.specs.Words.{expr-words}
 use Rattle.script.specs.Rows.{field-number, row-of, variables, word}
-use Rattle.formula_writer.specs.Writing.{Wrote, stopped, then}
+use Rattle.theorems.specs.Writing.{Wrote, stopped, then}
 use Rattle.formula_writer.specs.Links.{Linked}
 use Rattle.formula_writer.specs.Nodes.{Ready, base, variable-small, mark-small, links-at, at-expr, at-formula}
 use Rattle.formula_writer.specs.Paths.{replaceᵉ, under, expr-under, formula-under}

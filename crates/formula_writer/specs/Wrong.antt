@@ -5,7 +5,7 @@ use mathlib.Core.List.{[], _∷_}
 use native.Mathlib.Omega.{arith as linear}
 use lib.IntN.{ℤ, pos}
 use Rattle.script.specs.Laws.{pos-inj}
-use Rattle.formula_writer.specs.Writing.{Wrote, fitted, stopped}
+use Rattle.theorems.specs.Writing.{Wrote, fitted, stopped}
 
 word-left-out : Wrote (pos 0 ∷ []) 0 (pos 7 ∷ []) 1 (pos 0 ∷ []) → ⊥
 word-left-out (fitted h n s) = let e : pos 0 ≡ pos 7 = cc in let i = pos-inj e in omega linear

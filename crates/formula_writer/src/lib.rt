@@ -16,7 +16,7 @@ ghost use lib.ListN.{length};
 ghost use Rattle.script.specs.declared.Sort.the-variants.{Expression, Formula};
 ghost use Rattle.script.specs.Rows.{field-number, word, variables};
 ghost use Rattle.theorems.specs.Accepted.{Accepted};
-ghost use Rattle.formula_writer.specs.Writing.{Wrote};
+ghost use Rattle.theorems.specs.Writing.{Wrote};
 ghost use Rattle.formula_writer.specs.Paths.{expr-under, formula-under};
 ghost use Rattle.formula_writer.specs.Nodes.{OnPath, Ready};
 ghost use Rattle.formula_writer.specs.Latest.{Found};

@@ -12,7 +12,7 @@ use lib.IntN.{ℤ}
 use lib.ListN.{length, length-append}
 use Rattle.script.specs.Conditions.{Condition}
 use Rattle.script.specs.Words.{formula-words, trailer, line-words, all-lines}
-use Rattle.formula_writer.specs.Writing.{Wrote, fitted, stopped, then, wrote-length}
+use Rattle.theorems.specs.Writing.{Wrote, fitted, stopped, then, wrote-length}
 use Rattle.line_writer.specs.declared.Progress.{Progress}
 
 -- The conditions cs were to be listed from p on, in the list l; q is past them, and l′ is what is left.

@@ -19,7 +19,7 @@ use Rattle.script.specs.Words.{expr-words, formula-words}
 use Rattle.script.specs.Rows.{field-number, rows}
 use Rattle.script.specs.Trees.{expr-at, formula-at, stmt-at}
 use Rattle.theorems.specs.Accepted.{Accepted}
-use Rattle.formula_writer.specs.Writing.{Wrote, then, wrote-as}
+use Rattle.theorems.specs.Writing.{Wrote, then, wrote-as}
 use Rattle.formula_writer.specs.Paths.{none-passed, none-passedᵉ, expr-under, formula-under}
 use Rattle.formula_writer.specs.Links.{Linked}
 use Rattle.formula_writer.specs.Nodes.{OnPath, Ready}

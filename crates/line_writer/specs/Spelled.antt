@@ -14,7 +14,7 @@ use Rattle.script.specs.Conditions.{Condition, condition}
 use Rattle.script.specs.Words.{rule-number, formula-words, trailer, line-words, all-lines, list-words}
 use Rattle.script.specs.Rows.{rows}
 use Rattle.theorems.specs.Accepted.{Accepted}
-use Rattle.formula_writer.specs.Writing.{Wrote, fitted, stopped, then, wrote-length}
+use Rattle.theorems.specs.Writing.{Wrote, fitted, stopped, then, wrote-length}
 use Rattle.line_writer.specs.declared.Progress.{Progress}
 use Rattle.line_writer.specs.Listed.{Listed, InRoom, went}
 

@@ -8,7 +8,7 @@ use lib.Dec.{lit≤}
 use lib.IntN.{ℤ, pos}
 use Rattle.script.specs.declared.Rule.the-variants.{Exit}
 use Rattle.script.specs.Laws.{pos-inj}
-use Rattle.formula_writer.specs.Writing.{Wrote, fitted, stopped}
+use Rattle.theorems.specs.Writing.{Wrote, fitted, stopped}
 use Rattle.line_writer.specs.declared.Progress.{Progress}
 use Rattle.line_writer.specs.Spelled.{Finished, Counted, front}
 

@@ -11,7 +11,7 @@ ghost use lib.IntN.{pos};
 ghost use Rattle.script.specs.declared.Connective.the-variants.{And};
 ghost use Rattle.script.specs.Syntax.{join};
 ghost use Rattle.script.specs.Words.{rule-number, formula-words};
-ghost use Rattle.formula_writer.specs.Writing.{Wrote};
+ghost use Rattle.theorems.specs.Writing.{Wrote};
 ghost use Rattle.wp_writer.specs.Loops.{Loop, guard-at, invariant-at};
 ghost use Rattle.wp_writer.specs.Walked.{Before};
 ghost use Rattle.line_writer.specs.Listed.{Listed, InRoom};

@@ -1,5 +1,7 @@
 pub mod Truths
 pub mod Sets
+pub mod Writing
+pub mod Clearing
 pub mod Scoping
 pub mod Substitution
 pub mod Traces

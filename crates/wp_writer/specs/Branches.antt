@@ -14,7 +14,7 @@ use Rattle.script.specs.Conditions.{wp}
 use Rattle.script.specs.Words.{formula-words}
 use Rattle.script.specs.Rows.{row}
 use Rattle.script.specs.Trees.{formula-at}
-use Rattle.formula_writer.specs.Writing.{Wrote, then, wrote-as}
+use Rattle.theorems.specs.Writing.{Wrote, then, wrote-as}
 use Rattle.formula_writer.specs.Paths.{replaceᶠ, formula-under}
 use Rattle.formula_writer.specs.Nodes.{Ready}
 use Rattle.following.specs.Course.{left}

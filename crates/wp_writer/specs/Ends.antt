@@ -16,7 +16,7 @@ use Rattle.script.specs.Words.{formula-words}
 use Rattle.script.specs.Rows.{field-number, rows, word}
 use Rattle.script.specs.Trees.{formula-at}
 use Rattle.theorems.specs.Accepted.{Accepted}
-use Rattle.formula_writer.specs.Writing.{Wrote, then}
+use Rattle.theorems.specs.Writing.{Wrote, then}
 use Rattle.formula_writer.specs.Paths.{replaceᶠ, under, expr-under, formula-under}
 use Rattle.formula_writer.specs.Links.{Linked}
 use Rattle.formula_writer.specs.Nodes.{OnPath, Ready}

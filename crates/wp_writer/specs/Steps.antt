@@ -23,7 +23,7 @@ use Rattle.script.specs.Words.{formula-words}
 use Rattle.script.specs.Rows.{field-number, row, rows, word}
 use Rattle.script.specs.Trees.{stmt-node, expr-at, formula-at, stmt-at}
 use Rattle.theorems.specs.Counting.{eq-or-lt}
-use Rattle.formula_writer.specs.Writing.{Wrote, then, wrote-as}
+use Rattle.theorems.specs.Writing.{Wrote, then, wrote-as}
 use Rattle.formula_writer.specs.Paths.{replaceᶠ, row-on, formula-under, assign-passed}
 use Rattle.formula_writer.specs.Links.{Linked}
 use Rattle.formula_writer.specs.Nodes.{Assignment, Ready}

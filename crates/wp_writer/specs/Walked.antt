@@ -8,7 +8,7 @@ use lib.IntN.{ℤ}
 use lib.ListN.{length}
 use Rattle.script.specs.Syntax.{Formula}
 use Rattle.script.specs.Words.{formula-words}
-use Rattle.formula_writer.specs.Writing.{Wrote, stopped, wrote-as}
+use Rattle.theorems.specs.Writing.{Wrote, stopped, wrote-as}
 use Rattle.formula_writer.specs.Paths.{none-passed}
 use Rattle.formula_writer.specs.Nodes.{OnPath}
 use Rattle.following.specs.Course.{Course, after, left, after-end}

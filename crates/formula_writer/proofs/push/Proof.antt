@@ -3,7 +3,7 @@ use borrow.Author.Needs.{needs}
 use mathlib.Core.Path.{refl}
 use native.Mathlib.Omega.{arith}
 use mir.Facts.{toZ-ofZ}
-use Rattle.formula_writer.specs.Writing.{fitted, stopped}
+use Rattle.theorems.specs.Writing.{fitted, stopped}
 use Rattle.formula_writer.proofs.push.Statement.{statement}
 use Rattle.formula_writer.proofs.push.Tie as tie
 

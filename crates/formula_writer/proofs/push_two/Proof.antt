@@ -1,7 +1,7 @@
 -- `formula_writer::push_two` meets its contract. Assumes nothing.
 use borrow.Author.Needs.{needs}
 use mir.Facts.{toZ-ofZ}
-use Rattle.formula_writer.specs.Writing.{then}
+use Rattle.theorems.specs.Writing.{then}
 use Rattle.formula_writer.proofs.push_two.Statement.{statement}
 use Rattle.formula_writer.proofs.push_two.Tie as tie
 

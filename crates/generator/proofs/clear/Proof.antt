@@ -6,18 +6,18 @@ use native.Mathlib.Omega.{arith}
 use borrow.Author.Needs.{needs}
 use lib.IntN.{pos}
 use lib.ListN.{length, length-set}
-use Rattle.generator.specs.Clearing.{cleared, cleared-none, cleared-more, cleared-all}
+use Rattle.theorems.specs.Clearing.{cleared, cleared-none, cleared-more, cleared-all}
 use Rattle.generator.proofs.clear.Statement.{statement}
 use Rattle.generator.proofs.clear.Tie as tie
 
 abbrev Inv-loop : tie.InvT-loop
-Inv-loop words₀ i₀ words i = (i ≤ length words₀) × (length words ≡ length words₀) × (words ≡ cleared i words₀)
+Inv-loop words₀ i₀ words i = (i ≤ length words₀) × (length words ≡ length words₀) × (words ≡ cleared (pos 0) i words₀)
 
 abbrev μ-loop : tie.MeasureT-loop
 μ-loop words₀ i₀ words i = length words - i
 
 loop-holds : tie.Need-loop-holds Inv-loop μ-loop
-loop-holds c = (omega arith, refl, cleared-none (c .args .words .now))
+loop-holds c = (omega arith, refl, cleared-none (pos 0) (c .args .words .now))
 
 mul-words : tie.Need-mul-words Inv-loop μ-loop
 mul-words c = search needs
@@ -37,7 +37,7 @@ loop-again c =
     let inv = at-loop .loop .inv in (
       omega arith,
       length-set (at-loop .loop .words) (at-loop .loop .i) (pos 0) ∙ inv .1,
-      cleared-more (at-loop .loop .i) (at-loop .before .args .words .now) (at-loop .loop .words) (omega arith) (inv .2),
+      cleared-more (pos 0) (at-loop .loop .i) (at-loop .before .args .words .now) (at-loop .loop .words) (omega arith) (inv .2),
     )
 
 same-length : tie.Need-same-length Inv-loop μ-loop
@@ -46,7 +46,7 @@ same-length c = c .before .loop .inv .1
 returns : tie.Need-returns Inv-loop μ-loop
 returns c =
     let at-loop = c .before in
-    at-loop .loop .inv .2 ∙ cleared-all (at-loop .loop .i) (at-loop .before .args .words .now) (omega arith)
+    at-loop .loop .inv .2 ∙ cleared-all (pos 0) (at-loop .loop .i) (at-loop .before .args .words .now) (omega arith)
 
 pub clear-spec : {M : Type 1} → statement M
 clear-spec =

@@ -4,7 +4,7 @@ use mathlib.Core.Path.{refl, _∙_}
 use native.Mathlib.Omega.{arith}
 use mir.Facts.{toZ-ofZ}
 use Rattle.script.specs.Laws.{back}
-use Rattle.formula_writer.specs.Writing.{stopped, then}
+use Rattle.theorems.specs.Writing.{stopped, then}
 use Rattle.line_writer.specs.Spelled.{row-fits, length-fits}
 use Rattle.line_writer.proofs.finish_line.Statement.{statement}
 use Rattle.line_writer.proofs.finish_line.Tie as tie

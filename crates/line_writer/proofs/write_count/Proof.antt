@@ -3,7 +3,7 @@ use borrow.Author.Needs.{needs}
 use mathlib.Core.Path.{refl}
 use native.Mathlib.Omega.{arith}
 use mir.Facts.{toZ-ofZ}
-use Rattle.formula_writer.specs.Writing.{stopped}
+use Rattle.theorems.specs.Writing.{stopped}
 use Rattle.line_writer.specs.Spelled.{count-fits}
 use Rattle.line_writer.proofs.write_count.Statement.{statement}
 use Rattle.line_writer.proofs.write_count.Tie as tie

@@ -2,7 +2,7 @@
 -- Assumes nothing.
 use borrow.Author.Needs.{needs}
 use lib.Dec.{lit≤}
-use Rattle.formula_writer.specs.Writing.{then}
+use Rattle.theorems.specs.Writing.{then}
 use Rattle.wp_writer.specs.Loops.{variant-linked}
 use Rattle.line_writer.specs.Spelled.{finishing, line-finished}
 use Rattle.line_writer.specs.Loops.{node-ready, wrote-floor}

@@ -3,7 +3,7 @@
 use borrow.Author.Needs.{needs}
 use lib.Dec.{lit≤}
 use native.Mathlib.Omega.{arith}
-use Rattle.formula_writer.specs.Writing.{then}
+use Rattle.theorems.specs.Writing.{then}
 use Rattle.wp_writer.specs.Loops.{pre-linked, in-table}
 use Rattle.line_writer.specs.Spelled.{finishing}
 use Rattle.line_writer.specs.Loops.{node-ready, main-before, wrote-main, line-walked}

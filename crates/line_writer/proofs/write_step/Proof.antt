@@ -3,7 +3,7 @@
 use borrow.Author.Needs.{needs}
 use lib.Dec.{lit≤}
 use native.Mathlib.Omega.{arith}
-use Rattle.formula_writer.specs.Writing.{then}
+use Rattle.theorems.specs.Writing.{then}
 use Rattle.wp_writer.specs.Loops.{variant-linked, loop-in-table, low}
 use Rattle.line_writer.specs.Listed.{listed-length}
 use Rattle.line_writer.specs.Spelled.{finishing}

@@ -12,7 +12,7 @@ use Rattle.script.specs.declared.StatementRow.the-variants.{If, Assert}
 use Rattle.script.specs.declared.Row.the-variants as Row
 use Rattle.script.specs.Rows.{row}
 use Rattle.script.specs.Laws.{back}
-use Rattle.formula_writer.specs.Writing.{then, wrote-length}
+use Rattle.theorems.specs.Writing.{then, wrote-length}
 use Rattle.following.specs.Course.{left}
 use Rattle.following.specs.Parts.{left-first, left-else}
 use Rattle.following.specs.Kinds.{number, skip-row, assign-row, sequence-row, if-row}

@@ -8,7 +8,7 @@ use lib.ListN.{getD}
 use mir.Val.{toZ, ofZ}
 use mir.Syntax.{w32}
 use Rattle.script.specs.Laws.{back}
-use Rattle.formula_writer.specs.Writing.{wrote-length}
+use Rattle.theorems.specs.Writing.{wrote-length}
 use Rattle.formula_writer.specs.Latest.{Placed, placed, value-read, value-falls}
 use Rattle.formula_writer.specs.Turns.{begun, full, part-falls, part-ready, constant-written, variable-fits, variable-written, value-turn, negated, negate-turn, mark-fits, mark-written, chosen, choose-turn, operator-fits, operands, operator-turn}
 use Rattle.formula_writer.proofs.write_expression.Reads as reads

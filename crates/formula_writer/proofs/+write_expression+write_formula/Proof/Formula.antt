@@ -1,7 +1,7 @@
 -- `formula_writer::write_formula`, arm by arm. Assumes nothing.
 use Prim.Native.Nat.{ℕ}
 use borrow.Author.Needs.{needs}
-use Rattle.formula_writer.specs.Writing.{wrote-length}
+use Rattle.theorems.specs.Writing.{wrote-length}
 use Rattle.formula_writer.specs.Turns.{begun, full, part-falls, part-ready, true-written, false-written, denied, not-turn, pair-fits, compared, relation-written, joined, connective-turn}
 use Rattle.formula_writer.proofs.write_formula.Reads as reads
 use Rattle.formula_writer.proofs.+write_expression+write_formula.Lts-write_formula as lts

@@ -1,0 +1,3 @@
+pub mod Signs
+mod Loops
+mod Digits
