@@ -8,7 +8,7 @@ use native.Mathlib.Omega.{arith}
 use lib.IntN.{ℤ}
 use lib.ListN.{length, getD, drop, set, length-drop}
 use lib.Seq.{getD-drop, drop-drop}
-use Rattle.printer.specs.Writing.{Writing, went-on, wrote-one}
+use Rattle.theorems.specs.Writing.{Left, one-then}
 use Rattle.printer.specs.Input.{unsigned, twos-complement, words-of}
 
 abbrev word-at : List ℕ → ℕ → ℤ
@@ -44,6 +44,5 @@ module _ (bytes : List ℕ) (i : ℕ) where
 
   -- a turn of the loop that writes the words: w is the word at i
   pub word-turn : {w : ℤ} {l l′ ts : List ℤ} {at : ℕ} → 4 * i + 3 < length bytes → i < length l′ → w ≡ word-at bytes (4 * i)
-      → Writing l at ts (words-of (drop (4 * i) bytes)) i l′ → Writing l at ts (words-of (drop (4 * (i + 1)) bytes)) (i + 1) (set l′ i w)
-  word-turn {w} {l} {l′} {ts} h k e p =
-      went-on (w ∷ []) (words-of (drop (4 * (i + 1)) bytes)) (rw (next-word h, ← e) at p) (wrote-one l′ i w k)
+      → Left l at ts l′ i (words-of (drop (4 * i) bytes)) → Left l at ts (set l′ i w) (i + 1) (words-of (drop (4 * (i + 1)) bytes))
+  word-turn {w} h k e left = λ q l″ v. left q l″ (rw (next-word h, ← e) (one-then w k v))

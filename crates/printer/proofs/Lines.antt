@@ -1,22 +1,26 @@
 -- The text of a line in the order in which it is written, and the name that goes with a condition kind. Assumes nothing.
-use Prim.Native.Nat.{ℕ, _≤_}
+use Prim.Native.Nat.{ℕ, _+_, _≤_, _<_}
 use mathlib.Core.Path.{_≡_, refl, ap}
 use mathlib.Core.List.{List, [], _∷_, _++_}
 use lib.IntN.{ℤ, pos}
-use lib.ListN.{length, drop, drop-of-length-le}
+use lib.ListN.{length, getD, drop, drop-of-length-le}
+use lib.Seq.{drop-cons}
+use native.Mathlib.Numerals.{add-one}
 use borrow.Author.Tests.{eq-eqb, ne-eqb}
 use Rattle.script.specs.declared.Answer.{Answer}
 use Rattle.script.specs.declared.Rule.{Rule}
 use Rattle.script.specs.declared.Rule.the-variants.{Exit, Floor, Step, Main}
 use Rattle.script.specs.Conditions.{Condition}
 use Rattle.script.specs.Words.{rule-number}
-use Rattle.printer.specs.Decimal.{decimal, signed-decimal}
-use Rattle.printer.specs.Text.{bytes, rest-of-line, line, name, name-of, lines, answer-text}
+use Rattle.text.specs.Ascii.{bytes}
+use Rattle.text.specs.Decimal.{decimal}
+use Rattle.printer.specs.Text.{signed-decimal, rest-of-line, line, name, name-of, lines, answer-text}
 
 -- a space and a word, then what stands after them
-pub each-field : (w : ℤ) (ws : List ℤ) → rest-of-line (w ∷ ws) ≡ (32 ∷ signed-decimal w) ++ rest-of-line ws
+pub next-field : (ws : List ℤ) {i : ℕ} → i < length ws
+    → rest-of-line (drop i ws) ≡ (32 ∷ signed-decimal (getD ws i (pos 0))) ++ rest-of-line (drop (i + 1) ws)
 unfolding rest-of-line
-each-field w ws = refl
+next-field ws {i} h = rw (add-one, drop-cons ws i (pos 0) h)
 
 pub no-field : (ws : List ℤ) {i : ℕ} → length ws ≤ i → rest-of-line (drop i ws) ≡ 10 ∷ []
 unfolding rest-of-line

@@ -1,5 +1,5 @@
 -- A list walked from the front. From each place that the walk reaches, the list has the lines of the conditions that are
--- left, and then its count (`Left`). The formula at the front ends where `formula-back` says, so the words after it are its
+-- left, and then its count (`Ahead`). The formula at the front ends where `formula-back` says, so the words after it are its
 -- trailer, and past that the conditions but the first are left (`turn`). Assumes nothing.
 use Prim.Native.Nat.{ℕ, _+_, _*_, _-_, _≤_, _<_}
 use mathlib.Core.Path.{_≡_, refl, sym, ap, _∙_}
@@ -15,23 +15,23 @@ use Rattle.script.specs.Conditions.{Condition}
 use Rattle.script.specs.Words.{formula-words, rule-number, trailer, line-words, all-lines, list-words}
 use Rattle.script.specs.WellFormed.{All-in-range, In-rangeᶠ}
 use Rattle.script.specs.Syntax.{Formula}
+use Rattle.theorems.specs.Writing.{Wrote, Left, wrote-nothing, then}
 use Rattle.theorems.specs.Options.{none-is-not, some-inj}
 use Rattle.theorems.specs.Reading.{formula-back}
 use Rattle.list_reader.specs.Ends.{rest-of, after-formula, Ends, nowhere, here, Formula-ends}
 use Rattle.printer.specs.Text.{line, name-of, lines, conditions-in, Listed}
-use Rattle.printer.specs.Writing.{Wrote, Writing, begun, went-on, finished}
 use Rattle.printer.specs.Output.{conditions-back}
 use Rattle.printer.proofs.Lines.{name-is}
 
 -- from the place i on, ws has the lines of cs, and then its count
-pub record Left (ws : List ℤ) (i : ℕ) (cs : List Condition) : Type 0 where
+pub record Ahead (ws : List ℤ) (i : ℕ) (cs : List Condition) : Type 0 where
   pub count : ℤ
   pub words : drop i ws ≡ all-lines cs ++ (count ∷ [])
   pub ranges : All-in-range cs
 
-pub all-left : (ws : List ℤ) → Listed ws → Left ws 0 (conditions-in ws)
+pub all-ahead : (ws : List ℤ) → Listed ws → Ahead ws 0 (conditions-in ws)
 unfolding list-words
-all-left ws l =
+all-ahead ws l =
     let cs = l .conditions in
     let w = l .well-formed in
     rw (conditions-back ws cs w) (record { count = pos (length cs); words = sym (w .spells); ranges = w .ranges })
@@ -87,13 +87,13 @@ pub record Turn (ws : List ℤ) (i e : ℕ) (cs : List Condition) : Type 0 where
   pub row : getD ws (e + 1) (pos 0) ≡ pos (first .row)
   pub formula : take (e - i) (drop i ws) ≡ formula-words (first .claim)
   pub size : length (take (e - i) (drop i ws)) ≡ e - i
-  pub left : Left ws (e + 3) others
+  pub ahead : Ahead ws (e + 3) others
 
 -- the line of c, then the lines of cs and the count
 regroup : (part trail rest : List ℤ) (n : ℤ) → ((part ++ trail) ++ rest) ++ (n ∷ []) ≡ part ++ (trail ++ (rest ++ (n ∷ [])))
 regroup part trail rest n = simp append-assoc
 
-pub turn : (ws : List ℤ) (i e : ℕ) (cs : List Condition) → Left ws i cs → i + 1 < length ws → Formula-ends ws i e → Turn ws i e cs
+pub turn : (ws : List ℤ) (i e : ℕ) (cs : List Condition) → Ahead ws i cs → i + 1 < length ws → Formula-ends ws i e → Turn ws i e cs
 unfolding all-lines line-words
 turn ws i e [] l h ends = absurd (omega (linear, ap length (l .words), length-drop i ws))
 turn ws i e (c ∷ cs) l h ends =
@@ -115,11 +115,11 @@ turn ws i e (c ∷ cs) l h ends =
       row = past 1;
       formula = part;
       size = ap length part ∙ sym (part-size ws tail i e f range words ends);
-      left = record { count = l .count; words = words-past ws tail i e f range words ends 3; ranges = l .ranges .2 };
+      ahead = record { count = l .count; words = words-past ws tail i e f range words ends 3; ranges = l .ranges .2 };
     }
 
 -- the walk is over where only the count is left
-pub over : (ws : List ℤ) (i : ℕ) (cs : List Condition) → Left ws i cs → length ws ≤ i + 1 → cs ≡ []
+pub over : (ws : List ℤ) (i : ℕ) (cs : List Condition) → Ahead ws i cs → length ws ≤ i + 1 → cs ≡ []
 unfolding all-lines line-words
 over ws i [] l h = refl
 over ws i (c ∷ cs) l h =
@@ -137,35 +137,39 @@ turn-text t hk hw hr = rw (t .is, hk, hw, hr, t .kind, t .row, t .formula, name-
 
 pub record Walking (out₀ : List ℕ) (at : ℕ) (ws : List ℤ) (out : List ℕ) (end i : ℕ) : Type 0 where
   pub conditions : List Condition
-  pub left : Left ws i conditions
+  pub ahead : Ahead ws i conditions
   pub inside : i < length ws
-  pub within : end ≤ at + 12 * i
-  pub text : Writing out₀ at (lines (conditions-in ws)) (lines conditions) end out
+  pub within : length (lines (conditions-in ws)) ≤ 12 * i + length (lines conditions)
+  pub text : Left out₀ at (lines (conditions-in ws)) out end (lines conditions)
 
-pub set-out : (out : List ℕ) (at : ℕ) (ws : List ℤ) → Listed ws → at ≤ length out → Walking out at ws out at 0
-set-out out at ws l h =
-    let start = all-left ws l in
+pub set-out : (out : List ℕ) (at : ℕ) (ws : List ℤ) → Listed ws → Walking out at ws out at 0
+set-out out at ws l =
+    let start = all-ahead ws l in
     record {
       conditions = conditions-in ws;
-      left = start;
+      ahead = start;
       inside = omega (linear, ap length (start .words), length-append (all-lines (conditions-in ws)) (start .count ∷ []));
       within = omega linear;
-      text = begun out at (lines (conditions-in ws)) h;
+      text = λ q out′ w. w;
     }
 
 pub arrived : {out₀ out : List ℕ} {at end i : ℕ} {ws : List ℤ} → Walking out₀ at ws out end i → length ws ≤ i + 1
-    → Wrote out₀ at (lines (conditions-in ws)) end out
+    → Wrote out₀ at (lines (conditions-in ws)) end out × (length (lines (conditions-in ws)) ≤ 12 * length ws)
 unfolding lines
-arrived w h = finished (rw (over _ _ (w .conditions) (w .left) h) at (w .text))
+arrived w h =
+    let none = over _ _ (w .conditions) (w .ahead) h in
+    (w .text _ _ (rw none (wrote-nothing _ _)), omega (linear, rw none at (w .within), w .inside))
 
 module _ {out₀ out : List ℕ} {at end i e k : ℕ} {ws : List ℤ} {w r : ℤ} (here : Walking out₀ at ws out end i) (t : Turn ws i e (here .conditions))
     (hk : k ≡ field-number w) (hw : w ≡ getD ws e (pos 0)) (hr : r ≡ getD ws (e + 1) (pos 0)) where
   pub walked-on : {end′ : ℕ} {out′ : List ℕ} → Wrote out end (line (name-of k) (r ∷ take (e - i) (drop i ws))) end′ out′
-      → end′ ≤ end + 12 * length (take (e - i) (drop i ws)) + 36 → Walking out₀ at ws out′ end′ (e + 3)
+      → length (line (name-of k) (r ∷ take (e - i) (drop i ws))) ≤ 12 * length (take (e - i) (drop i ws)) + 36 → Walking out₀ at ws out′ end′ (e + 3)
   walked-on wrote short = record {
     conditions = t .others;
-    left = t .left;
+    ahead = t .ahead;
     inside = t .inside;
-    within = omega (linear, here .within, t .size, t .forward, short);
-    text = went-on (line (name-of k) (r ∷ take (e - i) (drop i ws))) (lines (t .others)) (rw (turn-text t hk hw hr) at (here .text)) wrote;
+    within =
+        let first = line (name-of k) (r ∷ take (e - i) (drop i ws)) in
+        omega (linear, here .within, t .size, t .forward, short, ap length (turn-text t hk hw hr), length-append first (lines (t .others)));
+    text = λ q l v. here .text q l (rw (turn-text t hk hw hr) (then wrote v));
   }

@@ -11,10 +11,11 @@ use Rattle.script.specs.Words.{list-words, all-lines, line-words, expr-words, f
 use Rattle.script.specs.Refusals.{length-test, row-test, script-test, unlinked-test, target-test, reading-test, nesting-test, verdict}
 use Rattle.script.specs.Refusals.{lowest, row-fault, linked, misread, misreads}
 use Rattle.script.specs.Generated.{outcome-for, outcome}
+use Rattle.text.specs.Ascii.{bytes}
+use Rattle.text.specs.Decimal.{digits, decimal}
 use Rattle.printer.specs.Input.{words-of}
-use Rattle.printer.specs.Decimal.{digits, decimal, signed-decimal}
 use Rattle.printer.specs.Output.{table-output, output}
-use Rattle.printer.specs.Text.{bytes, rest-of-line, line, lines, answer-text}
+use Rattle.printer.specs.Text.{signed-decimal, rest-of-line, line, lines, answer-text}
 
 -- the bytes of a row whose fields are below 256, then the bytes after it
 infixr 20 _⨾_

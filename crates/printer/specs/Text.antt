@@ -1,12 +1,10 @@
 -- 01, "The program": the text of an answer. Assumes nothing.
-use Prim.Native.Nat.{ℕ}
-use Prim.Native.Char.{code}
-use Prim.Native.String.{String, [] as end, _∷_ as _before_}
+use Prim.Native.Nat.{ℕ, suc}
 use mathlib.Core.List.{List, [], _∷_, _++_}
 use mathlib.Core.Option.{none, some}
 use mathlib.Core.Bool.{cond}
 use lib.Dec.{eqb}
-use lib.IntN.{ℤ, pos}
+use lib.IntN.{ℤ, pos, negsuc}
 use Rattle.script.specs.declared.Answer.{Answer}
 use Rattle.script.specs.declared.Rule.{Rule}
 use Rattle.script.specs.declared.Rule.the-variants.{Exit, Floor, Step, Main}
@@ -14,12 +12,13 @@ use Rattle.script.specs.Conditions.{Condition}
 use Rattle.script.specs.Words.{formula-words}
 use Rattle.script.specs.Listing.{read-list}
 use Rattle.script.specs.WellFormed.{Well-formed}
-use Rattle.printer.specs.Decimal.{signed-decimal}
+use Rattle.text.specs.Ascii.{bytes}
+use Rattle.text.specs.Decimal.{decimal}
 
--- the bytes of an ASCII text
-abbrev pub bytes : String → List ℕ
-bytes end = []
-bytes (_before_ c s) = code c ∷ bytes s
+-- a number in decimal, a minus sign before a negative one
+unfoldable pub signed-decimal : ℤ → List ℕ
+signed-decimal (pos n) = decimal n
+signed-decimal (negsuc n) = 45 ∷ decimal (suc n)
 
 -- "All split by single spaces, each line ended by a line feed": what stands after the first word of a line
 unfoldable pub rest-of-line : List ℤ → List ℕ

@@ -1,16 +1,17 @@
 // The program's input and output, but for reading and writing themselves: the words that the input's bytes spell, and the
-// text of an answer. In this order: bytes to words, numbers as text, the parts of a line, an answer.
+// text of an answer. In this order: bytes to words, the parts of a line, an answer. Text is written up to the first byte that has
+// no room (`text`); an answer has room.
 
 use script::Answer;
 ghost use mathlib.Core.Path.{_≡_};
 ghost use mathlib.Core.List.{[], _∷_};
-ghost use Prim.Native.Nat.{_+_, _*_, _%_, _≤_};
-ghost use lib.IntN.{pos, natAbs};
+ghost use Prim.Native.Nat.{_+_, _*_, _≤_};
+ghost use lib.IntN.{pos};
 ghost use lib.ListN.{length};
-ghost use Rattle.printer.specs.Writing.{Room, Wrote};
+ghost use Rattle.theorems.specs.Writing.{Wrote};
+ghost use Rattle.text.specs.Decimal.{decimal};
 ghost use Rattle.printer.specs.Input.{unsigned, twos-complement, words-of};
-ghost use Rattle.printer.specs.Decimal.{decimal, signed-decimal};
-ghost use Rattle.printer.specs.Text.{rest-of-line, line, name-of, lines, conditions-in, answer-text, Listed};
+ghost use Rattle.printer.specs.Text.{signed-decimal, rest-of-line, line, name-of, lines, conditions-in, answer-text, Listed};
 
 // The number that four bytes spell, low byte first.
 fn unsigned(a: u8, b: u8, c: u8, d: u8) -> u32
@@ -33,6 +34,7 @@ fn twos_complement(n: u32) -> i32
 pub fn decode(bytes: &[u8], words: &mut [i32]) -> usize
     requires { ⌜ length (now bytes) ≤ 4 * length (now words) ⌝ }
     ensures { λ r. ⌜ Wrote (now (words .entry)) 0 (words-of (now (bytes .entry))) r (now (words .exit)) ⌝ }
+    ensures { λ r. ⌜ r ≤ length (now (words .entry)) ⌝ }
 {
     let count = bytes.len() / 4;
     let mut i = 0;
@@ -45,92 +47,38 @@ pub fn decode(bytes: &[u8], words: &mut [i32]) -> usize
     i
 }
 
-fn put(out: &mut [u8], at: usize, byte: u8) -> usize
-    requires { ⌜ Room (now out) at (byte ∷ []) ⌝ }
-    ensures { λ r. ⌜ Wrote (now (out .entry)) at (byte ∷ []) r (now (out .exit)) ⌝ }
-{
-    out[at] = byte;
-    at + 1
-}
-
-fn put_text(out: &mut [u8], at: usize, text: &[u8]) -> usize
-    requires { ⌜ Room (now out) at (now text) ⌝ }
-    ensures { λ r. ⌜ Wrote (now (out .entry)) at (now (text .entry)) r (now (out .exit)) ⌝ }
-{
-    let mut end = at;
-    let mut i = 0;
-    while i < text.len() {
-        end = put(out, end, text[i]);
-        i += 1;
-    }
-    end
-}
-
-// The last digit of a number.
-fn digit(n: usize) -> u8
-    ensures { λ r. ⌜ r ≡ 48 + n % 10 ⌝ }
-{
-    48 + (n % 10) as u8
-}
-
-fn put_number(out: &mut [u8], at: usize, n: usize) -> usize
-    requires { ⌜ Room (now out) at (decimal n) ⌝ }
-    ensures { λ r. ⌜ Wrote (now (out .entry)) at (decimal n) r (now (out .exit)) ⌝ }
-{
-    if n < 10 {
-        put(out, at, digit(n))
-    } else {
-        let end = put_number(out, at, n / 10);
-        put(out, end, digit(n))
-    }
-}
-
-fn magnitude(w: i32) -> usize
-    ensures { λ r. ⌜ r ≡ natAbs w ⌝ }
-{
-    if w < 0 {
-        (-1 - w) as usize + 1
-    } else {
-        w as usize
-    }
-}
-
 fn put_word(out: &mut [u8], at: usize, w: i32) -> usize
-    requires { ⌜ Room (now out) at (signed-decimal w) ⌝ }
     ensures { λ r. ⌜ Wrote (now (out .entry)) at (signed-decimal w) r (now (out .exit)) ⌝ }
 {
-    let n = magnitude(w);
+    let n = text::magnitude(w);
     if w < 0 {
-        let end = put(out, at, b'-');
-        put_number(out, end, n)
+        let end = text::push_byte(out, at, b'-');
+        text::push_number(out, end, n)
     } else {
-        put_number(out, at, n)
+        text::push_number(out, at, n)
     }
 }
 
 // A space and a number.
 fn put_count(out: &mut [u8], at: usize, n: usize) -> usize
-    requires { ⌜ Room (now out) at (32 ∷ decimal n) ⌝ }
     ensures { λ r. ⌜ Wrote (now (out .entry)) at (32 ∷ decimal n) r (now (out .exit)) ⌝ }
 {
-    let end = put(out, at, b' ');
-    put_number(out, end, n)
+    let end = text::push_byte(out, at, b' ');
+    text::push_number(out, end, n)
 }
 
 // A space and a word.
 fn put_field(out: &mut [u8], at: usize, w: i32) -> usize
-    requires { ⌜ Room (now out) at (32 ∷ signed-decimal w) ⌝ }
     ensures { λ r. ⌜ Wrote (now (out .entry)) at (32 ∷ signed-decimal w) r (now (out .exit)) ⌝ }
 {
-    let end = put(out, at, b' ');
+    let end = text::push_byte(out, at, b' ');
     put_word(out, end, w)
 }
 
 // What stands after the first word of a line. A word has at most 11 characters.
 fn put_fields(out: &mut [u8], at: usize, words: &[i32]) -> usize
-    requires { ⌜ at + 12 * length (now words) + 1 ≤ length (now out) ⌝ }
     ensures { λ r. ⌜ Wrote (now (out .entry)) at (rest-of-line (now (words .entry))) r (now (out .exit)) ⌝ }
-    ensures { λ r. ⌜ r ≤ at + 12 * length (now (words .entry)) + 1 ⌝ }
+    ensures { λ _. ⌜ length (rest-of-line (now (words .entry))) ≤ 12 * length (now (words .entry)) + 1 ⌝ }
 {
     let mut end = at;
     let mut i = 0;
@@ -138,38 +86,35 @@ fn put_fields(out: &mut [u8], at: usize, words: &[i32]) -> usize
         end = put_field(out, end, words[i]);
         i += 1;
     }
-    put(out, end, b'\n')
+    text::push_byte(out, end, b'\n')
 }
 
 // A line of a name and two numbers.
 fn put_heading(out: &mut [u8], name: &[u8], first: usize, second: usize) -> usize
-    requires { ⌜ Room (now out) 0 (line (now name) (pos first ∷ pos second ∷ [])) ⌝ }
     ensures { λ r. ⌜ Wrote (now (out .entry)) 0 (line (now (name .entry)) (pos first ∷ pos second ∷ [])) r (now (out .exit)) ⌝ }
 {
-    let a = put_text(out, 0, name);
+    let a = text::push_text(out, 0, name);
     let b = put_count(out, a, first);
     let c = put_count(out, b, second);
-    put(out, c, b'\n')
+    text::push_byte(out, c, b'\n')
 }
 
 // The name of a condition of this kind.
 fn put_name(out: &mut [u8], at: usize, kind: usize) -> usize
-    requires { ⌜ Room (now out) at (name-of kind) ⌝ }
     ensures { λ r. ⌜ Wrote (now (out .entry)) at (name-of kind) r (now (out .exit)) ⌝ }
 {
     match kind {
-        1 => put_text(out, at, b"exit"),
-        2 => put_text(out, at, b"floor"),
-        3 => put_text(out, at, b"step"),
-        _ => put_text(out, at, b"main"),
+        1 => text::push_text(out, at, b"exit"),
+        2 => text::push_text(out, at, b"floor"),
+        3 => text::push_text(out, at, b"step"),
+        _ => text::push_text(out, at, b"main"),
     }
 }
 
 // The line of a condition.
 fn put_condition(out: &mut [u8], at: usize, kind: usize, row: i32, formula: &[i32]) -> usize
-    requires { ⌜ at + 12 * length (now formula) + 36 ≤ length (now out) ⌝ }
     ensures { λ r. ⌜ Wrote (now (out .entry)) at (line (name-of kind) (row ∷ now (formula .entry))) r (now (out .exit)) ⌝ }
-    ensures { λ r. ⌜ r ≤ at + 12 * length (now (formula .entry)) + 36 ⌝ }
+    ensures { λ _. ⌜ length (line (name-of kind) (row ∷ now (formula .entry))) ≤ 12 * length (now (formula .entry)) + 36 ⌝ }
 {
     let a = put_name(out, at, kind);
     let b = put_field(out, a, row);
@@ -179,8 +124,8 @@ fn put_condition(out: &mut [u8], at: usize, kind: usize, row: i32, formula: &[i3
 // The lines of a list's conditions, first one first.
 fn put_lines(out: &mut [u8], at: usize, list: &[i32]) -> usize
     requires { ⌜ Listed (now list) ⌝ }
-    requires { ⌜ at + 12 * length (now list) ≤ length (now out) ⌝ }
     ensures { λ r. ⌜ Wrote (now (out .entry)) at (lines (conditions-in (now (list .entry)))) r (now (out .exit)) ⌝ }
+    ensures { λ _. ⌜ length (lines (conditions-in (now (list .entry)))) ≤ 12 * length (now (list .entry)) ⌝ }
 {
     let mut end = at;
     let mut i = 0;
@@ -198,6 +143,7 @@ pub fn render(answer: Answer, list: &[i32], out: &mut [u8]) -> usize
     requires { ⌜ (answer .number ≡ 0 → Listed (now list)) ⌝ }
     requires { ⌜ 12 * length (now list) + 64 ≤ length (now out) ⌝ }
     ensures { λ r. ⌜ Wrote (now (out .entry)) 0 (answer-text answer (conditions-in (now (list .entry)))) r (now (out .exit)) ⌝ }
+    ensures { λ r. ⌜ r ≤ length (now (out .entry)) ⌝ }
 {
     if answer.number == 0 {
         let end = put_heading(out, b"planned", answer.conditions, answer.words);

@@ -7,17 +7,17 @@ use mathlib.Core.Logic.{_≢_, inr}
 use mathlib.Core.List.{List, [], _∷_}
 use borrow.Author.Tests.{ne-eqb, eq-eqb}
 use lib.IntN.{ℤ, pos}
-use lib.ListN.{length, take, length-append, length-replicate}
-use lib.Seq.{length-take-le}
+use lib.ListN.{length, take, drop, length-append, length-replicate}
+use lib.Seq.{sets-eq, take-append-seam, length-take-le}
 use Rattle.script.specs.declared.Answer.{Answer}
 use Rattle.script.specs.Conditions.{Condition, conditions}
 use Rattle.script.specs.Words.{list-words}
 use Rattle.script.specs.Trees.{tree}
 use Rattle.script.specs.Generated.{Outcome, zeros, refusal, refuse, plan, room, outcome}
+use Rattle.theorems.specs.Writing.{Wrote, wrote-length, wrote-whole}
 use Rattle.theorems.specs.Numbers.{length-refused}
 use Rattle.theorems.specs.Outcomes.{outcome-cases}
 use Rattle.generator.specs.Outcomes.{outcome-refused}
-use Rattle.printer.specs.Writing.{Wrote, wrote-front, wrote-length}
 use Rattle.printer.specs.Input.{words-of}
 use Rattle.printer.specs.Text.{answer-text, conditions-in, Listed}
 use Rattle.printer.specs.Output.{output, table-output, used, used-list, used-text}
@@ -104,12 +104,14 @@ module _ (t l : List ℤ) (a : Answer) (e : a ≡ outcome t 512 5120 .answer) (f
 
 -- ---- what was written from the front
 
-module _ {A : Type 0} {l l′ ts : List A} {n : ℕ} (w : Wrote l 0 ts n l′) where
+module _ {A : Type 0} {l l′ ts : List A} {n : ℕ} (w : Wrote l 0 ts n l′ × (n ≤ length l)) where
   pub written : take n l′ ≡ ts
-  written = wrote-front w
+  written =
+      let whole = wrote-whole (w .0) (w .1) in
+      rw (whole .1, whole .2, sets-eq ts l 0 (omega arith)) (take-append-seam ts (drop (0 + length ts) l))
 
   pub written-within : n ≤ length l′
-  written-within = let e = wrote-length w in let h = w .inside in omega arith
+  written-within = rw (wrote-length (w .0)) (w .1)
 
   pub written-length : n ≡ length (take n l′)
-  written-length = let e = w .ends in rw written (omega arith)
+  written-length = rw written (wrote-whole (w .0) (w .1) .1)

@@ -3,7 +3,7 @@ use script::Answer;
 ghost use mathlib.Core.Path.{_≡_};
 ghost use Prim.Native.Nat.{ℕ, _+_, _*_, _≤_};
 ghost use lib.ListN.{length};
-ghost use Rattle.printer.specs.Writing.{Wrote};
+ghost use Rattle.theorems.specs.Writing.{Wrote};
 ghost use Rattle.printer.specs.Input.{words-of};
 ghost use Rattle.printer.specs.Output.{output, table-output};
 ghost use Rattle.program.specs.Answers.{unread-output};
@@ -12,6 +12,7 @@ ghost use Rattle.program.specs.Answers.{unread-output};
 fn report_table(table: &[i32], out: &mut [u8]) -> usize
     requires { ⌜ 6208 ≤ length (now out) ⌝ }
     ensures { λ r. ⌜ Wrote (now (out .entry)) 0 (table-output (now (table .entry))) r (now (out .exit)) ⌝ }
+    ensures { λ r. ⌜ r ≤ length (now (out .entry)) ⌝ }
 {
     let mut list = [0i32; 512];
     let mut scratch = [0i32; 5120];
@@ -24,6 +25,7 @@ fn report_table(table: &[i32], out: &mut [u8]) -> usize
 fn report_words(input: &[u8], out: &mut [u8]) -> usize
     requires { ⌜ (length (now input) ≤ 32768) × (6208 ≤ length (now out)) ⌝ }
     ensures { λ r. ⌜ Wrote (now (out .entry)) 0 (table-output (words-of (now (input .entry)))) r (now (out .exit)) ⌝ }
+    ensures { λ r. ⌜ r ≤ length (now (out .entry)) ⌝ }
 {
     let mut words = [0i32; 8192];
     let n = printer::decode(input, &mut words);
@@ -34,6 +36,7 @@ fn report_words(input: &[u8], out: &mut [u8]) -> usize
 fn report_length(out: &mut [u8]) -> usize
     requires { ⌜ 6208 ≤ length (now out) ⌝ }
     ensures { λ r. ⌜ Wrote (now (out .entry)) 0 unread-output r (now (out .exit)) ⌝ }
+    ensures { λ r. ⌜ r ≤ length (now (out .entry)) ⌝ }
 {
     let answer = Answer {
         number: 1,
@@ -48,6 +51,7 @@ fn report_length(out: &mut [u8]) -> usize
 // Writes what the program writes for this input, and gives the number of bytes.
 pub fn report(input: &[u8], out: &mut [u8; 6208]) -> usize
     ensures { λ r. ⌜ Wrote (now (out .entry)) 0 (output (now (input .entry))) r (now (out .exit)) ⌝ }
+    ensures { λ r. ⌜ r ≤ length (now (out .entry)) ⌝ }
 {
     let n = input.len();
     if n % 4 != 0 {

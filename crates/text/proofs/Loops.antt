@@ -8,11 +8,7 @@ use native.Mathlib.Numerals.{add-one}
 use native.Mathlib.Omega.{arith}
 use lib.ListN.{length, getD, set, drop, replicate}
 use lib.Seq.{drop-cons}
-use Rattle.theorems.specs.Writing.{Wrote, wrote-nothing, wrote-as, one-then}
-
--- all is written into l₀ from p₀ on, and rest is left of it
-abbrev pub Left : List ℕ → ℕ → List ℕ → List ℕ → ℕ → List ℕ → Type 0
-Left l₀ p₀ all l p rest = (q : ℕ) (l′ : List ℕ) → Wrote l p rest q l′ → Wrote l₀ p₀ all q l′
+use Rattle.theorems.specs.Writing.{Wrote, Left, wrote-nothing, wrote-as, one-then}
 
 less : (n : ℕ) → suc n - 1 ≡ n
 less n = omega arith

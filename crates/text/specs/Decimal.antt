@@ -2,14 +2,16 @@
 -- of its tenth and its last digit (`decimal-low`, `decimal-high`); it spells the number (`number-decimal`), so two numbers never have the same text (`decimal-tells`); its bytes are digits (`decimal-digits`),
 -- and the first is no 0 unless it stands alone (`decimal-starts`). By induction on the bound of the digits, which the number
 -- itself is large enough for. Assumes nothing.
-use Prim.Native.Nat.{ℕ, zero, suc, _+_, _*_, _-_, _/_, _%_, _≤_, _<_}
+use Prim.Native.Nat.{ℕ, zero, suc, _+_, _*_, _-_, _/_, _%_, _^_, _≤_, _<_}
 use mathlib.Core.Path.{_≡_, refl, sym, ap, _∙_}
 use mathlib.Core.Logic.{_⊎_, inl, inr}
 use mathlib.Core.Bool.{Bool, true, false, _&&_}
 use mathlib.Core.List.{List, [], _∷_, _++_}
+use native.Mathlib.Nat.{pow-suc, div-lt-iff-lt-mul}
 use native.Mathlib.Omega.{arith}
 use borrow.Author.Tests.{lt-ltb, le-ltb, le-leb, ltb-true, ltb-false}
 use lib.Dec.{T, ltb, leb}
+use lib.ListN.{length, length-append}
 use Rattle.theorems.specs.Truths.{both, pair}
 
 -- the digits of a number that has at most k
@@ -96,7 +98,18 @@ number-decimal n = by-digits (λ n ds. number ds ≡ n) (λ n h. omega arith)
 pub decimal-tells : (m n : ℕ) → decimal m ≡ decimal n → m ≡ n
 decimal-tells m n e = sym (number-decimal m) ∙ ap number e ∙ number-decimal n
 
--- ---- its bytes
+-- ---- its length, and its bytes
+
+-- a number below 10 ^ k has at most k digits
+pub decimal-short : (k n : ℕ) → n < 10 ^ suc k → length (decimal n) ≤ suc k
+decimal-short k n = by-digits (λ n ds. (k : ℕ) → n < 10 ^ suc k → length ds ≤ suc k) (λ n h k l. omega arith) one-more n k
+  where
+    one-more : (n : ℕ) (ds : List ℕ) → 10 ≤ n → ((k : ℕ) → n / 10 < 10 ^ suc k → length ds ≤ suc k) → (k : ℕ) → n < 10 ^ suc k
+        → length (ds ++ ((48 + n % 10) ∷ [])) ≤ suc k
+    one-more n ds h short zero l = absurd (omega arith)
+    one-more n ds h short (suc k) l =
+        let s = short k (div-lt-iff-lt-mul {k = 10} (omega arith) .1 (rw pow-suc at l)) in
+        rw length-append (omega arith)
 
 digit-is : (d : ℕ) → d < 10 → T (digit (48 + d))
 digit-is d h = rw (le-leb 48 (48 + d) (omega arith), le-leb (48 + d) 57 (omega arith)) tt

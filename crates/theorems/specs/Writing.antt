@@ -1,7 +1,8 @@
 -- What a function that writes into a lent run leaves where the run may be too short, and that one run after another writes
--- both. In the end the place tells which it was (`wrote-whole`, `wrote-short`). Assumes nothing.
+-- both. A loop that writes keeps what is left (`Left`). In the end the place tells which it was (`wrote-whole`, `wrote-short`). Assumes
+-- nothing.
 use Prim.Native.Nat.{ℕ, _+_, _≤_, _<_}
-use mathlib.Core.Path.{_≡_, refl, ap, _∙_}
+use mathlib.Core.Path.{_≡_, refl, sym, ap, _∙_}
 use mathlib.Core.Bool.{Bool, true, false}
 use mathlib.Core.List.{List, [], _∷_, _++_}
 use native.Mathlib.Omega.{arith}
@@ -62,6 +63,21 @@ module _ {A : Type 0} where
   wrote-within (fitted h n s) i = omega arith
   wrote-within (stopped h n s) i = absurd (omega arith)
 
+  -- ---- a loop that writes: ws go into l₀ from p₀ on, and vs are left of them, to go into l from p on
+
+  -- whatever writes what is left writes all
+  abbrev pub Left : List A → ℕ → List A → List A → ℕ → List A → Type 0
+  Left l₀ p₀ ws l p vs = (q : ℕ) (l′ : List A) → Wrote l p vs q l′ → Wrote l₀ p₀ ws q l′
+
+  pub left-length : {l₀ ws l : List A} {p₀ p : ℕ} (vs : List A) → Left l₀ p₀ ws l p vs → length l ≡ length l₀
+  left-length {l₀} {ws} {l} {p₀} {p} vs g = by-room (ltb (length l) (p + length vs)) refl
+    where
+      by-room : (b : Bool) → ltb (length l) (p + length vs) ≡ b → length l ≡ length l₀
+      by-room true e = let h = ltb-true (length l) (p + length vs) e in wrote-length (g (length l + 1) l (stopped h (omega arith) refl))
+      by-room false e =
+          let h = ltb-false (length l) (p + length vs) e in
+          sym (length-sets l p vs) ∙ wrote-length (g (p + length vs) (sets l p vs) (fitted h refl refl))
+
   -- ---- in the end: all of it was written where the place lies in the run, and else it is longer than the run
 
   pub wrote-whole : {l ws l′ : List A} {r : ℕ} → Wrote l 0 ws r l′ → r ≤ length l → (length ws ≤ length l) × (r ≡ length ws) × (l′ ≡ sets l 0 ws)
@@ -71,3 +87,8 @@ module _ {A : Type 0} where
   pub wrote-short : {l ws l′ : List A} {r : ℕ} → Wrote l 0 ws r l′ → length l < r → length l < length ws
   wrote-short (fitted h n s) i = absurd (omega arith)
   wrote-short (stopped h n s) i = omega arith
+
+  -- where there is room, the place lies in the run
+  pub wrote-room : {l ws l′ : List A} {r : ℕ} → Wrote l 0 ws r l′ → length ws ≤ length l → r ≤ length l
+  wrote-room (fitted h n s) i = omega arith
+  wrote-room (stopped h n s) i = absurd (omega arith)

@@ -6,21 +6,21 @@ use native.Mathlib.Omega.{arith}
 use borrow.Author.Needs.{needs}
 use lib.ListN.{length, drop}
 use Rattle.script.specs.Laws.{back}
+use Rattle.theorems.specs.Writing.{Left, left-length, wrote-nothing}
 use Rattle.printer.specs.Input.{twos-complement, words-of}
-use Rattle.printer.specs.Writing.{Writing, begun, finished, wrote-length}
 use Rattle.printer.proofs.Bytes.{word-turn, no-word}
 use Rattle.printer.proofs.decode.Statement.{statement}
 use Rattle.printer.proofs.decode.Tie as tie
 
 abbrev Inv-loop : tie.InvT-loop
 Inv-loop bytes words₀ count i₀ words i =
-    (i ≤ length bytes / 4) × (count ≡ length bytes / 4) × Writing words₀ 0 (words-of bytes) (words-of (drop (4 * i) bytes)) i words
+    (i ≤ length bytes / 4) × (count ≡ length bytes / 4) × Left words₀ 0 (words-of bytes) words i (words-of (drop (4 * i) bytes))
 
 abbrev μ-loop : tie.MeasureT-loop
 μ-loop bytes words₀ count i₀ words i = length bytes - i
 
 loop-holds : tie.Need-loop-holds Inv-loop μ-loop
-loop-holds c = (omega arith, refl, begun _ _ _ (omega arith))
+loop-holds c = (omega arith, refl, λ q l w. w)
 
 mul-at : tie.Need-mul-at Inv-loop μ-loop
 mul-at c = omega arith
@@ -57,7 +57,7 @@ mul-t11 c = omega arith
 
 fits : (c : tie.After-twos-complement Inv-loop μ-loop)
     → c .before .before .before .before .before .before .before .loop .i < length (c .before .before .before .before .before .before .before .loop .words)
-fits c = omega (arith, wrote-length (c .before .before .before .before .before .before .before .loop .inv .2 .wrote))
+fits c = omega (arith, left-length _ (c .before .before .before .before .before .before .before .loop .inv .2))
 
 slice-set-from-words : tie.Need-slice-set-from-words Inv-loop μ-loop
 slice-set-from-words c = fits c
@@ -75,11 +75,13 @@ loop-again c =
     (omega arith, refl, word-turn (turn .before .before .args .bytes .now) (turn .loop .i) (omega arith) (fits c) word (turn .loop .inv .2))
 
 same-length : tie.Need-same-length Inv-loop μ-loop
-same-length c = wrote-length (c .before .loop .inv .2 .wrote)
+same-length c = left-length _ (c .before .loop .inv .2)
 
 returns : tie.Need-returns Inv-loop μ-loop
 returns c =
-    finished (rw (no-word (c .before .before .before .args .bytes .now) (c .before .loop .i) (omega arith)) at (c .before .loop .inv .2))
+    let turn = c .before in
+    let left = no-word (turn .before .before .args .bytes .now) (turn .loop .i) (omega arith) in
+    (turn .loop .inv .2 _ _ (rw left (wrote-nothing _ _)), omega arith)
 
 pub decode-spec : {M : Type 1} → statement M
 decode-spec =

@@ -4,7 +4,7 @@ use native.Mathlib.Omega.{arith}
 use borrow.Author.Needs.{needs}
 use lib.ListN.{length}
 use Rattle.script.specs.Laws.{back}
-use Rattle.printer.specs.Writing.{wrote-length}
+use Rattle.theorems.specs.Writing.{left-length}
 use Rattle.printer.proofs.Walk.{Walking, Turn, turn, set-out, arrived, walked-on}
 use Rattle.printer.proofs.put_lines.Statement.{statement}
 use Rattle.printer.proofs.put_lines.Tie as tie
@@ -19,10 +19,10 @@ abbrev μ-loop : tie.MeasureT-loop
 here : (c : tie.After-formula-end Inv-loop μ-loop)
     → Turn (c .before .before .before .before .args .list .now) (c .before .before .loop .i) (c .formula-end .result)
     (c .before .before .loop .inv .conditions)
-here c = turn _ _ _ _ (c .before .before .loop .inv .left) (c .before .loop-test .taken) (c .formula-end .ensures)
+here c = turn _ _ _ _ (c .before .before .loop .inv .ahead) (c .before .loop-test .taken) (c .formula-end .ensures)
 
 loop-holds : tie.Need-loop-holds Inv-loop μ-loop
-loop-holds c = set-out _ _ _ (c .before .pre .0) (omega (arith, c .before .pre .1))
+loop-holds c = set-out _ _ _ (c .before .pre)
 
 add-loop : tie.Need-add-loop Inv-loop μ-loop
 add-loop c = omega arith
@@ -61,11 +61,7 @@ part-put-condition-end : tie.Need-part-put-condition-end Inv-loop μ-loop
 part-put-condition-end c = omega (arith, here (c .before .before .before .before) .forward, here (c .before .before .before .before) .inside)
 
 put-condition-requires : tie.Need-put-condition-requires Inv-loop μ-loop
-put-condition-requires c κs =
-    let read = c .before .before .before .before .before in
-    let inv = read .before .before .loop .inv in
-    let room = read .before .before .before .before .pre .1 in
-    omega (arith, here read .forward, here read .inside, here read .size, inv .within, room, wrote-length (inv .text .wrote))
+put-condition-requires c κs = search needs
 
 add-i : tie.Need-add-i Inv-loop μ-loop
 add-i c = omega (arith, here (c .before .before .before .before .before .before .before .before) .inside)
@@ -84,7 +80,7 @@ loop-again c =
     (c .before .before .put-condition .ensures .0) (c .before .before .put-condition .ensures .1)
 
 same-length : tie.Need-same-length Inv-loop μ-loop
-same-length c = wrote-length (c .before .loop .inv .text .wrote)
+same-length c = left-length _ (c .before .loop .inv .text)
 
 returns : tie.Need-returns Inv-loop μ-loop
 returns c = arrived (c .before .loop .inv) (c .loop-test .left)

@@ -15,7 +15,7 @@ same-length : tie.Need-same-length
 same-length c = search needs
 
 returns : tie.Need-returns
-returns c = unread-wrote _ (c .before .before .render .ensures)
+returns c = (unread-wrote _ (c .before .before .render .ensures .0), c .before .before .render .ensures .1)
 
 pub report-length-spec : {M : Type 1} → statement M
 report-length-spec =

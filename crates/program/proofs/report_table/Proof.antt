@@ -34,7 +34,8 @@ same-length c = search needs
 returns : tie.Need-returns
 returns c =
     let made = c .before .before .before .before .before .before .before in
-    wrote-table _ _ _ (made .generate .ensures .0) (made .generate .ensures .1 .0) (c .before .before .render .ensures)
+    let wrote = c .before .before .render .ensures in
+    (wrote-table _ _ _ (made .generate .ensures .0) (made .generate .ensures .1 .0) (wrote .0), wrote .1)
 
 pub report-table-spec : {M : Type 1} → statement M
 report-table-spec =

@@ -3,8 +3,8 @@ use mathlib.Core.Path.{_≡_, refl, _∙_}
 use native.Mathlib.Omega.{arith}
 use borrow.Author.Needs.{needs}
 use lib.ListN.{length, length-set, replicate, length-replicate}
-use Rattle.theorems.specs.Writing.{stopped}
-use Rattle.text.proofs.Loops.{Left, repeated, none-left}
+use Rattle.theorems.specs.Writing.{Left, stopped}
+use Rattle.text.proofs.Loops.{repeated, none-left}
 use Rattle.text.proofs.push_repeated.Statement.{statement}
 use Rattle.text.proofs.push_repeated.Tie as tie
 

@@ -4,8 +4,8 @@ use mathlib.Core.Path.{_≡_, refl, _∙_}
 use native.Mathlib.Omega.{arith}
 use borrow.Author.Needs.{needs}
 use lib.ListN.{length, length-set, getD, drop, drop-of-length-le}
-use Rattle.theorems.specs.Writing.{stopped, past-end, wrote-nothing}
-use Rattle.text.proofs.Loops.{Left, copied, all-left}
+use Rattle.theorems.specs.Writing.{Left, stopped, past-end, wrote-nothing}
+use Rattle.text.proofs.Loops.{copied, all-left}
 use Rattle.text.proofs.push_text.Statement.{statement}
 use Rattle.text.proofs.push_text.Tie as tie
 
