@@ -1,6 +1,7 @@
 -- Signed words: what two's complement makes of a number, and the text of a word by its sign. Assumes nothing.
 use Prim.Native.Nat.{ℕ, zero, suc, _-_, _≤_, _<_, _^_}
 use mathlib.Core.Path.{_≡_, refl, sym, ap, _∙_}
+use mathlib.Core.List.{_∷_}
 use mathlib.Core.Bool.{true, false, false≢true}
 use native.Mathlib.Nat.{zero-add}
 use native.Mathlib.Omega.{arith}
@@ -10,9 +11,8 @@ use borrow.Author.Tests.{lt-ltb, le-ltb, ltb-true}
 use mir.Facts.{toZ-ofZ}
 use mir.Val.{toZ, ofZ, SFits}
 use mir.Syntax.{w32}
-use mathlib.Core.List.{_∷_}
-use Rattle.printer.specs.Input.{twos-complement}
 use Rattle.text.specs.Decimal.{decimal}
+use Rattle.printer.specs.Input.{twos-complement}
 use Rattle.printer.specs.Text.{signed-decimal}
 
 -- -1 - n

@@ -1,6 +1,6 @@
 // The program's input and output, but for reading and writing themselves: the words that the input's bytes spell, and the
-// text of an answer. In this order: bytes to words, the parts of a line, an answer. Text is written up to the first byte that has
-// no room (`text`); an answer has room.
+// text of an answer. In this order: bytes to words, the parts of a line, an answer. A part is written as far as there is room
+// (crate `text`); an answer has room.
 
 use script::Answer;
 ghost use mathlib.Core.Path.{_≡_};
@@ -47,18 +47,6 @@ pub fn decode(bytes: &[u8], words: &mut [i32]) -> usize
     i
 }
 
-fn put_word(out: &mut [u8], at: usize, w: i32) -> usize
-    ensures { λ r. ⌜ Wrote (now (out .entry)) at (signed-decimal w) r (now (out .exit)) ⌝ }
-{
-    let n = text::magnitude(w);
-    if w < 0 {
-        let end = text::push_byte(out, at, b'-');
-        text::push_number(out, end, n)
-    } else {
-        text::push_number(out, at, n)
-    }
-}
-
 // A space and a number.
 fn put_count(out: &mut [u8], at: usize, n: usize) -> usize
     ensures { λ r. ⌜ Wrote (now (out .entry)) at (32 ∷ decimal n) r (now (out .exit)) ⌝ }
@@ -71,8 +59,13 @@ fn put_count(out: &mut [u8], at: usize, n: usize) -> usize
 fn put_field(out: &mut [u8], at: usize, w: i32) -> usize
     ensures { λ r. ⌜ Wrote (now (out .entry)) at (32 ∷ signed-decimal w) r (now (out .exit)) ⌝ }
 {
-    let end = text::push_byte(out, at, b' ');
-    put_word(out, end, w)
+    let n = text::magnitude(w);
+    if w < 0 {
+        let end = text::push_text(out, at, b" -");
+        text::push_number(out, end, n)
+    } else {
+        put_count(out, at, n)
+    }
 }
 
 // What stands after the first word of a line. A word has at most 11 characters.

@@ -1,8 +1,8 @@
 -- What the parts of the program answer: an input that is no table by its length, and the words that are used of the list.
 -- Assumes nothing.
-use Prim.Native.Nat.{ℕ, zero, suc, _+_, _*_, _-_, _%_, _≤_, _<_}
+use Prim.Native.Nat.{ℕ, _+_, _*_, _-_, _%_, _≤_, _<_}
 use native.Mathlib.Omega.{arith}
-use mathlib.Core.Path.{_≡_, refl, sym, ap, _∙_}
+use mathlib.Core.Path.{_≡_, sym, ap, _∙_}
 use mathlib.Core.Logic.{_≢_, inr}
 use mathlib.Core.List.{List, [], _∷_}
 use borrow.Author.Tests.{ne-eqb, eq-eqb}
@@ -20,7 +20,7 @@ use Rattle.theorems.specs.Outcomes.{outcome-cases}
 use Rattle.generator.specs.Outcomes.{outcome-refused}
 use Rattle.printer.specs.Input.{words-of}
 use Rattle.printer.specs.Text.{answer-text, conditions-in, Listed}
-use Rattle.printer.specs.Output.{output, table-output, used, used-list, used-text}
+use Rattle.printer.specs.Output.{output, table-output, used-list, used-text}
 
 -- `refused 1 0`
 unfoldable pub unread-output : List ℕ

@@ -1,7 +1,6 @@
 // The program as a function from bytes to bytes: what it writes for what it reads.
 use script::Answer;
-ghost use mathlib.Core.Path.{_≡_};
-ghost use Prim.Native.Nat.{ℕ, _+_, _*_, _≤_};
+ghost use Prim.Native.Nat.{_≤_};
 ghost use lib.ListN.{length};
 ghost use Rattle.theorems.specs.Writing.{Wrote};
 ghost use Rattle.printer.specs.Input.{words-of};
@@ -48,7 +47,7 @@ fn report_length(out: &mut [u8]) -> usize
     printer::render(answer, &none, out)
 }
 
-// Writes what the program writes for this input, and gives the number of bytes.
+// Writes what the program writes for this input, which has room, and gives the number of bytes.
 pub fn report(input: &[u8], out: &mut [u8; 6208]) -> usize
     ensures { λ r. ⌜ Wrote (now (out .entry)) 0 (output (now (input .entry))) r (now (out .exit)) ⌝ }
     ensures { λ r. ⌜ r ≤ length (now (out .entry)) ⌝ }

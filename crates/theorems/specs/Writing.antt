@@ -1,6 +1,6 @@
 -- What a function that writes into a lent run leaves where the run may be too short, and that one run after another writes
--- both. A loop that writes keeps what is left (`Left`). In the end the place tells which it was (`wrote-whole`, `wrote-short`). Assumes
--- nothing.
+-- both. A loop that writes keeps what is left (`Left`). In the end the place tells which it was (`wrote-whole`, `wrote-short`).
+-- Assumes nothing.
 use Prim.Native.Nat.{ℕ, _+_, _≤_, _<_}
 use mathlib.Core.Path.{_≡_, refl, sym, ap, _∙_}
 use mathlib.Core.Bool.{Bool, true, false}

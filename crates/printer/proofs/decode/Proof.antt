@@ -19,54 +19,9 @@ Inv-loop bytes words₀ count i₀ words i =
 abbrev μ-loop : tie.MeasureT-loop
 μ-loop bytes words₀ count i₀ words i = length bytes - i
 
-loop-holds : tie.Need-loop-holds Inv-loop μ-loop
-loop-holds c = (omega arith, refl, λ q l w. w)
-
-mul-at : tie.Need-mul-at Inv-loop μ-loop
-mul-at c = omega arith
-
-shared-slice-read-unsigned : tie.Need-shared-slice-read-unsigned Inv-loop μ-loop
-shared-slice-read-unsigned c = omega arith
-
-add-unsigned : tie.Need-add-unsigned Inv-loop μ-loop
-add-unsigned c = omega arith
-
-shared-slice-read-unsigned-2 : tie.Need-shared-slice-read-unsigned-2 Inv-loop μ-loop
-shared-slice-read-unsigned-2 c = omega arith
-
-add-unsigned-2 : tie.Need-add-unsigned-2 Inv-loop μ-loop
-add-unsigned-2 c = omega arith
-
-shared-slice-read-unsigned-3 : tie.Need-shared-slice-read-unsigned-3 Inv-loop μ-loop
-shared-slice-read-unsigned-3 c = omega arith
-
-add-unsigned-3 : tie.Need-add-unsigned-3 Inv-loop μ-loop
-add-unsigned-3 c = omega arith
-
-shared-slice-read-unsigned-4 : tie.Need-shared-slice-read-unsigned-4 Inv-loop μ-loop
-shared-slice-read-unsigned-4 c = omega arith
-
-unsigned-requires : tie.Need-unsigned-requires Inv-loop μ-loop
-unsigned-requires c κs = search needs
-
-twos-complement-requires : tie.Need-twos-complement-requires Inv-loop μ-loop
-twos-complement-requires c κs = search needs
-
-mul-t11 : tie.Need-mul-t11 Inv-loop μ-loop
-mul-t11 c = omega arith
-
 fits : (c : tie.After-twos-complement Inv-loop μ-loop)
     → c .before .before .before .before .before .before .before .loop .i < length (c .before .before .before .before .before .before .before .loop .words)
 fits c = omega (arith, left-length _ (c .before .before .before .before .before .before .before .loop .inv .2))
-
-slice-set-from-words : tie.Need-slice-set-from-words Inv-loop μ-loop
-slice-set-from-words c = fits c
-
-add-i : tie.Need-add-i Inv-loop μ-loop
-add-i c = omega arith
-
-loop-less : tie.Need-loop-less Inv-loop μ-loop
-loop-less c = omega arith
 
 loop-again : tie.Need-loop-again Inv-loop μ-loop
 loop-again c =
@@ -74,14 +29,11 @@ loop-again c =
     let word = back (c .twos-complement .ok) ∙ c .twos-complement .ensures ∙ ap twos-complement (c .before .unsigned .ensures) in
     (omega arith, refl, word-turn (turn .before .before .args .bytes .now) (turn .loop .i) (omega arith) (fits c) word (turn .loop .inv .2))
 
-same-length : tie.Need-same-length Inv-loop μ-loop
-same-length c = left-length _ (c .before .loop .inv .2)
-
 returns : tie.Need-returns Inv-loop μ-loop
 returns c =
     let turn = c .before in
-    let left = no-word (turn .before .before .args .bytes .now) (turn .loop .i) (omega arith) in
-    (turn .loop .inv .2 _ _ (rw left (wrote-nothing _ _)), omega arith)
+    let none = no-word (turn .before .before .args .bytes .now) (turn .loop .i) (omega arith) in
+    (turn .loop .inv .2 _ _ (rw none (wrote-nothing _ _)), omega arith)
 
 pub decode-spec : {M : Type 1} → statement M
 decode-spec =
@@ -89,21 +41,21 @@ decode-spec =
     (tie.spec
     Inv-loop
     μ-loop
-    loop-holds
-    mul-at
-    shared-slice-read-unsigned
-    add-unsigned
-    shared-slice-read-unsigned-2
-    add-unsigned-2
-    shared-slice-read-unsigned-3
-    add-unsigned-3
-    shared-slice-read-unsigned-4
-    unsigned-requires
-    twos-complement-requires
-    mul-t11
-    slice-set-from-words
-    add-i
-    loop-less
+    (λ c. (omega arith, refl, λ q l w. w))
+    (λ c. omega arith)
+    (λ c. omega arith)
+    (λ c. omega arith)
+    (λ c. omega arith)
+    (λ c. omega arith)
+    (λ c. omega arith)
+    (λ c. omega arith)
+    (λ c. omega arith)
+    (λ c κs. search needs)
+    (λ c κs. search needs)
+    (λ c. omega arith)
+    fits
+    (λ c. omega arith)
+    (λ c. omega arith)
     loop-again
-    same-length
+    (λ c. left-length _ (c .before .loop .inv .2))
     returns)
