@@ -18,5 +18,5 @@ pub mod Places
 -- the whole list and the line at an index
 mod Walking
 mod Entries
-mod Fitting
+pub mod Fitting
 mod Telling

@@ -1,11 +1,12 @@
 -- Where an expression or a formula ends. In this order: the words after it, the place where it ends, the same for every
--- bound that is large enough. Assumes nothing.
+-- bound that is large enough, what that says of words that are read whole. Assumes nothing.
 use Prim.Native.Nat.{ℕ, suc, _+_, _-_, _≤_, _<_}
-use mathlib.Core.Path.{_≡_}
+use mathlib.Core.Path.{_≡_, sym, ap, _∙_}
 use mathlib.Core.Option.{Option, none, some}
-use mathlib.Core.List.{List, [], _∷_}
+use mathlib.Core.List.{List, [], _∷_, _++_}
+use native.Mathlib.Omega.{arith}
 use lib.IntN.{ℤ}
-use lib.ListN.{length, drop}
+use lib.ListN.{length, drop, length-append, length-drop}
 use Rattle.script.specs.Listing.{Read, next, read-expr, read-formula}
 
 -- the words after what was read
@@ -56,3 +57,24 @@ pub record Expression-ends (ws : List ℤ) (at e : ℕ) : Type 0 where
 pub record Formula-ends (ws : List ℤ) (at e : ℕ) : Type 0 where
   pub is : e ≡ formula-end ws at
   pub reads : Reads after-formula ws at e
+
+-- ---- words that are read whole, whatever stands after them
+
+ends-before : {ws us : List ℤ} {at e : ℕ} {o : Option (List ℤ)} → Ends ws at e o → o ≡ some us → (us ≡ drop e ws) × (at < e) × (e ≤ length ws)
+ends-before (nowhere p) q = let z : _≡_ {A = ℕ} 0 1 = cc in absurd (omega arith)
+ends-before (here p h l) q = (cc, h, l)
+
+module _ (f : ℕ → List ℤ → Option (List ℤ)) (us : List ℤ) (whole : (n : ℕ) (rest : List ℤ) → length us ≤ n → f n (us ++ rest) ≡ some rest)
+    (rest : List ℤ) {ws : List ℤ} {at e : ℕ} (stands : drop at ws ≡ us ++ rest) (reads : Reads f ws at e) where
+  sizes : length us + length rest ≡ length ws - at
+  sizes = sym (length-append us rest) ∙ ap length (sym stands) ∙ length-drop at ws
+
+  -- what stands after them, and where they end
+  pub left-after : (rest ≡ drop e ws) × (at < e) × (e ≤ length ws)
+  left-after =
+      ends-before (rw stands at (reads (length ws) (omega arith))) (whole (length ws) rest (omega (arith, sizes)))
+
+  pub ends-past : e ≡ at + length us
+  ends-past =
+      let left = ap length (left-after .0) ∙ length-drop e ws in
+      omega (arith, sizes, left, left-after .1, left-after .2)

@@ -1,17 +1,18 @@
 -- Signed words: what two's complement makes of a number, and the text of a word by its sign. Assumes nothing.
 use Prim.Native.Nat.{ℕ, zero, suc, _-_, _≤_, _<_, _^_}
-use mathlib.Core.Path.{_≡_, refl, sym, ap, _∙_}
+use mathlib.Core.Path.{_≡_, refl, ap, _∙_}
 use mathlib.Core.List.{_∷_}
-use mathlib.Core.Bool.{true, false, false≢true}
+use mathlib.Core.Bool.{true, false}
 use native.Mathlib.Nat.{zero-add}
 use native.Mathlib.Omega.{arith}
 use lib.IntN.{ℤ, pos, negsuc, natAbs, _-ℤ_}
 use lib.Signed.{ltZ}
-use borrow.Author.Tests.{lt-ltb, le-ltb, ltb-true}
+use borrow.Author.Tests.{lt-ltb, le-ltb}
 use mir.Facts.{toZ-ofZ}
 use mir.Val.{toZ, ofZ, SFits}
 use mir.Syntax.{w32}
 use Rattle.text.specs.Decimal.{decimal}
+use Rattle.text.proofs.Signs.{negative-is, other-is}
 use Rattle.printer.specs.Input.{twos-complement}
 use Rattle.printer.specs.Text.{signed-decimal}
 
@@ -42,20 +43,12 @@ module _ (n : ℕ) (h : 2 ^ 31 ≤ n) (f : n < 2 ^ 32) where
 
 -- ---- the text of a word
 
-negative-text : (z : ℤ) → ltZ z (pos 0) ≡ true → signed-decimal z ≡ 45 ∷ decimal (natAbs z)
-unfolding signed-decimal
-negative-text (pos n) h = absurd (omega (arith, ltb-true n 0 h))
-negative-text (negsuc n) h = refl
-
-other-text : (z : ℤ) → ltZ z (pos 0) ≡ false → signed-decimal z ≡ decimal (natAbs z)
-unfolding signed-decimal
-other-text (pos n) h = refl
-other-text (negsuc n) h = absurd (false≢true (sym h))
-
 -- z is the word w as a local holds it, and n the number in it
 module _ {z w : ℤ} {n : ℕ} (same : z ≡ w) (size : n ≡ natAbs z) where
   pub negative-word : ltZ z (pos 0) ≡ true → signed-decimal w ≡ 45 ∷ decimal n
-  negative-word h = ap signed-decimal (sym same) ∙ negative-text z h ∙ ap (λ m. 45 ∷ decimal m) (sym size)
+  unfolding signed-decimal
+  negative-word h = negative-is signed-decimal (λ m. 45 ∷ decimal m) decimal (λ m. refl) (λ m. refl) same size h
 
   pub other-word : ltZ z (pos 0) ≡ false → signed-decimal w ≡ decimal n
-  other-word h = ap signed-decimal (sym same) ∙ other-text z h ∙ ap decimal (sym size)
+  unfolding signed-decimal
+  other-word h = other-is signed-decimal (λ m. 45 ∷ decimal m) decimal (λ m. refl) (λ m. refl) same size h

@@ -1,0 +1,10 @@
+pub mod Standing
+pub mod Openings
+pub mod Nodes
+pub mod Turns
+pub mod Shapes
+pub mod Divisions
+pub mod Arms
+pub mod Noted
+pub mod Scans
+pub mod Entry
