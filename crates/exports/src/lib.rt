@@ -1,5 +1,5 @@
-// The entries for other languages: the check, the list reader and the generator, with their answers as numbers that the caller
-// lends. A slice is its place and its length.
+// The entries for other languages: the check, the list reader, the generator and the writer of solver scripts, with their
+// answers as numbers that the caller lends. A slice is its place and its length.
 
 use editor::Record;
 use script::Answer;
@@ -11,6 +11,7 @@ ghost use Rattle.script.specs.Generated.{outcome};
 ghost use Rattle.editor.specs.Flat.{flat};
 ghost use Rattle.script.specs.Listing.{line-at, first-place, step-back, next-place};
 ghost use Rattle.script.specs.Promise.{Demand-3};
+ghost use Rattle.smt.specs.Written.{written};
 ghost use Rattle.exports.specs.Told.{Told, answer-of};
 ghost use Rattle.exports.specs.Verdicts.{number-of, row-of};
 
@@ -154,4 +155,22 @@ pub extern "C" fn leqwarti_generate_records(
 {
     let answer = editor::generate_records(records, list, scratch);
     tell(answer, number, row, conditions, words)
+}
+
+// Writes the condition at an index of a list as an SMT-LIB 2 script: number, and how many bytes of the text were used.
+#[no_mangle]
+pub extern "C" fn leqwarti_smt(
+    words: &[i32],
+    index: i32,
+    text: &mut [u8],
+    number: &mut usize,
+    used: &mut usize,
+)
+    ensures number { λ _. ⌜ now (number .exit) ≡ written (now (words .entry)) index (length (now (text .entry))) .number ⌝ }
+    ensures used { λ _. ⌜ now (used .exit) ≡ written (now (words .entry)) index (length (now (text .entry))) .used ⌝ }
+    ensures text { λ _. ⌜ now (text .exit) ≡ written (now (words .entry)) index (length (now (text .entry))) .buffer ⌝ }
+{
+    let answer = smt_writer::write_condition(words, index, text);
+    *number = answer.number;
+    *used = answer.used;
 }
