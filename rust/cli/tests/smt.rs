@@ -95,6 +95,13 @@ fn one_condition_and_nothing_else() {
 }
 
 #[test]
+fn the_readme_shows_a_script_as_it_is() {
+    let (_, script) = COUNTDOWN[0];
+    let shown: String = script.lines().map(|line| format!("    {line}\n")).collect();
+    assert!(text(&top().join("README.md")).contains(&shown));
+}
+
+#[test]
 fn all_conditions_one_after_the_other() {
     let wanted: String = COUNTDOWN
         .iter()
