@@ -137,7 +137,7 @@ impl Process {
 
     /// The lines that it writes for some commands.
     fn answer(&mut self, commands: &str) -> Option<Vec<String>> {
-        let told = write!(self.input, "{commands}(echo \"that is all\")\n");
+        let told = writeln!(self.input, "{commands}(echo \"that is all\")");
         let mut lines = Vec::new();
         loop {
             match self.lines.recv_timeout(PATIENCE) {
