@@ -1,84 +1,133 @@
-//! `vcgen [--words] FILE`
+//! The command: `vcgen [list] [--words] FILE`, `vcgen smt FILE [INDEX]` and
+//! `vcgen smt --into FOLDER FILE`.
 
+mod request;
+
+use std::fs;
 use std::io::{self, Read, Write};
+use std::path::Path;
 use std::process::ExitCode;
 
-use cli::{Source, HELP};
+use cli::{scripts, Script, Source, HELP};
+use leqwarti::Plan;
+use request::{request, Request, Wanted};
 
 const REFUSED: u8 = 1;
 const UNREADABLE: u8 = 2;
 
-/// What the arguments ask for.
-enum Request {
-    Help,
-    Conditions { file: String, as_words: bool },
+/// What to tell, and the exit status.
+struct Failure {
+    told: String,
+    status: u8,
 }
 
 fn main() -> ExitCode {
-    let Some(request) = request(std::env::args().skip(1)) else {
-        eprint!("{HELP}");
-        return ExitCode::from(UNREADABLE);
+    let arguments: Vec<String> = std::env::args().skip(1).collect();
+    let arguments: Vec<&str> = arguments.iter().map(String::as_str).collect();
+    let done = match request(&arguments) {
+        Some(request) => carry_out(request),
+        None => Err(unreadable(HELP.to_string())),
     };
-    match request {
-        Request::Help => print(HELP, 0),
-        Request::Conditions { file, as_words } => match read(&file) {
-            Ok(source) => answer(&source, as_words),
-            Err(problem) => {
-                eprintln!("{problem}");
-                ExitCode::from(UNREADABLE)
-            }
-        },
-    }
+    ExitCode::from(done.unwrap_or_else(|failure| {
+        eprint!("{}", failure.told);
+        failure.status
+    }))
 }
 
-fn request(arguments: impl Iterator<Item = String>) -> Option<Request> {
-    let mut as_words = false;
-    let mut files = Vec::new();
-    for argument in arguments {
-        match argument.as_str() {
-            "--help" | "-h" => return Some(Request::Help),
-            "--words" => as_words = true,
-            "-" => files.push(argument),
-            option if option.starts_with('-') => return None,
-            _ => files.push(argument),
-        }
+fn carry_out(request: Request) -> Result<u8, Failure> {
+    match request {
+        Request::Help => print(HELP).map(|()| 0),
+        Request::List { file, as_words } => list(&read(file)?, as_words),
+        Request::Smt { file, wanted } => smt(&read(file)?, wanted).map(|()| 0),
     }
-    let [file] = <[String; 1]>::try_from(files).ok()?;
-    Some(Request::Conditions { file, as_words })
 }
 
 /// The rows of a file, or what is wrong with it and where.
-fn read(file: &str) -> Result<Source, String> {
+fn read(file: &str) -> Result<Source, Failure> {
     let bytes = match file {
         "-" => {
             let mut bytes = Vec::new();
             io::stdin().read_to_end(&mut bytes).map(|_| bytes)
         }
-        _ => std::fs::read(file),
+        _ => fs::read(file),
     };
     let name = if file == "-" { "standard input" } else { file };
-    let bytes = bytes.map_err(|error| format!("{name}: {error}"))?;
+    let bytes = bytes.map_err(|error| no_file(Path::new(name), error))?;
     let text = String::from_utf8_lossy(&bytes);
-    Source::read(&text).map_err(|fault| format!("{name}:{}: {}", fault.line, fault.problem))
+    Source::read(&text)
+        .map_err(|fault| unreadable(format!("{name}:{}: {}\n", fault.line, fault.problem)))
 }
 
-fn answer(source: &Source, as_words: bool) -> ExitCode {
+fn unreadable(told: String) -> Failure {
+    let status = UNREADABLE;
+    Failure { told, status }
+}
+
+fn list(source: &Source, as_words: bool) -> Result<u8, Failure> {
     let answer = leqwarti::plan(&source.words);
     let text = if as_words {
         cli::program_text(&answer)
     } else {
         cli::text(&answer, source)
     };
-    print(&text, if answer.is_ok() { 0 } else { REFUSED })
+    print(&text)?;
+    Ok(if answer.is_ok() { 0 } else { REFUSED })
+}
+
+fn smt(source: &Source, wanted: Wanted) -> Result<(), Failure> {
+    let answer = leqwarti::plan(&source.words);
+    let plan = answer.map_err(|refusal| refused(cli::text(&Err(refusal), source)))?;
+    match wanted {
+        Wanted::At(index) => {
+            let text = leqwarti::smt(plan.words(), index);
+            print(&text.map_err(|refusal| refused(format!("index {index}: {refusal}\n")))?)
+        }
+        Wanted::All => each_text(&plan, |script, text| {
+            print(&format!("; {}\n{text}", script.name()))
+        }),
+        Wanted::Into(folder) => {
+            fs::create_dir_all(folder).map_err(|error| no_file(folder, error))?;
+            each_text(&plan, |script, text| {
+                write_file(&folder.join(script.file_name()), &text)
+            })
+        }
+    }
+}
+
+fn refused(told: String) -> Failure {
+    let status = REFUSED;
+    Failure { told, status }
+}
+
+/// Puts the text of each script where it belongs, up to the first one that is
+/// refused.
+fn each_text(
+    plan: &Plan,
+    put: impl Fn(Script, String) -> Result<(), Failure>,
+) -> Result<(), Failure> {
+    for script in scripts(plan) {
+        let text = script.text();
+        let named = |refusal| refused(format!("{}: {refusal}\n", script.name()));
+        put(script, text.map_err(named)?)?;
+    }
+    Ok(())
+}
+
+fn write_file(file: &Path, text: &str) -> Result<(), Failure> {
+    fs::write(file, text).map_err(|error| no_file(file, error))?;
+    print(&format!("{}\n", file.display()))
+}
+
+fn no_file(path: &Path, error: io::Error) -> Failure {
+    unreadable(format!("{}: {error}\n", path.display()))
 }
 
 /// Writes to standard output. A reader that has seen enough is no failure.
-fn print(text: &str, status: u8) -> ExitCode {
+fn print(text: &str) -> Result<(), Failure> {
     match io::stdout().write_all(text.as_bytes()) {
         Err(error) if error.kind() != io::ErrorKind::BrokenPipe => {
-            eprintln!("standard output: {error}");
-            ExitCode::from(UNREADABLE)
+            Err(unreadable(format!("standard output: {error}\n")))
         }
-        _ => ExitCode::from(status),
+        _ => Ok(()),
     }
 }

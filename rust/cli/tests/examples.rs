@@ -1,48 +1,24 @@
 //! The examples through the command, against what is stored beside them and
 //! against the second implementation.
 
+mod command;
 mod files;
 
-use std::io::Write;
-use std::process::{Command, Output, Stdio};
-
 use cli::Source;
+use command::{vcgen, written};
 use files::{examples, name, text, top};
-
-fn vcgen(arguments: &[&str], input: &str) -> Output {
-    let mut child = Command::new(env!("CARGO_BIN_EXE_vcgen"))
-        .args(arguments)
-        .stdin(Stdio::piped())
-        .stdout(Stdio::piped())
-        .stderr(Stdio::piped())
-        .spawn()
-        .unwrap();
-    child
-        .stdin
-        .take()
-        .unwrap()
-        .write_all(input.as_bytes())
-        .unwrap();
-    child.wait_with_output().unwrap()
-}
-
-fn written(output: &Output) -> (Option<i32>, &str, &str) {
-    let of = |bytes| std::str::from_utf8(bytes).unwrap();
-    (output.status.code(), of(&output.stdout), of(&output.stderr))
-}
 
 #[test]
 fn every_example_gives_what_is_stored_beside_it() {
     for file in examples() {
         let expected = text(&file.with_extension("expected"));
         let status = i32::from(expected.starts_with("refused"));
-        let output = vcgen(&[file.to_str().unwrap()], "");
-        assert_eq!(
-            written(&output),
-            (Some(status), &expected[..], ""),
-            "{}",
-            name(&file)
-        );
+        let path = file.to_str().unwrap();
+        for arguments in [&[path][..], &["list", path]] {
+            let output = vcgen(arguments, "");
+            let wanted = (Some(status), &expected[..], "");
+            assert_eq!(written(&output), wanted, "{}", name(&file));
+        }
     }
 }
 
@@ -62,8 +38,10 @@ fn the_words_are_those_of_the_second_implementation() {
             "{} is too long",
             name(&file)
         );
-        let output = vcgen(&["--words", "-"], &rows);
-        assert_eq!(written(&output).1, expected, "{}", name(&file));
+        for arguments in [&["--words", "-"][..], &["list", "--words", "-"]] {
+            let output = vcgen(arguments, &rows);
+            assert_eq!(written(&output).1, expected, "{}", name(&file));
+        }
     }
 }
 

@@ -1,7 +1,7 @@
 //! A finished list and its conditions.
 
 use crate::entries::{self, Line};
-use crate::{Formula, Refusal};
+use crate::{index_word, Formula, Refusal};
 
 /// Which condition of Hoare's rules it is.
 #[derive(Clone, Copy, Debug, PartialEq, Eq, Hash)]
@@ -99,6 +99,25 @@ impl Plan {
             words: &self.words,
             lines: self.lines.iter(),
         }
+    }
+
+    /// The condition at an index as an SMT-LIB 2 script; see [`smt`](crate::smt).
+    ///
+    /// ```
+    /// use leqwarti::Plan;
+    ///
+    /// let plan = Plan::read(vec![18, 2, 3, 1, -5, 4, 9, 5, 1])?;
+    /// let script = "\
+    /// (set-logic QF_NIA)
+    /// (declare-const v3 Int)
+    /// (assert (not (< v3 (- 5))))
+    /// (check-sat)
+    /// ";
+    /// assert_eq!(plan.smt(0)?, script);
+    /// # Ok::<(), leqwarti::Refusal>(())
+    /// ```
+    pub fn smt(&self, index: usize) -> Result<String, Refusal> {
+        crate::smt(&self.words, index_word(index))
     }
 }
 

@@ -58,6 +58,15 @@ mod exported {
             start: *mut usize,
             end: *mut usize,
         );
+        pub fn leqwarti_smt(
+            words: *const i32,
+            words_length: usize,
+            index: i32,
+            text: *mut u8,
+            text_length: usize,
+            number: *mut usize,
+            used: *mut usize,
+        );
     }
 }
 
@@ -95,6 +104,14 @@ pub struct Line {
     pub row: usize,
     pub start: usize,
     pub end: usize,
+}
+
+/// What the writer of a condition's text answers: the text stands in the first
+/// `used` bytes.
+#[derive(Clone, Copy, Debug, Default, PartialEq, Eq)]
+pub struct Written {
+    pub number: usize,
+    pub used: usize,
 }
 
 /// The check of a table.
@@ -226,4 +243,25 @@ pub fn step(words: &[i32], place: &mut usize) -> Line {
         start,
         end,
     }
+}
+
+/// The condition at an index from the front as an SMT-LIB 2 script. Whatever
+/// the buffer held before the call, after it the text is followed by zeros;
+/// refused, the buffer is all zeros.
+pub fn smt(words: &[i32], index: i32, text: &mut [u8]) -> Written {
+    let mut written = Written::default();
+    // SAFETY: as in `check`, for all words, every index and every length of
+    // the buffer.
+    unsafe {
+        exported::leqwarti_smt(
+            words.as_ptr(),
+            words.len(),
+            index,
+            text.as_mut_ptr(),
+            text.len(),
+            from_mut(&mut written.number),
+            from_mut(&mut written.used),
+        );
+    }
+    written
 }

@@ -41,15 +41,18 @@
 //! assert_eq!((refusal.reason, refusal.row), (Reason::UnknownKind, 1));
 //! ```
 //!
-//! The check, the generator and the list reader are functions of a static
-//! library whose contracts are proved; this crate adds types, and the text of
-//! formulas and refusals, which are not. A stack of 512 KiB is enough for the
+//! A condition is also written as a script for solvers, with [`Plan::smt`].
+//!
+//! The check, the generator, the list reader and the writer of solvers' scripts
+//! are functions of a static library whose contracts are proved; this crate
+//! adds types, and the text of formulas and refusals, which are not. A stack of 512 KiB is enough for the
 //! deepest scripts and lists (a thread of Rust's has 2 MiB by default).
 
 mod condition;
 pub mod entries;
 mod formula;
 mod refusal;
+mod smt;
 
 use entries::Answer;
 
@@ -57,6 +60,7 @@ pub use condition::{Condition, ConditionKind, Conditions, Plan};
 pub use entries::Record;
 pub use formula::Formula;
 pub use refusal::{Reason, Refusal};
+pub use smt::{smt, LONGEST_TEXT};
 
 /// The most words that a list has.
 pub const LONGEST_LIST: usize = 16_384;
@@ -154,9 +158,12 @@ pub fn plan_into<'a>(
 /// # Ok::<(), leqwarti::Refusal>(())
 /// ```
 pub fn condition_at(list: &[i32], index: usize) -> Result<Condition<'_>, Refusal> {
-    // No list has as many conditions as the largest index.
-    let index = i32::try_from(index).unwrap_or(i32::MAX);
-    let line = entries::line_at(list, index);
+    let line = entries::line_at(list, index_word(index));
     Refusal::unless_zero(line.number, line.row)?;
     Ok(Condition::of(list, &line))
+}
+
+/// An index as a word. No list has as many conditions as the largest word.
+fn index_word(index: usize) -> i32 {
+    i32::try_from(index).unwrap_or(i32::MAX)
 }

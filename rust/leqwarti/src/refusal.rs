@@ -1,11 +1,12 @@
-//! Why there is no plan, or no condition.
+//! Why there is no plan, no condition, or no text.
 
 use std::error::Error;
 use std::fmt;
 
 /// What is wrong, in the order in which a table is tested.
 ///
-/// The discriminants are document 01's numbers; each variant has its word there.
+/// The discriminants are document 01's numbers, each with its word there, and
+/// those of document 02's requests.
 #[derive(Clone, Copy, Debug, PartialEq, Eq, Hash)]
 #[repr(u8)]
 pub enum Reason {
@@ -40,11 +41,14 @@ pub enum Reason {
     TornList = 20,
     /// "no such line": the list has no condition at that index.
     NoSuchLine = 21,
+    /// The condition's text is longer than its buffer. (Document 02 gives this
+    /// number no word.)
+    TextTooLong = 30,
 }
 
 impl Reason {
     /// All reasons, by number.
-    pub const ALL: [Reason; 14] = [
+    pub const ALL: [Reason; 15] = [
         Reason::TableLength,
         Reason::UnknownKind,
         Reason::FieldOutOfRange,
@@ -59,9 +63,10 @@ impl Reason {
         Reason::ListTooLong,
         Reason::TornList,
         Reason::NoSuchLine,
+        Reason::TextTooLong,
     ];
 
-    /// Document 01's number.
+    /// The number in documents 01 and 02.
     pub fn number(self) -> u8 {
         self as u8
     }
@@ -96,6 +101,7 @@ impl Reason {
             Reason::ListTooLong => "the list is longer than its buffer, or than 16,384 words",
             Reason::TornList => "the words are no well-formed list",
             Reason::NoSuchLine => "the list has no condition at that index",
+            Reason::TextTooLong => "the condition's text is longer than its buffer",
         }
     }
 }

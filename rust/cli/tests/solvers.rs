@@ -1,0 +1,206 @@
+//! z3 and cvc5 read the text of conditions: of the examples, and of random
+//! scripts and lists. They find no error in any, and where they decide, their
+//! verdicts agree with each other and with the second implementation.
+
+mod files;
+mod solver;
+
+use cli::{scripts, Source};
+use fuzz::claims::changed_meaning;
+use fuzz::mutate::made_up_list;
+use fuzz::scripts::{script_words, Shape};
+use fuzz::templates::{any_template, lay_out};
+use fuzz::{seed_from_environment, tell, Prng};
+use leqwarti::Plan;
+use reference::{formula_from_words, formula_is_true, Formula, Row, State, Variable};
+use solver::{contradict, verdicts, Effort, Model, Verdict};
+
+/// The conditions of all examples, as `fleet-join: exit 45`, with their texts.
+fn example_scripts() -> Vec<(String, String)> {
+    let mut named = Vec::new();
+    for file in files::examples() {
+        let source = Source::read(&files::text(&file)).unwrap();
+        let Ok(plan) = leqwarti::plan(&source.words) else {
+            continue;
+        };
+        for script in scripts(&plan) {
+            let name = format!("{}: {}", files::name(&file), script.name());
+            named.push((name, script.text().unwrap()));
+        }
+    }
+    named
+}
+
+/// Of the faulty fleet join one condition is false in some state, the exit.
+/// All others are true in every state, as far as the solvers can tell.
+#[test]
+fn the_examples_are_as_sound_as_they_say() {
+    let effort = Effort {
+        z3: 5_000_000,
+        cvc5: 100_000,
+    };
+    let (names, texts): (Vec<String>, Vec<String>) = example_scripts().into_iter().unzip();
+    let verdicts = verdicts(&texts, effort);
+    let those = |is: fn(&Verdict) -> bool| -> Vec<&String> {
+        let named = names.iter().zip(&verdicts);
+        let any = named.filter(|(_, both)| both.iter().any(is));
+        any.map(|(name, _)| name).collect()
+    };
+    let false_somewhere = those(|verdict| matches!(verdict, Verdict::Sat(_)));
+    let true_everywhere = those(|verdict| *verdict == Verdict::Unsat);
+    let (decided, all) = (true_everywhere.len(), names.len());
+    tell(format!("{decided} of {all} conditions are unsat"));
+    assert_eq!(false_somewhere, ["fleet-join: exit 45"]);
+    assert!(!true_everywhere.contains(&false_somewhere[0]));
+    assert!(decided >= all - 5);
+}
+
+/// How many random conditions the solvers read.
+const CONDITIONS: usize = 2_000;
+
+/// The longest text of one of them, in bytes.
+const LONGEST: usize = 20_000;
+
+/// In how many states a condition is tried that solvers say is true in all.
+const STATES: usize = 300;
+
+struct Case {
+    formula: Formula,
+    text: String,
+}
+
+/// A condition of any plan.
+fn any_case(random: &mut Prng) -> Case {
+    loop {
+        let plan = any_plan(random);
+        let index = random.below(plan.conditions().len());
+        let condition = plan.conditions().nth(index).unwrap();
+        let formula = formula_from_words(condition.formula.words()).unwrap();
+        match plan.smt(index) {
+            Ok(text) if text.len() <= LONGEST => return Case { formula, text },
+            _ => (),
+        }
+    }
+}
+
+/// A list that no generator wrote, or that of a script: of any shape, with
+/// conditions that hold by construction, or one of these with a change.
+fn any_plan(random: &mut Prng) -> Plan {
+    let table = match random.below(4) {
+        0 => return Plan::read(made_up_list(random, 0)).unwrap(),
+        1 => {
+            let shape = Shape {
+                rows: 4 + random.below(60),
+                ..Shape::any(random)
+            };
+            script_words(random, shape)
+        }
+        2 => sound_table(random),
+        _ => {
+            let table = sound_table(random);
+            changed_meaning(&table, random)
+        }
+    };
+    // A list may be too long.
+    leqwarti::plan(&table).unwrap_or_else(|_| any_plan(random))
+}
+
+fn sound_table(random: &mut Prng) -> Vec<i32> {
+    let template = any_template(random);
+    lay_out(&template.script, random)
+}
+
+impl Case {
+    fn is_true(&self, state: &State) -> Option<bool> {
+        formula_is_true(&self.formula, state).ok()
+    }
+
+    /// The names that the text declares.
+    fn names(&self) -> impl Iterator<Item = &str> {
+        let declarations = self.text.lines();
+        declarations.filter_map(|line| line.strip_prefix("(declare-const ")?.strip_suffix(" Int)"))
+    }
+
+    /// A state whose values are so small that equations are often true.
+    fn any_state(&self, random: &mut Prng) -> State {
+        let mut state = State::default();
+        for name in self.names() {
+            set(&mut state, name, random.between(-3, 6).into());
+        }
+        state
+    }
+}
+
+fn set(state: &mut State, name: &str, value: i128) {
+    let (sort, number) = name.split_at(1);
+    let number = number.parse().unwrap();
+    match sort {
+        "v" | "f" => state.set_variable(Variable(number), value),
+        "m" => state.set_mark(Row(number), value),
+        _ => panic!("{name}"),
+    }
+}
+
+/// The state that a model gives; nothing where it has a number too large.
+fn state_of(model: &Model) -> Option<State> {
+    let mut state = State::default();
+    for (name, value) in model {
+        set(&mut state, name, (*value)?);
+    }
+    Some(state)
+}
+
+/// How many verdicts there were, and how many models were tried.
+#[derive(Debug, Default)]
+struct Tally {
+    sat: usize,
+    models: usize,
+    unsat: usize,
+    unknown: usize,
+}
+
+impl Tally {
+    /// Compares a verdict with the second implementation.
+    fn add(&mut self, case: &Case, verdict: &Verdict, random: &mut Prng) {
+        match verdict {
+            Verdict::Sat(model) => {
+                let truth = state_of(model).and_then(|state| case.is_true(&state));
+                assert_ne!(truth, Some(true), "in {model:?}:\n{}", case.text);
+                self.sat += 1;
+                self.models += usize::from(truth.is_some());
+            }
+            Verdict::Unsat => {
+                for state in (0..STATES).map(|_| case.any_state(random)) {
+                    let truth = case.is_true(&state);
+                    assert_ne!(truth, Some(false), "in {state:?}:\n{}", case.text);
+                }
+                self.unsat += 1;
+            }
+            Verdict::Unknown => self.unknown += 1,
+        }
+    }
+}
+
+/// Where a solver finds a state, the condition is false there; where it finds
+/// that there is none, the condition is true in random states.
+#[test]
+fn verdicts_on_random_conditions_agree_with_each_other_and_with_evaluation() {
+    let effort = Effort {
+        z3: 200_000,
+        cvc5: 5_000,
+    };
+    let mut random = Prng::new(seed_from_environment());
+    let cases: Vec<Case> = (0..CONDITIONS).map(|_| any_case(&mut random)).collect();
+    let texts: Vec<String> = cases.iter().map(|case| case.text.clone()).collect();
+    let mut tallies = [Tally::default(), Tally::default()];
+    for (case, both) in cases.iter().zip(&verdicts(&texts, effort)) {
+        assert!(!contradict(both), "{both:?} for\n{}", case.text);
+        for (tally, verdict) in tallies.iter_mut().zip(both) {
+            tally.add(case, verdict, &mut random);
+        }
+    }
+    tell(format!("z3 and cvc5: {tallies:?}"));
+    for tally in tallies {
+        assert!(tally.models > CONDITIONS / 5 && tally.unsat > CONDITIONS / 5);
+    }
+}
