@@ -7,8 +7,8 @@ use fuzz::lent::{same, Lent};
 use fuzz::{seed_from_environment, tell, Input, Prng};
 use leqwarti::entries;
 
-/// About 21 in 32 are tables, and 9 are lists.
-const CASES: u64 = 100_000;
+/// About 21 in 48 are tables, and 9 are lists.
+const CASES: u64 = 150_000;
 
 /// How often each number was given.
 type Tally = BTreeMap<usize, u64>;
@@ -60,18 +60,18 @@ fn compare_table(
     same("check", entries::check(table), verdict(peer::check(table)))?;
 
     let (mut list, mut scratch) = (Lent::new(list_len), Lent::new(scratch_len));
-    let expected = entries::generate(table, list.words(), scratch.words());
+    let expected = entries::generate(table, list.cells(), scratch.cells());
     *tables.entry(expected.number).or_default() += 1;
     let (mut peer_list, mut peer_scratch) = (Lent::new(list_len), Lent::new(scratch_len));
-    let found = peer::generate(table, peer_list.words(), peer_scratch.words());
+    let found = peer::generate(table, peer_list.cells(), peer_scratch.cells());
     same("generate", expected, answer(found))?;
-    peer_list.same("list", list.words())?;
-    peer_scratch.same("scratch", scratch.words())?;
+    peer_list.same("list", list.cells())?;
+    peer_scratch.same("scratch", scratch.cells())?;
 
     if expected.number != 0 {
         return Ok(());
     }
-    compare_list(&list.words()[..expected.words], lists)
+    compare_list(&list.cells()[..expected.words], lists)
 }
 
 fn compare_list(list: &[i32], lists: &mut Tally) -> Result<(), String> {
@@ -119,7 +119,7 @@ fn not_one_difference() {
                 scratch_len,
             } => compare_table(words, *list_len, *scratch_len, &mut tables, &mut lists),
             Input::List(list) => compare_list(list, &mut lists),
-            Input::Bytes(_) => Ok(()),
+            Input::Bytes(_) | Input::Text { .. } => Ok(()),
         };
         if let Err(what) = result {
             panic!("seed {seed}, case {case}: {what}\n{}", input.text());

@@ -309,3 +309,70 @@ fn the_deepest_formulas() {
         .join()
         .expect("no panic");
 }
+
+/// A list, an index and a room; number and text.
+type Answered = (&'static [i32], i64, usize, u8, &'static str);
+
+/// Some answers of another reader of the papers.
+const ANSWERED: [Answered; 6] = [
+    (
+        &[
+            25, 21, 5, 2, 1, 6, 2, 1, 2, 200, 2, 1, 23, 19, 6, 2, 1, 8, 7, 1, 5, 1, -2, 1, 2, 21,
+            2, 254, 1, -2, 4, 21, 30, 1,
+        ],
+        0,
+        315,
+        0,
+        "(set-logic QF_NIA)
+(declare-const v1 Int)
+(declare-const f200 Int)
+(declare-const f254 Int)
+(assert (not (=> (distinct (* v1 (ite (= f200 0) 0 (div v1 f200))) v1) (and (<= (ite (= (- (ite (= (- 2) 0) 5 (mod 5 (- 2)))) 0) 0 (div v1 (- (ite (= (- 2) 0) 5 (mod 5 (- 2)))))) 2) (distinct f254 (- 2))))))
+(check-sat)
+",
+    ),
+    (
+        &[
+            25, 19, 1, 4, 1, -1, 18, 7, 6, 2, 63, 1, -3, 1, -3, 1, -3, 4, 12, 17, 1,
+        ],
+        0,
+        200,
+        0,
+        "(set-logic QF_NIA)
+(declare-const v63 Int)
+(assert (not (=> (<= 4 (- 1)) (< (ite (= (- 3) 0) (ite (= (- 3) 0) 0 (div v63 (- 3))) (mod (ite (= (- 3) 0) 0 (div v63 (- 3))) (- 3))) (- 3)))))
+(check-sat)
+",
+    ),
+    (
+        &[
+            19, 7, 9, 3, 1, -1, 5, 9, 3, 4, 4, 9, 3, 2, 63, 9, 3, 4, 0, 17, 1,
+        ],
+        0,
+        159,
+        0,
+        "(set-logic QF_NIA)
+(declare-const v63 Int)
+(declare-const m3 Int)
+(assert (not (<= (ite (= (- 1) 0) m3 (mod m3 (- 1))) (* m3 (- (- m3 v63) m3)))))
+(check-sat)
+",
+    ),
+    (&[21, 9, 0, 2, 0, 4, 0, 5, 1], 0, 108, 30, ""),
+    (&[20, 2, 255, 9, 3, 1, 0, 5, 1], -1, 3, 21, ""),
+    (&[20, 9, 3, 9, 3, 4, 0, 5, 6], 0, 0, 20, ""),
+];
+
+#[test]
+fn another_reader_answers_the_same() {
+    for (list, index, room, number, text) in ANSWERED {
+        let mut buffer = text.as_bytes().to_vec();
+        buffer.resize(room, 0);
+        let expected = Written {
+            number,
+            used: text.len(),
+            buffer,
+        };
+        assert_eq!(smt(list, index, room), expected);
+    }
+}
