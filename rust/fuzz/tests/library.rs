@@ -20,6 +20,8 @@ fn not_one_difference() {
     let result = compare_counting(&mut Proved, seed, CASES, &mut tally);
     tell(format!("{CASES} cases: {tally:?}"));
     assert!(result.is_ok(), "{}", result.unwrap_err());
+    assert!(tally.smt.values().sum::<u64>() >= 100_000);
+    assert!(tally.smt.keys().copied().eq([0, 20, 21, 30]));
 }
 
 fn compare_all(inputs: impl Iterator<Item = Input>) {
