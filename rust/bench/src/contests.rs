@@ -1,10 +1,13 @@
-//! What the contestants do: generate, check, read.
+//! What the contestants do: generate, check, read, write text.
 
 use std::hint::black_box;
 
 use leqwarti::{entries, LONGEST_LIST};
 
 use crate::timing::{Contestants, Stopwatch};
+
+/// No text that is timed is longer.
+const LARGEST_TEXT: usize = 1 << 20;
 
 /// The generator on a table, with a list buffer and a scratch of these lengths.
 /// The floor clears both and copies the words of the list.
@@ -130,6 +133,36 @@ pub fn time_reading_at(watch: &Stopwatch, name: &str, list: &[i32], index: i32) 
                 black_box(reference::line_at(black_box(list), i64::from(index)));
             },
             floor: &mut || add_up(list),
+        },
+    );
+}
+
+/// The text of the condition at an index, in just the room that it needs. The
+/// floor clears the room and copies the text.
+pub fn time_writing(watch: &Stopwatch, name: &str, list: &[i32], index: i32) {
+    let expected = reference::smt(list, i64::from(index), LARGEST_TEXT);
+    assert_eq!(expected.number, 0, "{name}: a text");
+    let written = &expected.buffer[..expected.used];
+    let buffer = || vec![0; written.len()];
+    let (mut text, mut peer_text, mut floor_text) = (buffer(), buffer(), buffer());
+    watch.print_rates(
+        name,
+        written.len(),
+        Contestants {
+            proved: &mut || {
+                black_box(entries::smt(black_box(list), index, &mut text));
+            },
+            peer: &mut || {
+                black_box(peer::smt(black_box(list), index, &mut peer_text));
+            },
+            second: &mut || {
+                let index = i64::from(index);
+                black_box(reference::smt(black_box(list), index, written.len()));
+            },
+            floor: &mut || {
+                black_box(&mut floor_text).fill(0);
+                black_box(&mut floor_text).copy_from_slice(written);
+            },
         },
     );
 }

@@ -5,7 +5,8 @@
 //! cleared in between.
 //!
 //! The floor is what any of them must do: clear both buffers and copy the words
-//! of the list; for what only reads, add up all words once.
+//! of the list; for what only reads, add up all words once; for the text of a
+//! condition, clear its room and copy it.
 //!
 //! `--rounds N` for fewer rounds or more.
 
@@ -15,7 +16,8 @@ mod scripts;
 mod timing;
 
 use contests::{
-    time_checking, time_generating, time_generating_at_the_need, time_reading_at, time_reading_back,
+    time_checking, time_generating, time_generating_at_the_need, time_reading_at,
+    time_reading_back, time_writing,
 };
 use fuzz::scripts::EXAMPLE_A;
 use leqwarti::{LARGEST_SCRATCH, LONGEST_LIST};
@@ -119,6 +121,26 @@ fn time_readings(watch: &Stopwatch) {
     }
 }
 
+/// A list of one condition: zero equal to quotients whose divisors are quotients
+/// in turn, so deep. Its text doubles with each.
+fn list_of_divisors(depth: usize) -> Vec<i32> {
+    let formula = [&[20, 1, 0], &[6, 2, 0].repeat(depth)[..], &[2, 1]].concat();
+    let length = formula.len() as i32;
+    [&formula[..], &[4, 0, length, 1]].concat()
+}
+
+fn time_texts(watch: &Stopwatch) {
+    let texts = [
+        ("example A, step", list_of(&EXAMPLE_A), 2),
+        ("a full list", list_of(&scripts::full_list()), 0),
+        ("divisors 12 deep", list_of_divisors(12), 0),
+    ];
+    for (name, list, index) in &texts {
+        let name = format!("{name} ({} words)", list.len());
+        time_writing(watch, &name, list, *index);
+    }
+}
+
 fn main() {
     let arguments: Vec<String> = std::env::args().skip(1).collect();
     let Some(rounds) = rounds(&arguments) else {
@@ -131,4 +153,6 @@ fn main() {
     time_exponential_lists(&watch);
     time_refusals(&watch);
     time_readings(&watch);
+    watch.print_head_of_rates();
+    time_texts(&watch);
 }

@@ -49,6 +49,35 @@ impl Stopwatch {
         );
     }
 
+    pub fn print_head_of_rates(&self) {
+        println!();
+        println!("Text of a condition: megabytes per second; the ratios are of times, as above.");
+        println!();
+        println!(
+            "| case | bytes | proved | peer | proved / peer | floor | second | proved / second |"
+        );
+        println!("|---|--:|--:|--:|--:|--:|--:|--:|");
+    }
+
+    /// A row for contestants that each write so many bytes.
+    pub fn print_rates(&self, case: &str, bytes: usize, contestants: Contestants) {
+        let Contestants {
+            proved,
+            peer,
+            second,
+            floor,
+        } = contestants;
+        let [proved, peer, second, floor] = self.medians([proved, peer, second, floor]);
+        let (by_peer, by_second) = (proved / peer, proved / second);
+        println!(
+            "| {case:<48} | {bytes:>7} | {} | {} | {by_peer:>5.2} | {} | {} | {by_second:>5.2} |",
+            megabytes_per_second(bytes, proved),
+            megabytes_per_second(bytes, peer),
+            megabytes_per_second(bytes, floor),
+            megabytes_per_second(bytes, second),
+        );
+    }
+
     /// The time of one call of each.
     fn medians<const N: usize>(&self, mut works: [&mut dyn FnMut(); N]) -> [Nanoseconds; N] {
         let calls = works.each_mut().map(|work| calls_in_a_round(*work));
@@ -64,6 +93,10 @@ impl Stopwatch {
 
 fn microseconds(time: Nanoseconds) -> String {
     format!("{:>9.2}", time / 1e3)
+}
+
+fn megabytes_per_second(bytes: usize, time: Nanoseconds) -> String {
+    format!("{:>9.1}", bytes as f64 * 1e3 / time)
 }
 
 /// The time of one call.

@@ -9,7 +9,8 @@ use reference::Line;
 use crate::inputs::Input;
 use crate::lent::{same, Lent};
 use crate::prng::Prng;
-use crate::subject::{Answer, Reference, Subject};
+use crate::subject::{Answer, Reference, Subject, Written};
+use crate::texts::text_need;
 
 /// With this environment variable set, every case is named before it is tried:
 /// for a subject that ends the whole process.
@@ -51,6 +52,7 @@ pub struct Tally {
     pub generate: BTreeMap<u8, u64>,
     pub line_at: BTreeMap<u8, u64>,
     pub walk: BTreeMap<u8, u64>,
+    pub smt: BTreeMap<u8, u64>,
 }
 
 fn count(numbers: &mut BTreeMap<u8, u64>, number: u8) {
@@ -119,6 +121,7 @@ pub fn compare_input(
             scratch_len,
         } => compare_table(subject, words, *list_len, *scratch_len, tally),
         Input::List(list) => compare_list(subject, list, tally),
+        Input::Text { list, index, room } => compare_text(subject, list, *index, *room, tally),
         Input::Bytes(bytes) => compare_program(subject, bytes),
     }
 }
@@ -143,7 +146,7 @@ fn compare_table(
         words: outcome.words,
     };
     let (mut list, mut scratch) = (Lent::new(list_len), Lent::new(scratch_len));
-    let found = subject.generate(words, list.words(), scratch.words());
+    let found = subject.generate(words, list.cells(), scratch.cells());
     same("generate", expected, found)?;
     list.same("generate, list", &outcome.list)?;
     scratch.same("generate, scratch", &outcome.scratch)?;
@@ -151,7 +154,7 @@ fn compare_table(
     let (records, rest) = words.as_chunks::<4>();
     if rest.is_empty() {
         let (mut list, mut scratch) = (Lent::new(list_len), Lent::new(scratch_len));
-        let found = subject.generate_from_records(records, list.words(), scratch.words());
+        let found = subject.generate_from_records(records, list.cells(), scratch.cells());
         if let Some(found) = found {
             same("generate from records", expected, found)?;
             list.same("generate from records, list", &outcome.list)?;
@@ -188,7 +191,7 @@ fn compare_list(subject: &mut dyn Subject, list: &[i32], tally: &mut Tally) -> R
             subject.line_at(list, index),
         )?;
     }
-    Ok(())
+    compare_texts(subject, list, steps, tally)
 }
 
 fn same_lines(name: &str, expected: &[Line], found: &[Line]) -> Result<(), String> {
@@ -209,6 +212,45 @@ fn indexes(list: &[i32], steps: usize) -> Vec<i64> {
     indexes.sort_unstable();
     indexes.dedup();
     indexes
+}
+
+/// Texts of a list with `steps` less 2 lines: at an index inside with rooms
+/// around the need, and at one outside.
+fn compare_texts(
+    subject: &mut dyn Subject,
+    list: &[i32],
+    steps: usize,
+    tally: &mut Tally,
+) -> Result<(), String> {
+    let middle = (steps as i64 - 2) / 2;
+    let need = text_need(list, middle).unwrap_or(100);
+    for room in [need - 1, need, need + 7] {
+        compare_text(subject, list, middle, room, tally)?;
+    }
+    compare_text(subject, list, -1, 0, tally)
+}
+
+/// Counts a text only where the subject writes texts.
+fn compare_text(
+    subject: &mut dyn Subject,
+    list: &[i32],
+    index: i64,
+    room: usize,
+    tally: &mut Tally,
+) -> Result<(), String> {
+    let mut text = Lent::new(room);
+    let Some(found) = subject.smt(list, index, text.cells()) else {
+        return Ok(());
+    };
+    let written = reference::smt(list, index, room);
+    count(&mut tally.smt, written.number);
+    let expected = Written {
+        number: written.number,
+        used: written.used,
+    };
+    let name = format!("text at {index} in {room} bytes");
+    same(&name, expected, found)?;
+    text.same(&name, &written.buffer)
 }
 
 fn compare_program(subject: &mut dyn Subject, bytes: &[u8]) -> Result<(), String> {

@@ -8,6 +8,7 @@ use crate::limits::{limit_words, list_of_length};
 use crate::mutate::{change_words, list_with_length, made_up_list, random_words, tear, tiny_list};
 use crate::prng::Prng;
 use crate::scripts::{script_words, Shape};
+use crate::texts::{any_index, any_room, dividing_list};
 
 /// What a subject and the reference are both given.
 #[derive(Clone, Debug, PartialEq, Eq)]
@@ -20,16 +21,23 @@ pub enum Input {
     },
     /// A list to be read.
     List(Vec<i32>),
+    /// A list, an index and the bytes lent for the text of that condition.
+    Text {
+        list: Vec<i32>,
+        index: i64,
+        room: usize,
+    },
     /// The standard input of the program.
     Bytes(Vec<u8>),
 }
 
 impl Input {
     pub fn any(random: &mut Prng) -> Input {
-        match random.below(32) {
+        match random.below(48) {
             0..=20 => any_table(random),
             21..=29 => Input::List(any_list(random)),
-            _ => Input::Bytes(any_bytes(random)),
+            30..=31 => Input::Bytes(any_bytes(random)),
+            _ => any_text(random),
         }
     }
 
@@ -49,6 +57,9 @@ impl Input {
                 text
             }
             Input::List(words) => format!("list\n{}", spaced(words)),
+            Input::Text { list, index, room } => {
+                format!("text at {index} in {room} bytes\n{}", spaced(list))
+            }
             Input::Bytes(bytes) => format!("bytes of standard input\n{}", spaced(bytes)),
         }
     }
@@ -158,6 +169,21 @@ fn list_of_generator(random: &mut Prng) -> Vec<i32> {
     let words = script_words(random, shape);
     let listed = conditions(&script_of(&words), LONGEST_LIST);
     listed.map_or(Vec::new(), |conditions| list_words(&conditions))
+}
+
+/// Lists as above and ones full of divisions, whole and torn.
+fn any_text(random: &mut Prng) -> Input {
+    let mut list = match random.below(8) {
+        0 => any_list(random),
+        1 | 2 => list_of_generator(random),
+        _ => dividing_list(random),
+    };
+    if random.once_in(10) {
+        tear(&mut list, random);
+    }
+    let index = any_index(&list, random);
+    let room = any_room(&list, index, random);
+    Input::Text { list, index, room }
 }
 
 fn any_bytes(random: &mut Prng) -> Vec<u8> {

@@ -16,11 +16,12 @@ pub mod prng;
 pub mod scripts;
 pub mod subject;
 pub mod templates;
+pub mod texts;
 
 pub use compare::{compare, compare_case, compare_counting, compare_input, Difference, Tally};
 pub use inputs::Input;
 pub use prng::{seed_from_environment, Prng};
-pub use subject::{Answer, Reference, Subject};
+pub use subject::{Answer, Reference, Subject, Written};
 
 /// Writes a line to standard error, which a test that passes shows too.
 pub fn tell(text: impl std::fmt::Display) {

@@ -11,7 +11,14 @@ pub struct Answer {
     pub words: usize,
 }
 
-/// An implementation of document 01 as its callers see it.
+/// What request P1's entry answers beside its text: number and bytes used.
+#[derive(Clone, Copy, Debug, PartialEq, Eq)]
+pub struct Written {
+    pub number: u8,
+    pub used: usize,
+}
+
+/// An implementation of document 01 and of the requests as its callers see it.
 pub trait Subject {
     /// The check of a table, numbers 1 to 10.
     fn check(&mut self, words: &[i32]) -> Verdict;
@@ -34,6 +41,13 @@ pub trait Subject {
         _list: &mut [i32],
         _scratch: &mut [i32],
     ) -> Option<Answer> {
+        None
+    }
+
+    /// Request P1: "Write the condition at an index as a script", into a buffer
+    /// that holds anything before the call; a subject without it answers
+    /// nothing.
+    fn smt(&mut self, _list: &[i32], _index: i64, _text: &mut [u8]) -> Option<Written> {
         None
     }
 
@@ -81,6 +95,15 @@ impl Subject for Reference {
         scratch: &mut [i32],
     ) -> Option<Answer> {
         Some(self.generate(&records.concat(), list, scratch))
+    }
+
+    fn smt(&mut self, list: &[i32], index: i64, text: &mut [u8]) -> Option<Written> {
+        let written = reference::smt(list, index, text.len());
+        text.copy_from_slice(&written.buffer);
+        Some(Written {
+            number: written.number,
+            used: written.used,
+        })
     }
 
     fn program_output(&mut self, bytes: &[u8]) -> Option<Vec<u8>> {

@@ -1,12 +1,16 @@
 //! The harness tried on the reference itself and on broken subjects.
 
+mod misspelt;
+
 use fuzz::mutate::{list_with_length, made_up_list};
 use fuzz::scripts::{script_words, Shape};
+use fuzz::texts::dividing_list;
 use fuzz::{compare, compare_counting, limits, seed_from_environment};
 use fuzz::{Answer, Prng, Reference, Subject, Tally};
+use misspelt::{Misspelt, TextFault, TEXT_FAULTS};
 use reference::{check, lines, need, Line, Verdict};
 
-const CASES: u64 = 20_000;
+const CASES: u64 = 30_000;
 
 #[test]
 fn the_reference_agrees_with_itself_and_every_number_occurs() {
@@ -23,6 +27,7 @@ fn the_reference_agrees_with_itself_and_every_number_occurs() {
     assert_eq!(numbers(&tally.generate), (0..=12).collect::<Vec<_>>());
     assert_eq!(numbers(&tally.line_at), [0, 20, 21]);
     assert_eq!(numbers(&tally.walk), [0, 20, 21]);
+    assert_eq!(numbers(&tally.smt), [0, 20, 21, 30]);
 }
 
 #[test]
@@ -70,6 +75,7 @@ fn made_up_lists_are_well_formed() {
     assert!(lines(&list_with_length(&mut random, 16_385)).is_none());
     for _ in 0..1_000 {
         assert!(lines(&made_up_list(&mut random, 0)).is_some());
+        assert!(lines(&dividing_list(&mut random)).is_some());
     }
 }
 
@@ -309,15 +315,30 @@ impl Subject for Broken {
     }
 }
 
+fn assert_found(fault: String, subject: &mut dyn Subject, seed: u64) {
+    let difference = compare(subject, seed, CASES);
+    let difference = difference.expect_err(&format!("{fault} was not found"));
+    println!("{fault}: {difference}");
+    let text = std::fs::read_to_string(&difference.file).expect("the file of the difference");
+    assert!(text.ends_with(&difference.input.text()));
+    std::fs::remove_file(&difference.file).expect("the file can be removed");
+}
+
 #[test]
 fn every_broken_subject_is_found() {
     let seed = seed_from_environment();
     for fault in FAULTS {
-        let difference = compare(&mut Broken(fault), seed, CASES);
-        let difference = difference.expect_err(&format!("{fault:?} was not found"));
-        println!("{fault:?}: {difference}");
-        let text = std::fs::read_to_string(&difference.file).expect("the file of the difference");
-        assert!(text.ends_with(&difference.input.text()));
-        std::fs::remove_file(&difference.file).expect("the file can be removed");
+        assert_found(format!("{fault:?}"), &mut Broken(fault), seed);
+    }
+}
+
+#[test]
+fn every_misspelt_text_is_found() {
+    // Another seed: two tests are not to write the same files.
+    let seed = seed_from_environment().wrapping_add(1);
+    let faultless = compare(&mut Misspelt(TextFault::Nothing), seed, CASES / 10);
+    assert!(faultless.is_ok(), "{}", faultless.unwrap_err());
+    for fault in TEXT_FAULTS {
+        assert_found(format!("{fault:?}"), &mut Misspelt(fault), seed);
     }
 }

@@ -4,11 +4,14 @@ mod common;
 
 use common::Proved;
 use fuzz::scripts::EXAMPLE_A;
+use fuzz::texts::text_need;
 use fuzz::{compare_counting, compare_input, seed_from_environment, tell, Input, Prng, Tally};
 use leqwarti::{Plan, Refusal};
 use reference::{lines, need, Line, Outcome, LONGEST_LIST};
 
-const CASES: u64 = 240_000;
+/// Two in three are tables, lists and bytes for the program; one is a list, an
+/// index and a room for the text of a condition.
+const CASES: u64 = 360_000;
 
 #[test]
 fn not_one_difference() {
@@ -17,6 +20,8 @@ fn not_one_difference() {
     let result = compare_counting(&mut Proved, seed, CASES, &mut tally);
     tell(format!("{CASES} cases: {tally:?}"));
     assert!(result.is_ok(), "{}", result.unwrap_err());
+    assert!(tally.smt.values().sum::<u64>() >= 100_000);
+    assert!(tally.smt.keys().copied().eq([0, 20, 21, 30]));
 }
 
 fn compare_all(inputs: impl Iterator<Item = Input>) {
@@ -84,6 +89,36 @@ fn every_small_change(words: Vec<i32>) -> impl Iterator<Item = Vec<i32>> {
 fn every_small_tear_of_a_list() {
     let list = leqwarti::plan(&EXAMPLE_A).expect("a plan").words().to_vec();
     compare_all(every_small_change(list).map(Input::List));
+}
+
+/// A list whose one condition has every kind that is written out or renamed:
+/// div, mod, choose, negate, a frozen name, a mark, negative numbers.
+const DIVIDING_LIST: [i32; 29] = [
+    25, 21, 6, 7, 2, 128, 9, 15, 10, 18, 1, -5, 2, 0, 8, 1, -1, 2, 10, 1, 3, 22, 24, 16, 17, 4, 19,
+    25, 1,
+];
+
+#[test]
+fn every_small_tear_of_a_dividing_list() {
+    assert_eq!(lines(&DIVIDING_LIST).expect("a list").len(), 1);
+    compare_all(every_small_change(DIVIDING_LIST.to_vec()).map(Input::List));
+}
+
+/// Every room for the text of every condition, at indexes around them too.
+#[test]
+fn every_room_up_to_the_need_of_a_text() {
+    let list = leqwarti::plan(&EXAMPLE_A).expect("a plan").words().to_vec();
+    let longest = (0..4).filter_map(|index| text_need(&list, index)).max();
+    let longest = longest.expect("the text of a condition");
+    let outside = [i32::MIN, -1, 4, 5, i32::MAX].map(i64::from);
+    compare_all((0..4).chain(outside).flat_map(|index| {
+        let list = &list;
+        (0..longest + 3).map(move |room| Input::Text {
+            list: list.clone(),
+            index,
+            room,
+        })
+    }));
 }
 
 #[test]

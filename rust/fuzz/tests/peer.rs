@@ -7,8 +7,8 @@ use fuzz::lent::{same, Lent};
 use fuzz::{seed_from_environment, tell, Input, Prng};
 use leqwarti::entries;
 
-/// About 21 in 32 are tables, and 9 are lists.
-const CASES: u64 = 100_000;
+/// About 21 in 48 are tables, 9 are lists, and 16 are for the text of a condition.
+const CASES: u64 = 150_000;
 
 /// How often each number was given.
 type Tally = BTreeMap<usize, u64>;
@@ -60,18 +60,18 @@ fn compare_table(
     same("check", entries::check(table), verdict(peer::check(table)))?;
 
     let (mut list, mut scratch) = (Lent::new(list_len), Lent::new(scratch_len));
-    let expected = entries::generate(table, list.words(), scratch.words());
+    let expected = entries::generate(table, list.cells(), scratch.cells());
     *tables.entry(expected.number).or_default() += 1;
     let (mut peer_list, mut peer_scratch) = (Lent::new(list_len), Lent::new(scratch_len));
-    let found = peer::generate(table, peer_list.words(), peer_scratch.words());
+    let found = peer::generate(table, peer_list.cells(), peer_scratch.cells());
     same("generate", expected, answer(found))?;
-    peer_list.same("list", list.words())?;
-    peer_scratch.same("scratch", scratch.words())?;
+    peer_list.same("list", list.cells())?;
+    peer_scratch.same("scratch", scratch.cells())?;
 
     if expected.number != 0 {
         return Ok(());
     }
-    compare_list(&list.words()[..expected.words], lists)
+    compare_list(&list.cells()[..expected.words], lists)
 }
 
 fn compare_list(list: &[i32], lists: &mut Tally) -> Result<(), String> {
@@ -106,10 +106,20 @@ fn compare_steps(list: &[i32], place: &mut usize) -> Result<(), String> {
     }
 }
 
+fn compare_text(list: &[i32], index: i32, room: usize, texts: &mut Tally) -> Result<(), String> {
+    let (mut text, mut peer_text) = (Lent::new(room), Lent::new(room));
+    let expected = entries::smt(list, index, text.cells());
+    *texts.entry(expected.number).or_default() += 1;
+    let peer::Written { number, used } = peer::smt(list, index, peer_text.cells());
+    let name = format!("text at {index}");
+    same(&name, expected, entries::Written { number, used })?;
+    peer_text.same(&name, text.cells())
+}
+
 #[test]
 fn not_one_difference() {
     let seed = seed_from_environment();
-    let (mut tables, mut lists) = (Tally::new(), Tally::new());
+    let (mut tables, mut lists, mut texts) = (Tally::new(), Tally::new(), Tally::new());
     for case in 0..CASES {
         let input = Input::any(&mut Prng::for_case(seed, case));
         let result = match &input {
@@ -119,14 +129,21 @@ fn not_one_difference() {
                 scratch_len,
             } => compare_table(words, *list_len, *scratch_len, &mut tables, &mut lists),
             Input::List(list) => compare_list(list, &mut lists),
+            Input::Text { list, index, room } => {
+                let index = i32::try_from(*index).expect("an index of 32 bits");
+                compare_text(list, index, *room, &mut texts)
+            }
             Input::Bytes(_) => Ok(()),
         };
         if let Err(what) = result {
             panic!("seed {seed}, case {case}: {what}\n{}", input.text());
         }
     }
-    tell(format!("tables {tables:?}, lists {lists:?}"));
+    tell(format!(
+        "tables {tables:?}, lists {lists:?}, texts {texts:?}"
+    ));
     assert!(tables.values().sum::<u64>() >= 50_000);
     assert!(tables.keys().copied().eq(0..=12));
     assert!(lists.keys().copied().eq([0, 20, 21]));
+    assert!(texts.keys().copied().eq([0, 20, 21, 30]));
 }

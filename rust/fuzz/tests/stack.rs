@@ -11,8 +11,14 @@ use deep::{cases, tables_by_chance, Case, Input};
 use fuzz::tell;
 use leqwarti::{entries, Plan, Record, LARGEST_SCRATCH, LONGEST_LIST};
 
-/// What every entry must run on.
+/// What every entry must run on but the one that writes text.
 const STACK: usize = 512 << 10;
+
+/// What the text of a condition must be written on.
+const TEXT_STACK: usize = 8 << 20;
+
+/// The bytes for that text. The longest that does not double takes 131,052.
+const TEXT_ROOM: usize = 1 << 20;
 
 /// Names one run: the stack's bytes, the entry, the case.
 const RUN_VARIABLE: &str = "VCGEN_STACK_RUN";
@@ -52,7 +58,10 @@ const TABLE_ENTRIES: [Entry; 4] = [
     }),
 ];
 
-const LIST_ENTRIES: [Entry; 4] = [
+/// The entry that writes text.
+const TEXT_ENTRY: &str = "smt";
+
+const LIST_ENTRIES: [Entry; 5] = [
     ("line_at", |list, number| {
         assert_eq!(entries::line_at(list, 0).number, number);
     }),
@@ -71,7 +80,23 @@ const LIST_ENTRIES: [Entry; 4] = [
             write_out(&plan);
         }
     }),
+    (TEXT_ENTRY, |list, _| {
+        // The reference keeps a stack of its own.
+        let expected = reference::smt(list, 0, TEXT_ROOM);
+        let mut text = vec![b'?'; TEXT_ROOM];
+        let written = entries::smt(list, 0, &mut text);
+        assert_eq!(written.number, usize::from(expected.number));
+        assert_eq!(written.used, expected.used);
+        assert!(text == expected.buffer);
+    }),
 ];
+
+fn stack_of(entry: &Entry) -> usize {
+    match entry.0 {
+        TEXT_ENTRY => TEXT_STACK,
+        _ => STACK,
+    }
+}
 
 fn buffers() -> (Vec<i32>, Vec<i32>) {
     (vec![0; LONGEST_LIST], vec![0; LARGEST_SCRATCH])
@@ -126,7 +151,7 @@ fn the_cases_are_what_they_say() {
     }
 }
 
-/// Every entry, where one is named in the variable.
+/// Every entry that must run on the stack, where one is named in the variable.
 const ALL: &str = "all";
 
 /// Does nothing unless the variable names a run.
@@ -137,12 +162,16 @@ fn one_run() {
     };
     let mut names = run.splitn(3, ';');
     let mut name = || names.next().expect("three names");
-    let (stack, entry, case) = (name().parse().expect("a number"), name(), name());
+    let (stack, entry, case) = (name(), name(), name());
+    let stack: usize = stack.parse().expect("a number");
     let case = cases().into_iter().find(|found| found.name == case);
     let input = case.expect("a case").input;
     let entries = input.entries().iter();
     let entries: Vec<&Entry> = entries
-        .filter(|found| entry == ALL || found.0 == entry)
+        .filter(|found| match entry {
+            ALL => stack_of(found) == stack,
+            name => found.0 == name,
+        })
         .collect();
     let calls = input.calls();
     let work = move || {
@@ -174,16 +203,29 @@ fn runs(case: &Case, entry: &str, stack: usize) -> bool {
     status.success()
 }
 
+/// Those of the entries that need more than this stack, which is theirs.
+fn ended_on(case: &Case, stack: usize) -> Vec<&'static str> {
+    let entries = case.input.entries().iter();
+    let mut entries: Vec<&Entry> = entries.filter(|entry| stack_of(entry) == stack).collect();
+    if entries.is_empty() || runs(case, ALL, stack) {
+        return Vec::new();
+    }
+    entries.retain(|(name, _)| !runs(case, name, stack));
+    entries.iter().map(|(name, _)| *name).collect()
+}
+
 #[test]
-fn every_entry_runs_on_512_kibibytes() {
+fn every_entry_runs_on_its_stack() {
     let mut ended = Vec::new();
     for case in cases() {
-        if runs(&case, ALL, STACK) {
-            continue;
+        for stack in [STACK, TEXT_STACK] {
+            let entries = ended_on(&case, stack);
+            if !entries.is_empty() {
+                let kibibytes = stack >> 10;
+                let entries = entries.join(", ");
+                ended.push(format!("{} on {kibibytes} KiB: {entries}", case.name));
+            }
         }
-        let entries = case.input.entries().iter().map(|(name, _)| *name);
-        let entries: Vec<&str> = entries.filter(|entry| !runs(&case, entry, STACK)).collect();
-        ended.push(format!("{}: {}", case.name, entries.join(", ")));
     }
     assert!(
         ended.is_empty(),

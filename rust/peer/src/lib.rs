@@ -1,4 +1,5 @@
-//! A yardstick for the proved library: document 01 written by hand for speed.
+//! A yardstick for the proved library: document 01 and request P1 written by hand
+//! for speed.
 //!
 //! Nothing of it is proved. `fuzz/tests/peer.rs` compares it with the proved
 //! library word for word, and the benchmark times the library beside it; it has
@@ -7,9 +8,9 @@
 //! [`check`] reads the table once, and again only where a frozen name or a mark
 //! occurs. [`generate`] writes the list from front to back, keeps no formula,
 //! and copies what stands in the list already. The reader goes over the words
-//! of a line once. Nothing is taken from the heap, and working memory is cleared
-//! only as far as the table has rows; the module `stack` has the only `unsafe`
-//! code.
+//! of a line once. [`smt`] writes a part once and copies it where it stands
+//! again. Nothing is taken from the heap, and working memory is cleared only as
+//! far as the table has rows; the module `stack` has the only `unsafe` code.
 
 mod check;
 mod faults;
@@ -18,11 +19,13 @@ mod names;
 mod reader;
 mod spell;
 mod stack;
+mod text;
 mod weakest;
 
 pub use check::check;
 pub use generate::generate;
 pub use reader::{first_place, line_at, step};
+pub use text::smt;
 
 /// A row of the table: kind, first, second, third.
 type Row = [i32; 4];
@@ -55,4 +58,11 @@ pub struct Line {
     pub row: usize,
     pub start: usize,
     pub end: usize,
+}
+
+/// What the writer of a condition's text answers beside the text.
+#[derive(Clone, Copy, Debug, Default, PartialEq, Eq)]
+pub struct Written {
+    pub number: usize,
+    pub used: usize,
 }

@@ -3,7 +3,7 @@
 use std::io::Write;
 use std::process::{Command, Stdio};
 
-use fuzz::{Answer, Subject};
+use fuzz::{Answer, Subject, Written};
 use leqwarti::entries;
 use leqwarti::Record;
 use reference::{Line, Verdict};
@@ -72,6 +72,15 @@ impl Subject for Proved {
         (0..steps)
             .map(|_| line(entries::step(list, &mut place)))
             .collect()
+    }
+
+    fn smt(&mut self, list: &[i32], index: i64, text: &mut [u8]) -> Option<Written> {
+        let index = i32::try_from(index).expect("an index of 32 bits");
+        let found = entries::smt(list, index, text);
+        Some(Written {
+            number: found.number as u8,
+            used: found.used,
+        })
     }
 
     fn program_output(&mut self, bytes: &[u8]) -> Option<Vec<u8>> {

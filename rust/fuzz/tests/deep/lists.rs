@@ -56,10 +56,11 @@ const TORN_WORDS: [TornWords; 12] = [
 
 /// Formulas of at most so many words that nest as deep as words allow; padded
 /// with nots in front.
-fn whole_formulas() -> [(&'static str, Vec<i32>); 13] {
+fn whole_formulas() -> [(&'static str, Vec<i32>); 18] {
     let zeros = |count: usize| [1, 0].repeat(count);
     let (sums, twos) = ((WORDS - 5) / 3, (WORDS - 1) / 2);
     let (by_comparison, of_a_side) = ((WORDS - 5) / 8, (WORDS - 5) / 4);
+    let of_divs = (WORDS - 5) / 11;
     let formulas = [
         ("nots", [vec![22; WORDS - 1], vec![16]].concat()),
         ("ands leaning left", left(23, twos)),
@@ -76,6 +77,31 @@ fn whole_formulas() -> [(&'static str, Vec<i32>); 13] {
         (
             "pluses leaning right",
             [vec![20], [3, 1, 0].repeat(sums), zeros(2)].concat(),
+        ),
+        (
+            "divs of divs",
+            [vec![20], vec![6; sums], zeros(sums + 2)].concat(),
+        ),
+        (
+            "divs by divs",
+            [vec![20], [6, 1, 0].repeat(sums), zeros(2)].concat(),
+        ),
+        (
+            "mods of mods",
+            [vec![20], vec![7; sums], zeros(sums + 2)].concat(),
+        ),
+        (
+            "mods by mods",
+            [vec![20], [7, 1, 0].repeat(sums), zeros(2)].concat(),
+        ),
+        (
+            "divs of chooses by a comparison",
+            [
+                vec![20],
+                [10, 20, 6].repeat(of_divs),
+                zeros(4 * of_divs + 2),
+            ]
+            .concat(),
         ),
         (
             "chooses by a comparison",
