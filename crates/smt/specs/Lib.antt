@@ -16,5 +16,7 @@ pub mod TermBack
 pub mod ReadBack
 pub mod Verdicts
 pub mod Written
+pub mod Solved
 pub mod Pieces
 pub mod Examples
+pub mod Computed

@@ -13,12 +13,9 @@ use lib.Seq.{sets-eq}
 use borrow.Author.Tests.{lt-ltb, le-ltb}
 use Rattle.script.specs.declared.Line.{Line}
 use Rattle.script.specs.Syntax.{Formula}
-use Rattle.script.specs.Conditions.{Condition}
-use Rattle.script.specs.WellFormed.{In-rangeᶠ, All-in-range}
 use Rattle.script.specs.Listing.{Found, lines, read-list, no-line, line-of, line-at, part-at}
-use Rattle.theorems.specs.Options.{none-is-not, some-inj}
 use Rattle.theorems.specs.ReadBack.{written-read}
-use Rattle.theorems.specs.Lookup.{part-at-index}
+use Rattle.theorems.specs.Lookup.{part-at-index, condition-of, range-at}
 use Rattle.theorems.specs.Writing.{Wrote, wrote-whole, wrote-short}
 use Rattle.smt.specs.Translate.{script}
 use Rattle.smt.specs.Text.{script-text}
@@ -27,16 +24,6 @@ use Rattle.smt_writer.specs.Nodes.{Spells, Spelled}
 use Rattle.smt_writer.specs.declared.TextAnswer.{TextAnswer}
 
 -- ---- the condition at an index
-
-condition-of : (fs : List Found) (k : ℕ) {f : Found} → getElem? fs k ≡ some f → getElem? (map (λ (g : Found). g .condition) fs) k ≡ some (f .condition)
-condition-of [] k q = none-is-not q
-condition-of (g ∷ fs) zero q = ap (λ (h : Found). some (h .condition)) (some-inj q)
-condition-of (g ∷ fs) (suc k) q = condition-of fs k q
-
-range-at : (cs : List Condition) (k : ℕ) {c : Condition} → All-in-range cs → getElem? cs k ≡ some c → In-rangeᶠ (c .claim)
-range-at [] k h q = none-is-not q
-range-at (d ∷ cs) zero h q = rw (← some-inj q) (h .1)
-range-at (d ∷ cs) (suc k) h q = range-at cs k (h .2) q
 
 pub data Located (ws : List ℤ) (i : ℤ) : Type 0 where
   refused : (n : ℕ) → n ≢ 0 → line-at ws i ≡ no-line n → ((room : ℕ) → written ws i room ≡ refuse n room) → Located ws i

@@ -13,7 +13,7 @@ use lib.ListN.{length, take, drop, getElem?, replicate, length-append}
 use Rattle.script.specs.declared.Line.{Line}
 use Rattle.script.specs.Conditions.{Condition}
 use Rattle.script.specs.Words.{formula-words, trailer, line-words, all-lines, list-words}
-use Rattle.script.specs.WellFormed.{Well-formed}
+use Rattle.script.specs.WellFormed.{In-rangeᶠ, All-in-range, Well-formed}
 use Rattle.script.specs.Listing.{Found, line-before, lines-before, lines, read-list}
 use Rattle.script.specs.Listing.{no-line, line, line-of, line-at, part-at, malformed-place, first-place, step-back, next-place}
 use Rattle.theorems.specs.Options.{none-is-not, some-inj, went-on, stopped}
@@ -27,6 +27,17 @@ pub condition-at : (cs : List Condition) (i : ℕ) → i < length cs → (c : Co
 condition-at [] i h = absurd (omega linear)
 condition-at (c ∷ cs) zero h = (c, refl)
 condition-at (c ∷ cs) (suc i) h = condition-at cs i (omega linear)
+
+-- what was found at an index has the condition there, with its numbers in range
+pub condition-of : (fs : List Found) (k : ℕ) {f : Found} → getElem? fs k ≡ some f → getElem? (conditions-of fs) k ≡ some (f .condition)
+condition-of [] k q = none-is-not q
+condition-of (g ∷ fs) zero q = ap (λ (h : Found). some (h .condition)) (some-inj q)
+condition-of (g ∷ fs) (suc k) q = condition-of fs k q
+
+pub range-at : (cs : List Condition) (k : ℕ) {c : Condition} → All-in-range cs → getElem? cs k ≡ some c → In-rangeᶠ (c .claim)
+range-at [] k h q = none-is-not q
+range-at (d ∷ cs) zero h q = rw (← some-inj q) (h .1)
+range-at (d ∷ cs) (suc k) h q = range-at cs k (h .2) q
 
 place-at : (cs : List Condition) (s i : ℕ) (c : Condition) → getElem? cs i ≡ some c
     → getElem? (places s cs) i ≡ some (place (s + length (all-lines (take i cs))) c)

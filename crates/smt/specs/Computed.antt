@@ -1,0 +1,117 @@
+-- The figures of 02, P1, as rows of a single statement that the prover settles by computing the definitions: example A's four
+-- scripts; constants, operators, names; 20, 21 and 30 in their order. Then answers of a writer that these rule out. Assumes nothing.
+use Prim.Native.Nat.{ℕ}
+use Prim.Native.String.{String}
+use mathlib.Core.Path.{_≡_, refl, sym, ap, _∙_}
+use mathlib.Core.List.{List, [], _∷_, _++_, map}
+use native.Mathlib.Omega.{arith as linear}
+use lib.IntN.{ℤ, pos, negsuc}
+use lib.ListN.{length, replicate}
+use Rattle.script.specs.Computed.{_⨾_, example, example-a}
+use Rattle.script.specs.Rows.{row, row-of}
+use Rattle.script.specs.Trees.{expr, formula, stmt, expr-at, formula-at, stmt-at, tree}
+use Rattle.script.specs.Conditions.{conditions, walk, wp, subst-expr, subst-formula}
+use Rattle.script.specs.Words.{list-words, all-lines, line-words, expr-words, formula-words}
+use Rattle.script.specs.Listing.{read-expr, read-formula, spelled, found, line-before, lines-before, lines}
+use Rattle.text.specs.Ascii.{bytes}
+use Rattle.text.specs.Decimal.{digits, decimal}
+use Rattle.smt.specs.Translate.{term, claim, references, occurring, script}
+use Rattle.smt.specs.Text.{sexp-text, term-sexp, command-sexp, script-text}
+use Rattle.smt.specs.Written.{Written, refuse, written}
+
+-- a list, an index and a room
+abbrev Call : Type 0
+Call = List ℤ × ℤ × ℕ
+
+-- a text, with so many zeros behind it
+text : String → ℕ → Written
+text s zeros = record { number = 0; used = length (bytes s); buffer = bytes s ++ replicate zeros 0 }
+
+-- ---- lists
+
+-- the list of example A
+list-a : List ℤ
+list-a = list-words (conditions (tree example-a))
+
+-- a list of one condition: main, with row 0
+one : List ℤ → List ℤ
+one ws = ws ++ (pos 4 ∷ pos 0 ∷ pos (length ws) ∷ pos 1 ∷ [])
+
+-- (- 1) < (- 5), and -2147483648 <= 2147483647
+constants : List ℤ
+constants = one (pos 23 ∷ pos 18 ∷ pos 1 ∷ negsuc 0 ∷ pos 1 ∷ negsuc 4 ∷ pos 19 ∷ pos 1 ∷ negsuc 2147483647 ∷ pos 1 ∷ pos 2147483647 ∷ [])
+
+-- v7 div m3 is unequal to f128 mod v7
+divisions : List ℤ
+divisions = one (pos 21 ∷ pos 6 ∷ pos 2 ∷ pos 7 ∷ pos 9 ∷ pos 3 ∷ pos 7 ∷ pos 2 ∷ pos 128 ∷ pos 2 ∷ pos 7 ∷ [])
+
+-- not (true implies (choose false, then v127, else f255) = negate 5)
+choice : List ℤ
+choice = one (pos 22 ∷ pos 25 ∷ pos 16 ∷ pos 20 ∷ pos 10 ∷ pos 17 ∷ pos 2 ∷ pos 127 ∷ pos 2 ∷ pos 255 ∷ pos 8 ∷ pos 1 ∷ pos 5 ∷ [])
+
+-- ---- figures
+
+figures : List (Call × Written)
+figures =
+    ((list-a, pos 0, 120), text "(set-logic QF_NIA)\n(declare-const v0 Int)\n(assert (not (=> (and (<= 0 v0) (not (< 0 v0))) (= v0 0))))\n(check-sat)\n" 6)
+    ∷ ((list-a, pos 1, 109), text "(set-logic QF_NIA)\n(declare-const v0 Int)\n(assert (not (=> (and (<= 0 v0) (< 0 v0)) (<= 0 v0))))\n(check-sat)\n" 0)
+    ∷ ((list-a, pos 1, 108), refuse 30 108)
+    ∷ (
+      (list-a, pos 2, 180),
+      text
+          "(set-logic QF_NIA)\n(declare-const v0 Int)\n(declare-const m15 Int)\n(assert (not (=> (and (and (<= 0 v0) (< 0 v0)) (= v0 m15)) (and (<= 0 (- v0 1)) (< (- v0 1) m15)))))\n(check-sat)\n"
+          1,
+    )
+    ∷ ((list-a, pos 3, 95), text "(set-logic QF_NIA)\n(declare-const v0 Int)\n(assert (not (=> (<= 0 v0) (<= 0 v0))))\n(check-sat)\n" 1)
+    ∷ ((list-a, pos 3, 0), refuse 30 0)
+    ∷ ((list-a, pos 4, 500), refuse 21 500)
+    ∷ ((list-a, negsuc 0, 0), refuse 21 0)
+    ∷ ((pos 7 ∷ list-a, pos 4, 0), refuse 20 0)
+    ∷ ((constants, pos 0, 99), text "(set-logic QF_NIA)\n(assert (not (and (< (- 1) (- 5)) (<= (- 2147483648) 2147483647))))\n(check-sat)\n" 0)
+    ∷ (
+      (divisions, pos 0, 191),
+      text
+          "(set-logic QF_NIA)\n(declare-const v7 Int)\n(declare-const f128 Int)\n(declare-const m3 Int)\n(assert (not (distinct (ite (= m3 0) 0 (div v7 m3)) (ite (= v7 0) f128 (mod f128 v7)))))\n(check-sat)\n"
+          0,
+    )
+    ∷ (
+      (choice, pos 0, 144),
+      text
+          "(set-logic QF_NIA)\n(declare-const v127 Int)\n(declare-const f255 Int)\n(assert (not (not (=> true (= (ite false v127 f255) (- 5))))))\n(check-sat)\n"
+          0,
+    )
+    ∷ (([], negsuc 0, 3), refuse 20 3)
+    ∷ []
+
+figures-hold : map (λ (f : Call × Written). written (f .0 .0) (f .0 .1) (f .0 .2)) figures ≡ map (λ (f : Call × Written). f .1) figures
+unfolding figures list-a one constants divisions choice text example-a example _⨾_ row row-of expr formula stmt expr-at formula-at stmt-at tree conditions walk wp subst-expr subst-formula list-words all-lines line-words expr-words formula-words read-expr read-formula spelled found line-before lines-before lines decimal digits term claim references occurring script sexp-text term-sexp command-sexp script-text written
+figures-hold = refl
+
+-- ---- what a writer cannot do
+
+-- example A's first condition and its last, and one past it
+facts : (written list-a (pos 0) 114 .used ≡ 114) × (written list-a (pos 3) 114 .number ≡ 0) × (written list-a (pos 3) 114 .used ≡ 94)
+    × (written list-a (pos 4) 114 .number ≡ 21)
+unfolding list-a one example-a example _⨾_ row row-of expr formula stmt expr-at formula-at stmt-at tree conditions walk wp subst-expr subst-formula list-words all-lines line-words expr-words formula-words read-expr read-formula spelled found line-before lines-before lines decimal digits term claim references occurring script sexp-text term-sexp command-sexp script-text written
+facts = (refl, refl, refl, refl)
+
+-- a writer that always answers what is defined
+module _ (w : List ℤ → ℤ → ℕ → Written) (right : (ws : List ℤ) (i : ℤ) (room : ℕ) → w ws i room ≡ written ws i room) where
+  told : {A : Type 0} (f : Written → A) (i : ℤ) → f (w list-a i 114) ≡ f (written list-a i 114)
+  told f i = ap f (right list-a i 114)
+
+  refuses-all : ((ws : List ℤ) (i : ℤ) (room : ℕ) → ¬ (w ws i room .number ≡ 0)) → ⊥
+  refuses-all h = h list-a (pos 3) 114 (told (λ a. a .number) (pos 3) ∙ facts .1)
+
+  accepts-all : ((ws : List ℤ) (i : ℤ) (room : ℕ) → w ws i room .number ≡ 0) → ⊥
+  accepts-all h = let e = sym (h list-a (pos 4) 114) ∙ told (λ a. a .number) (pos 4) ∙ facts .3 in omega linear
+
+  -- in particular one that writes the first condition at every index
+  one-text-for-all : ((ws : List ℤ) (i j : ℤ) (room : ℕ) → w ws i room ≡ w ws j room) → ⊥
+  one-text-for-all h =
+      let e = sym (told (λ a. a .used) (pos 0)) ∙ ap (λ (a : Written). a .used) (h list-a (pos 0) (pos 3) 114) ∙ told (λ a. a .used) (pos 3) in
+      let f = sym (facts .0) ∙ e ∙ facts .2 in
+      omega linear
+
+  writes-nothing : ((ws : List ℤ) (i : ℤ) (room : ℕ) → w ws i room .used ≡ 0) → ⊥
+  writes-nothing h = let e = sym (h list-a (pos 3) 114) ∙ told (λ a. a .used) (pos 3) ∙ facts .2 in omega linear
