@@ -5,7 +5,7 @@ use mathlib.Core.Path.{_≡_, refl, sym, _∙_, subst}
 use mathlib.Core.Logic.{_⊎_, inl, inr}
 use mathlib.Core.Option.{some}
 use mathlib.Core.List.{List, [], _∷_}
-use mathlib.Core.Bool.{Bool, true, false, cond, not, _||_}
+use mathlib.Core.Bool.{Bool, true, false, cond, not, _||_, _&&_}
 use native.Mathlib.Omega.{arith as linear}
 use borrow.Author.Tests.{ne-eqb}
 use lib.Dec.{T, eqb}
@@ -15,7 +15,7 @@ use Rattle.text.specs.Decimal.{decimal, number, number-decimal, digit, all, dec
 use Rattle.smt.specs.Sexp.{Sexp, atom}
 use Rattle.smt.specs.Reader.{Sorted, int, read-term}
 use Rattle.smt.specs.Spaced.{is-word, Wordy}
-use Rattle.smt.specs.Lexicon.{among, reserved, empty, symbol-byte, is-numeral, is-symbol, is-name}
+use Rattle.smt.specs.Lexicon.{among, reserved, solvers-own, empty, symbol-byte, is-numeral, is-symbol, is-name}
 
 -- ---- tests that hold
 
@@ -37,7 +37,7 @@ symbol-word [] h = h
 symbol-word (c ∷ cs) h = both (not (digit c)) (all symbol-byte (c ∷ cs)) h .1
 
 pub name-symbol : (w : List ℕ) → T (is-name w) → T (is-symbol w)
-name-symbol w h = both (is-symbol w) (not (among w reserved)) h .0
+name-symbol w h = both (is-symbol w) (not (solvers-own w) && not (among w reserved)) h .0
 
 -- s is the text of x: its atoms are words, and it is read as x
 abbrev pub Back : Sexp → Sorted → Type 0

@@ -49,6 +49,10 @@ divisions = one (pos 21 ∷ pos 6 ∷ pos 2 ∷ pos 7 ∷ pos 9 ∷ pos 3 ∷ po
 choice : List ℤ
 choice = one (pos 22 ∷ pos 25 ∷ pos 16 ∷ pos 20 ∷ pos 10 ∷ pos 17 ∷ pos 2 ∷ pos 127 ∷ pos 2 ∷ pos 255 ∷ pos 8 ∷ pos 1 ∷ pos 5 ∷ [])
 
+-- (v0 + v0) < (v0 * m2047), or false
+sums : List ℤ
+sums = one (pos 24 ∷ pos 18 ∷ pos 3 ∷ pos 2 ∷ pos 0 ∷ pos 2 ∷ pos 0 ∷ pos 5 ∷ pos 2 ∷ pos 0 ∷ pos 9 ∷ pos 2047 ∷ pos 17 ∷ [])
+
 -- ---- figures
 
 figures : List (Call × Written)
@@ -80,11 +84,15 @@ figures =
           "(set-logic QF_NIA)\n(declare-const v127 Int)\n(declare-const f255 Int)\n(assert (not (not (=> true (= (ite false v127 f255) (- 5))))))\n(check-sat)\n"
           0,
     )
+    ∷ ((sums, pos 0, 133), text
+    "(set-logic QF_NIA)\n(declare-const v0 Int)\n(declare-const m2047 Int)\n(assert (not (or (< (+ v0 v0) (* v0 m2047)) false)))\n(check-sat)\n" 0)
+    ∷ ((sums, pos 2147483647, 1), refuse 21 1)
+    ∷ ((sums, negsuc 2147483647, 1), refuse 21 1)
     ∷ (([], negsuc 0, 3), refuse 20 3)
     ∷ []
 
 figures-hold : map (λ (f : Call × Written). written (f .0 .0) (f .0 .1) (f .0 .2)) figures ≡ map (λ (f : Call × Written). f .1) figures
-unfolding figures list-a one constants divisions choice text example-a example _⨾_ row row-of expr formula stmt expr-at formula-at stmt-at tree conditions walk wp subst-expr subst-formula list-words all-lines line-words expr-words formula-words read-expr read-formula spelled found line-before lines-before lines decimal digits term claim references occurring script sexp-text term-sexp command-sexp script-text written
+unfolding figures list-a one constants divisions choice sums text example-a example _⨾_ row row-of expr formula stmt expr-at formula-at stmt-at tree conditions walk wp subst-expr subst-formula list-words all-lines line-words expr-words formula-words read-expr read-formula spelled found line-before lines-before lines decimal digits term claim references occurring script sexp-text term-sexp command-sexp script-text written
 figures-hold = refl
 
 -- ---- what a writer cannot do

@@ -2,12 +2,14 @@
 use mathlib.Core.Path.{_≡_, refl}
 use mathlib.Core.Option.{some, none}
 use mathlib.Core.Bool.{true}
+use mathlib.Core.List.{[], _∷_}
 use lib.IntN.{pos, negsuc}
 use Rattle.script.specs.declared.Operator.the-variants.{Div, Mod}
 use Rattle.script.specs.declared.Relation.the-variants.{Less, Unequal}
 use Rattle.script.specs.declared.Connective.the-variants.{Implies}
 use Rattle.script.specs.Syntax.{const, var, mark, arith, neg, Formula, truth, cmp, not, join}
 use Rattle.text.specs.Ascii.{bytes}
+use Rattle.smt.specs.Smt.{set-logic, declare-const, check-sat}
 use Rattle.text.specs.Decimal.{digits, decimal}
 use Rattle.smt.specs.Translate.{term, claim, references, occurring, script}
 use Rattle.smt.specs.Text.{sexp-text, term-sexp, command-sexp, script-text}
@@ -43,6 +45,12 @@ spaced-text : read-script (bytes
 unfolding script references occurring term claim decimal digits tokens parse sexps read-term read-assertion read-commands read-script
 spaced-text = refl
 
+-- another order of declarations
+reordered-text : read-script (bytes "(declare-const m3 Int)\n(declare-const f128 Int)\n(set-logic QF_NIA)\n(check-sat)\n")
+    ≡ some (declare-const (bytes "m3") ∷ declare-const (bytes "f128") ∷ set-logic (bytes "QF_NIA") ∷ check-sat ∷ [])
+unfolding tokens parse sexps read-commands read-script
+reordered-text = refl
+
 -- what is not a script of this kind
 torn-text : read-script (bytes "(check-sat") ≡ none
 unfolding tokens parse sexps read-commands read-script
@@ -55,6 +63,14 @@ leading-zero = refl
 reserved-name : read-script (bytes "(declare-const mod Int)") ≡ none
 unfolding tokens parse sexps read-term read-assertion read-commands read-script
 reserved-name = refl
+
+reserved-logic : read-script (bytes "(set-logic let)") ≡ none
+unfolding tokens parse sexps read-term read-assertion read-commands read-script
+reserved-logic = refl
+
+solvers-name : read-script (bytes "(declare-const @v0 Int)") ≡ none
+unfolding tokens parse sexps read-term read-assertion read-commands read-script
+solvers-name = refl
 
 quoted-name : read-script (bytes "(declare-const |v0| Int)") ≡ none
 unfolding tokens parse sexps read-term read-assertion read-commands read-script

@@ -55,6 +55,11 @@ reserved =
     ∷ bytes "distinct" ∷ bytes "ite" ∷ bytes "-" ∷ bytes "+" ∷ bytes "*" ∷ bytes "div" ∷ bytes "mod" ∷ bytes "abs"
     ∷ bytes "<=" ∷ bytes "<" ∷ bytes ">=" ∷ bytes ">" ∷ []
 
+-- symbols that begin with . or @ are the solver's
+abbrev pub solvers-own : List ℕ → Bool
+solvers-own [] = false
+solvers-own (c ∷ cs) = member c (bytes ".@")
+
 -- a symbol that a script may declare
 abbrev pub is-name : List ℕ → Bool
-is-name w = is-symbol w && not (among w reserved)
+is-name w = is-symbol w && (not (solvers-own w) && not (among w reserved))

@@ -16,7 +16,8 @@ pub mod TermBack
 pub mod ReadBack
 pub mod Verdicts
 pub mod Written
-pub mod Solved
+pub mod Refutations
 pub mod Pieces
 pub mod Examples
 pub mod Computed
+pub mod Witness

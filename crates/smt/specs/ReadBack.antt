@@ -22,7 +22,7 @@ use Rattle.smt.specs.Reader.{as-bool, read-command, read-commands, read-
 use Rattle.smt.specs.Text.{sexp-text, command-sexp, script-text}
 use Rattle.smt.specs.Spaced.{Wordy, All-wordy, lines-text, sexps-back}
 use Rattle.smt.specs.Once.{in-map, map-in}
-use Rattle.smt.specs.Lexicon.{symbol-byte, is-symbol, is-name}
+use Rattle.smt.specs.Lexicon.{symbol-byte, is-name}
 use Rattle.smt.specs.Atoms.{true-is, all-more, digit-in-symbol, symbol-word, name-symbol}
 use Rattle.smt.specs.TermBack.{All-names, claim-back}
 
@@ -30,7 +30,7 @@ use Rattle.smt.specs.TermBack.{All-names, claim-back}
 
 -- the symbols of a command are such that it may have them
 abbrev pub Proper-command : Command → Type 0
-Proper-command (set-logic l) = T (is-symbol l)
+Proper-command (set-logic l) = T (is-name l)
 Proper-command (declare-const c) = T (is-name c)
 Proper-command (assert f) = All-names (claim-symbols f)
 Proper-command check-sat = Unit {0}
@@ -41,14 +41,14 @@ Proper (c ∷ cs) = Proper-command c × Proper cs
 
 command-wordy : (c : Command) → Proper-command c → Wordy (command-sexp c)
 unfolding command-sexp
-command-wordy (set-logic l) h = (tt, (symbol-word l h, tt))
+command-wordy (set-logic l) h = (tt, (symbol-word l (name-symbol l h), tt))
 command-wordy (declare-const c) h = (tt, (symbol-word c (name-symbol c h), (tt, tt)))
 command-wordy (assert f) h = (tt, (claim-back f h .0, tt))
 command-wordy check-sat h = (tt, tt)
 
 command-back : (c : Command) → Proper-command c → read-command (command-sexp c) ≡ some c
 unfolding command-sexp read-assertion
-command-back (set-logic l) h = ap (λ b. guarded b (some (set-logic l))) (true-is (is-symbol l) h)
+command-back (set-logic l) h = ap (λ b. guarded b (some (set-logic l))) (true-is (is-name l) h)
 command-back (declare-const c) h = ap (λ b. guarded (b && true) (some (declare-const c))) (true-is (is-name c) h)
 command-back (assert f) h = ap (λ o. o >>= λ t. as-bool t >>= λ g. some (assert g)) (claim-back f h .1)
 command-back check-sat h = refl

@@ -1,5 +1,7 @@
 -- Scripts read from text: S-expressions first (`Sexp`), then terms, commands, scripts, by the lexicon of the standard
--- (`Lexicon`). Operators take the number of arguments that they have in `Smt`. Assumes nothing.
+-- (`Lexicon`). Syntax and sorts only: what is declared is `Declared`'s, the place of set-logic `Translate.script`'s. A part of
+-- the language: numerals, names of the sort Int, the operators of `Smt` with as many arguments as they have there, and the four
+-- commands; no comment, quoted symbol, string, let, quantifier or other sort. Assumes nothing.
 use Prim.Native.Nat.{ℕ}
 use mathlib.Core.Option.{Option, none, some}
 use mathlib.Core.List.{List, [], _∷_}
@@ -10,7 +12,7 @@ use Rattle.smt.specs.Smt as Smt
 use Rattle.smt.specs.Smt.{Term, Claim, Command, set-logic, declare-const, assert, check-sat, Script}
 use Rattle.text.specs.Decimal.{number}
 use Rattle.smt.specs.Sexp.{Sexp, atom, form, Sexps, end, then, sexps}
-use Rattle.smt.specs.Lexicon.{same, is-numeral, is-symbol, is-name}
+use Rattle.smt.specs.Lexicon.{same, is-numeral, is-name}
 
 -- ---- terms
 
@@ -155,7 +157,7 @@ abbrev pub read-logic : List Sexp → Option Command
 read-logic ss = do
   s ← one ss
   w ← as-atom s
-  guarded (is-symbol w) (some (set-logic w))
+  guarded (is-name w) (some (set-logic w))
 
 abbrev pub read-declaration : List Sexp → Option Command
 read-declaration ss = do

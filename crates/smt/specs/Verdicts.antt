@@ -62,7 +62,7 @@ unsatisfiable-correct table list scratch = demand-solved table _ _ (demand-3 tab
 
 -- ---- verdicts on texts
 
--- what is read from the text is a script without a model
+-- whatever is read from the text has no model
 abbrev pub Unsatisfiable-text : List ℕ → Type 0
 Unsatisfiable-text t = (cs : Script) → read-script t ≡ some cs → ¬ Satisfiable cs
 

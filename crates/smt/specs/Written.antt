@@ -3,9 +3,9 @@
 -- the condition at the index (`written-read`); and the buffer keeps its length (`written-length`). Assumes nothing.
 use Prim.Native.Nat.{ℕ, _-_}
 use mathlib.Core.Path.{_≡_, refl}
-use mathlib.Core.Logic.{_≢_}
+use mathlib.Core.Logic.{_≢_, _↔_}
 use mathlib.Core.Option.{Option, none, some}
-use mathlib.Core.List.{List, _++_}
+use mathlib.Core.List.{List, _++_, List·Memᴰ}
 use mathlib.Core.Bool.{Bool, true, false, cond}
 use native.Mathlib.Omega.{arith as linear}
 use lib.IntN.{ℤ, pos, negsuc}
@@ -13,8 +13,15 @@ use lib.Dec.{ltb}
 use lib.ListN.{length, replicate, getElem?, take, length-append, length-replicate}
 use borrow.Author.Tests.{ltb-false}
 use lib.Seq.{take-append-seam}
-use Rattle.script.specs.Listing.{Found, lines}
-use Rattle.smt.specs.Translate.{script}
+use Rattle.script.specs.Listing.{Found, lines, read-list}
+use Rattle.script.specs.WellFormed.{In-rangeᶠ}
+use Rattle.theorems.specs.Options.{none-is-not}
+use Rattle.theorems.specs.ReadBack.{conditions-of, written-read as well-formed}
+use Rattle.theorems.specs.Lookup.{condition-of, range-at}
+use Rattle.smt.specs.Smt.{Symbol, declared, claim-symbols}
+use Rattle.smt.specs.Declared.{declared-iff, declared-once}
+use Rattle.smt.specs.Once.{Once}
+use Rattle.smt.specs.Translate.{assertion, script}
 use Rattle.smt.specs.Reader.{read-script}
 use Rattle.smt.specs.Text.{script-text}
 use Rattle.smt.specs.ReadBack.{script-read}
@@ -84,7 +91,14 @@ pub record Text-of (ws : List ℤ) (i : ℤ) (w : Written) : Type 0 where
   pub listed : lines ws ≡ some all
   pub found : Found
   pub at : found-at all i ≡ some found
+  pub range : In-rangeᶠ (found .condition .claim)
   pub read : read-script (take (w .used) (w .buffer)) ≡ some (script (found .condition .claim))
+
+range-found : (ws : List ℤ) (fs : List Found) (i : ℤ) → lines ws ≡ some fs → (f : Found) → found-at fs i ≡ some f → In-rangeᶠ (f .condition .claim)
+unfolding read-list
+range-found ws fs (pos k) p f q =
+    range-at (conditions-of fs) k (well-formed ws (conditions-of fs) (rw (p, read-list)) .ranges) (condition-of fs k q)
+range-found ws fs (negsuc k) p f q = none-is-not q
 
 pub written-read : (ws : List ℤ) (i : ℤ) (room : ℕ) → written ws i room .number ≡ 0 → Text-of ws i (written ws i room)
 unfolding written
@@ -103,6 +117,7 @@ written-read ws i room e = of-lines (lines ws) refl e
       listed = p;
       found = f;
       at = q;
+      range = range-found ws fs i p f q;
       read = rw take-append-seam (script-read (f .condition .claim));
     }
 
@@ -114,3 +129,11 @@ written-read ws i room e = of-lines (lines ws) refl e
     of-lines : (o : Option (List Found)) → lines ws ≡ o → fit-lines o i room .number ≡ 0 → Text-of ws i (fit-lines o i room)
     of-lines none p e = refused 20 (λ z. omega linear) e
     of-lines (some fs) p e = of-found fs p (found-at fs i) refl e
+
+-- a text that was written declares exactly the names in its assertion, each once
+pub written-declares : (ws : List ℤ) (i : ℤ) (room : ℕ) (e : written ws i room .number ≡ 0)
+    → let f = written-read ws i room e .found .condition .claim in
+    ((w : Symbol) → List·Memᴰ w (claim-symbols (assertion f)) ↔ List·Memᴰ w (declared (script f))) × Once (declared (script f))
+written-declares ws i room e =
+    let t = written-read ws i room e in
+    (declared-iff (t .found .condition .claim) (t .range), declared-once (t .found .condition .claim))

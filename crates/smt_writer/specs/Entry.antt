@@ -4,7 +4,7 @@ use Prim.Native.Nat.{ℕ, zero, suc, _+_, _-_, _≤_, _<_}
 use mathlib.Core.Path.{_≡_, refl, sym, ap, _∙_}
 use mathlib.Core.Logic.{_≢_}
 use mathlib.Core.Option.{Option, none, some}
-use mathlib.Core.List.{List, [], _∷_, _++_, map}
+use mathlib.Core.List.{List, _++_}
 use native.Mathlib.Nat.{sub-zero, zero-sub, suc-sub-suc}
 use native.Mathlib.Omega.{arith as linear}
 use lib.IntN.{ℤ, pos, negsuc}
@@ -14,7 +14,7 @@ use borrow.Author.Tests.{lt-ltb, le-ltb}
 use Rattle.script.specs.declared.Line.{Line}
 use Rattle.script.specs.Syntax.{Formula}
 use Rattle.script.specs.Listing.{Found, lines, read-list, no-line, line-of, line-at, part-at}
-use Rattle.theorems.specs.ReadBack.{written-read}
+use Rattle.theorems.specs.ReadBack.{conditions-of, written-read}
 use Rattle.theorems.specs.Lookup.{part-at-index, condition-of, range-at}
 use Rattle.theorems.specs.Writing.{Wrote, wrote-whole, wrote-short}
 use Rattle.smt.specs.Translate.{script}
@@ -34,7 +34,7 @@ module _ (ws : List ℤ) where
   spelled : (fs : List Found) → lines ws ≡ some fs → (k : ℕ) (f : Found) → getElem? fs k ≡ some f → Spells (part-at ws (pos k)) (f .condition .claim)
   unfolding read-list
   spelled fs p k f q =
-      let cs = map (λ (g : Found). g .condition) fs in
+      let cs = conditions-of fs in
       let w = written-read ws cs (rw (p, read-list)) in
       record {
         words = sym (part-at-index ws cs w k (f .condition) (condition-of fs k q));

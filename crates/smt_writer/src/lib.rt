@@ -1,5 +1,6 @@
 // A condition of a list as an SMT-LIB 2 script, 02, P1. Nothing is kept of the text but what is written, up to the first byte
-// that has no room: then the writers return at once, so the cost goes by the bytes written.
+// that has no room: then the writers return at once. A dividend is passed over at each division that it stands in, so the cost
+// goes by the bytes written times the depth of divisions at most.
 
 mod names;
 mod terms;

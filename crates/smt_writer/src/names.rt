@@ -25,6 +25,7 @@ const VARIABLES: usize = 256;
 // How many names: variables and marks.
 const NAMES: usize = 2304;
 
+// Frozen names are those from 128 to 255.
 fn letter_of(v: VariableNumber) -> u8
     ensures { λ r. ⌜ r ≡ letter (variable (v .0)) ⌝ }
 {

@@ -1,6 +1,7 @@
 -- Natural numbers as decimal text, of any size, and the number that digits spell. Then the laws: the text of a number is that
--- of its tenth and its last digit (`decimal-low`, `decimal-high`); it spells the number (`number-decimal`), so two numbers never have the same text (`decimal-tells`); its bytes are digits (`decimal-digits`),
--- and the first is no 0 unless it stands alone (`decimal-starts`). By induction on the bound of the digits, which the number
+-- of its tenth and its last digit (`decimal-low`, `decimal-high`); it spells the number (`number-decimal`), so two numbers never
+-- have the same text (`decimal-tells`); its bytes are digits (`decimal-digits`), and the first is no 0 unless it stands alone
+-- (`decimal-starts`); how many there are at most (`decimal-short`). By induction on the bound of the digits, which the number
 -- itself is large enough for. Assumes nothing.
 use Prim.Native.Nat.{ℕ, zero, suc, _+_, _*_, _-_, _/_, _%_, _^_, _≤_, _<_}
 use mathlib.Core.Path.{_≡_, refl, sym, ap, _∙_}
@@ -100,7 +101,7 @@ decimal-tells m n e = sym (number-decimal m) ∙ ap number e ∙ number-decimal 
 
 -- ---- its length, and its bytes
 
--- a number below 10 ^ k has at most k digits
+-- a number below 10 ^ (k + 1) has at most k + 1 digits
 pub decimal-short : (k n : ℕ) → n < 10 ^ suc k → length (decimal n) ≤ suc k
 decimal-short k n = by-digits (λ n ds. (k : ℕ) → n < 10 ^ suc k → length ds ≤ suc k) (λ n h k l. omega arith) one-more n k
   where

@@ -48,7 +48,7 @@ pub fn push_repeated(text: &mut [u8], at: usize, byte: u8, count: usize) -> usiz
     p
 }
 
-// Writes bytes. Where they have no room, none is written.
+// Writes bytes, all of them or none.
 pub fn push_text(text: &mut [u8], at: usize, bytes: &[u8]) -> usize
     ensures { λ p. ⌜ Wrote (now (text .entry)) at (now (bytes .entry)) p (now (text .exit)) ⌝ }
 {

@@ -3,7 +3,7 @@
 use crate::run;
 use crate::text;
 
-fn rows() -> [i32; 124] {
+pub fn rows() -> [i32; 124] {
     let mut table = [0; 124];
     text::numbers(
         b"1 0 0 0, 2 0 0 0, 19 0 1 0, 1 0 0 0, 2 0 0 0, 18 3 4 0, 1 0 0 0, 2 0 0 0, 19 6 7 0, 2 0 0 0, 37 8 9 0, 2 0 0 0, 1 1 0 0,

@@ -1,4 +1,5 @@
 // Runs the trial rows of document 01 and writes a line for each: its name, and what the generator answers, or div and mod.
+// Then the scripts of example A's conditions (02, P1).
 
 mod text; // numbers as the document prints them
 mod run; // one trial
@@ -6,6 +7,7 @@ mod example; // example A, by room and scratch, and with a row edited
 mod small; // the script of four rows, and tables by their number of words
 mod nesting; // branches in one another
 mod divisions; // div and mod
+mod scripts; // conditions as scripts
 
 fn main() {
     example::rooms();
@@ -16,4 +18,5 @@ fn main() {
     nesting::eight();
     nesting::nine();
     divisions::all();
+    scripts::all();
 }

@@ -3,7 +3,7 @@
 use crate::text;
 use script::Answer;
 
-fn say_number(n: usize) {
+pub fn say_number(n: usize) {
     io::write_all(1, b" ");
     io::print_decimal(1, n as u64);
 }

@@ -1,6 +1,7 @@
 -- From a solver's verdicts on what the writer left to runs (`verdicts-to-runs`): if a table is planned, and for every index
--- below the count a text was written in which a solver found no model, then every run from a start that meets the precondition
--- fails no assertion, ends, meets the postcondition, and begins loops' bodies no more often than their variants say.
+-- below the count a text was written whose script has no model (what a solver's `unsat` says, if it is right), then every run
+-- from a start that meets the precondition fails no assertion, ends, meets the postcondition, and begins loops' bodies no more
+-- often than their variants say.
 -- Assumes nothing.
 use Prim.Native.Nat.{ℕ, zero, suc, _≤_, _<_}
 use mathlib.Core.Path.{_≡_, refl, sym, ap, _∙_}
@@ -30,11 +31,11 @@ use Rattle.smt.specs.Translate.{script}
 use Rattle.smt.specs.Written.{written, written-read}
 use Rattle.smt.specs.Verdicts.{All-unsatisfiable, Solved, Unsatisfiable-text, unsatisfiable-correct}
 
--- for the index i, in some room, a text was written, and what is read from it has no model
+-- for the index i, in some room, a text was written, and its script has no model
 pub record Refuted (ws : List ℤ) (i : ℕ) : Type 0 where
-  pub bytes : ℕ
-  pub planned : written ws (pos i) bytes .number ≡ 0
-  pub no-model : Unsatisfiable-text (take (written ws (pos i) bytes .used) (written ws (pos i) bytes .buffer))
+  pub room : ℕ
+  pub fits : written ws (pos i) room .number ≡ 0
+  pub no-model : Unsatisfiable-text (take (written ws (pos i) room .used) (written ws (pos i) room .buffer))
 
 -- ---- so the condition there has no model of its negation
 
@@ -42,7 +43,7 @@ refuted-at : (ws : List ℤ) (cs : List Condition) → read-list ws ≡ some cs 
     → ¬ Satisfiable (script (c .claim))
 unfolding read-list
 refuted-at ws cs r i c q v =
-    let t = written-read ws (pos i) (v .bytes) (v .planned) in
+    let t = written-read ws (pos i) (v .room) (v .fits) in
     let same : conditions-of (t .all) ≡ cs = some-inj (rw (t .listed, read-list) at r) in
     let there : c ≡ t .found .condition =
     some-inj (sym q ∙ ap (λ (l : List Condition). getElem? l i) (sym same) ∙ condition-of (t .all) i (t .at)) in
