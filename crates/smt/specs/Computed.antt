@@ -84,8 +84,11 @@ figures =
           "(set-logic QF_NIA)\n(declare-const v127 Int)\n(declare-const f255 Int)\n(assert (not (not (=> true (= (ite false v127 f255) (- 5))))))\n(check-sat)\n"
           0,
     )
-    ∷ ((sums, pos 0, 133), text
-    "(set-logic QF_NIA)\n(declare-const v0 Int)\n(declare-const m2047 Int)\n(assert (not (or (< (+ v0 v0) (* v0 m2047)) false)))\n(check-sat)\n" 0)
+    ∷ (
+      (sums, pos 0, 133),
+      text
+          "(set-logic QF_NIA)\n(declare-const v0 Int)\n(declare-const m2047 Int)\n(assert (not (or (< (+ v0 v0) (* v0 m2047)) false)))\n(check-sat)\n" 0,
+    )
     ∷ ((sums, pos 2147483647, 1), refuse 21 1)
     ∷ ((sums, negsuc 2147483647, 1), refuse 21 1)
     ∷ (([], negsuc 0, 3), refuse 20 3)

@@ -31,7 +31,7 @@ impl Stopwatch {
         println!("|---|--:|--:|--:|--:|--:|--:|");
     }
 
-    pub fn print_times(&self, case: &str, contestants: Contestants) {
+    fn print_row(&self, label: &str, contestants: Contestants, shown: impl Fn(f64) -> String) {
         let Contestants {
             proved,
             peer,
@@ -41,12 +41,16 @@ impl Stopwatch {
         let [proved, peer, second, floor] = self.medians([proved, peer, second, floor]);
         let (by_peer, by_second) = (proved / peer, proved / second);
         println!(
-            "| {case:<48} | {} | {} | {by_peer:>5.2} | {} | {} | {by_second:>5.2} |",
-            microseconds(proved),
-            microseconds(peer),
-            microseconds(floor),
-            microseconds(second),
+            "| {label} | {} | {} | {by_peer:>5.2} | {} | {} | {by_second:>5.2} |",
+            shown(proved),
+            shown(peer),
+            shown(floor),
+            shown(second),
         );
+    }
+
+    pub fn print_times(&self, case: &str, contestants: Contestants) {
+        self.print_row(&format!("{case:<48}"), contestants, microseconds);
     }
 
     pub fn print_head_of_rates(&self) {
@@ -61,21 +65,10 @@ impl Stopwatch {
 
     /// A row for contestants that each write so many bytes.
     pub fn print_rates(&self, case: &str, bytes: usize, contestants: Contestants) {
-        let Contestants {
-            proved,
-            peer,
-            second,
-            floor,
-        } = contestants;
-        let [proved, peer, second, floor] = self.medians([proved, peer, second, floor]);
-        let (by_peer, by_second) = (proved / peer, proved / second);
-        println!(
-            "| {case:<48} | {bytes:>7} | {} | {} | {by_peer:>5.2} | {} | {} | {by_second:>5.2} |",
-            megabytes_per_second(bytes, proved),
-            megabytes_per_second(bytes, peer),
-            megabytes_per_second(bytes, floor),
-            megabytes_per_second(bytes, second),
-        );
+        let label = format!("{case:<48} | {bytes:>7}");
+        self.print_row(&label, contestants, |time| {
+            megabytes_per_second(bytes, time)
+        });
     }
 
     /// The time of one call of each.

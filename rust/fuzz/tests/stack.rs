@@ -15,7 +15,7 @@ use leqwarti::{entries, Plan, Record, LARGEST_SCRATCH, LONGEST_LIST};
 const STACK: usize = 512 << 10;
 
 /// What the text of a condition must be written on.
-const TEXT_STACK: usize = 8 << 20;
+const TEXT_STACK: usize = 2560 << 10;
 
 /// The bytes for that text. The longest that does not double takes 131,052.
 const TEXT_ROOM: usize = 1 << 20;

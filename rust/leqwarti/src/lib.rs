@@ -45,8 +45,9 @@
 //!
 //! The check, the generator, the list reader and the writer of solvers' scripts
 //! are functions of a static library whose contracts are proved; this crate
-//! adds types, and the text of formulas and refusals, which are not. A stack of 512 KiB is enough for the
-//! deepest scripts and lists (a thread of Rust's has 2 MiB by default).
+//! adds types, and the text of formulas and refusals, which are not. A stack of
+//! 512 KiB is enough for the deepest scripts and lists (a thread of Rust's has
+//! 2 MiB by default); [`smt`] takes a stack of its own where it needs more.
 
 mod condition;
 pub mod entries;

@@ -1,5 +1,7 @@
 //! Conditions for solvers.
 
+use std::thread;
+
 use crate::entries::{self, Written};
 use crate::{Reason, Refusal};
 
@@ -11,11 +13,21 @@ pub const LONGEST_TEXT: usize = 64 << 20;
 /// The bytes that a text is first tried with.
 const USUAL_TEXT: usize = 4 << 10;
 
+/// The writer calls itself once for every two words at most, and a call takes
+/// 288 bytes: on a list of so many words that is less than 600 KiB.
+const SHORT_LIST: usize = 4096;
+
+/// The stack for longer lists. The deepest takes 2,320 KiB.
+const STACK: usize = 4 << 20;
+
 /// The condition at an index of a finished list, from the front, as an
 /// SMT-LIB 2 script that asserts its opposite: where a solver answers `unsat`,
 /// the condition is true in every state. Refused with
 /// [`TextTooLong`](Reason::TextTooLong) where the text is longer than
 /// [`LONGEST_TEXT`].
+///
+/// A list of more than 4,096 words is written by a thread with a stack of its
+/// own, since a deep formula takes more than a thread of Rust's has by default.
 ///
 /// ```
 /// use leqwarti::Reason;
@@ -34,6 +46,20 @@ const USUAL_TEXT: usize = 4 << 10;
 /// # Ok::<(), leqwarti::Refusal>(())
 /// ```
 pub fn smt(words: &[i32], index: i32) -> Result<String, Refusal> {
+    if words.len() <= SHORT_LIST {
+        return write(words, index);
+    }
+    thread::scope(|scope| {
+        thread::Builder::new()
+            .stack_size(STACK)
+            .spawn_scoped(scope, || write(words, index))
+            .expect("a thread")
+            .join()
+            .expect("the writer returns")
+    })
+}
+
+fn write(words: &[i32], index: i32) -> Result<String, Refusal> {
     let mut text = vec![0; USUAL_TEXT];
     let mut written = entries::smt(words, index, &mut text);
     while is_too_long(written) && text.len() < LONGEST_TEXT {

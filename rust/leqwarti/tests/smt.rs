@@ -229,6 +229,15 @@ fn a_text_has_a_limit() {
     assert_eq!(refusal.reason, Reason::TextTooLong);
 }
 
+/// The formula that takes most stack, on a thread of Rust's usual 2 MiB.
+#[test]
+fn a_formula_that_leans_left_is_written() {
+    let ands = 8_189;
+    let list = list_of(&[vec![23; ands], vec![16; ands + 1]].concat());
+    let formula = "(and ".repeat(ands) + "true" + &" true)".repeat(ands);
+    assert_eq!(leqwarti::smt(&list, 0), Ok(script("", &formula)));
+}
+
 #[test]
 fn the_deepest_formula_is_written() {
     let nots = 16_379;
