@@ -18,7 +18,7 @@ use Rattle.script.specs.Syntax.{Formula}
 use Rattle.theorems.specs.Writing.{Wrote, Left, wrote-nothing, then}
 use Rattle.theorems.specs.Options.{none-is-not, some-inj}
 use Rattle.theorems.specs.Reading.{formula-back}
-use Rattle.list_reader.specs.Ends.{rest-of, after-formula, Ends, nowhere, here, Formula-ends}
+use Rattle.list_reader.specs.Ends.{rest-of, after-formula, Formula-ends, left-after, ends-past}
 use Rattle.printer.specs.Text.{line, name-of, lines, conditions-in, Listed}
 use Rattle.printer.specs.Output.{conditions-back}
 use Rattle.printer.proofs.Lines.{name-is}
@@ -38,30 +38,19 @@ all-ahead ws l =
 
 -- ---- where the formula at the front ends
 
-ends-at : {ws us : List ℤ} {i e : ℕ} {o : Option (List ℤ)} → Ends ws i e o → o ≡ some us → (us ≡ drop e ws) × (i < e) × (e ≤ length ws)
-ends-at (nowhere p) q = none-is-not q
-ends-at (here p h l) q = (sym (some-inj q) ∙ p, h, l)
-
-after-back : (f : Formula) (n : ℕ) (rest : List ℤ) → In-rangeᶠ f → length (formula-words f) ≤ n
+after-back : (f : Formula) → In-rangeᶠ f → (n : ℕ) (rest : List ℤ) → length (formula-words f) ≤ n
     → after-formula n (formula-words f ++ rest) ≡ some rest
 unfolding after-formula
-after-back f n rest h l = ap rest-of (formula-back f n h l rest)
+after-back f h n rest l = ap rest-of (formula-back f n h l rest)
 
 -- ws from i on is the words of a formula and a tail
 module _ (ws tail : List ℤ) (i e : ℕ) (f : Formula) (range : In-rangeᶠ f) (words : drop i ws ≡ formula-words f ++ tail)
     (ends : Formula-ends ws i e) where
-  part-length : length (formula-words f) + length tail ≡ length ws - i
-  part-length = sym (length-append (formula-words f) tail) ∙ ap length (sym words) ∙ length-drop i ws
-
   end-is : (tail ≡ drop e ws) × (i < e) × (e ≤ length ws)
-  end-is =
-      let read = ends .reads (length ws) (omega linear) in
-      ends-at (rw words at read) (after-back f (length ws) tail range (omega (linear, part-length)))
+  end-is = left-after after-formula (formula-words f) (after-back f range) tail words (ends .reads)
 
   end-place : e ≡ i + length (formula-words f)
-  end-place =
-      let left = ap length (end-is .0) ∙ length-drop e ws in
-      omega (linear, part-length, left, end-is .1, end-is .2)
+  end-place = ends-past after-formula (formula-words f) (after-back f range) tail words (ends .reads)
 
   part-size : e - i ≡ length (formula-words f)
   part-size = omega (linear, end-place)
