@@ -21,7 +21,7 @@ use Rattle.script.specs.declared.Answer.{Answer}
 use Rattle.theorems.specs.Accepted.{passed}
 use Rattle.line_writer.specs.declared.Progress.{Progress}
 use Rattle.line_writer.specs.Spelled.{Whole, whole, cut}
-use Rattle.script.specs.Generated.{Outcome, zeros, refusal, refuse, plan, room, scratch-need, outcome-for, outcome}
+use Rattle.script.specs.Generated.{Outcome, zeros, refusal, refuse, plan, room, scratch-need, outcome-for, outcome, outcome-within}
 
 -- where scratch is long enough: 12 or the list
 unfoldable pub fitted : Tree → ℕ → ℕ → Outcome
@@ -30,11 +30,11 @@ fitted t list scratch =
 
 module _ (t : List ℤ) (list scratch : ℕ) where
   pub outcome-refused : {n r : ℕ} → verdict t ≡ refused n r → outcome t list scratch ≡ refuse n r list scratch
-  unfolding outcome
+  unfolding outcome-within
   outcome-refused e = rw (e, outcome)
 
   pub outcome-accepted : verdict t ≡ accepted → outcome t list scratch ≡ outcome-for (tree t) list scratch
-  unfolding outcome
+  unfolding outcome-within
   outcome-accepted e = rw (e, outcome)
 
 module _ (t : Tree) (list scratch : ℕ) where

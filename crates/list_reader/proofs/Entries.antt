@@ -13,7 +13,7 @@ use lib.ListN.{length, getD, getElem?}
 use borrow.Author.Tests.{eqb-true, eqb-false, ltb-true, lt-ltb, le-leb, lt-leb}
 use Rattle.script.specs.declared.Line.{Line}
 use Rattle.script.specs.Rows.{field-number}
-use Rattle.script.specs.Listing.{_>>=_, guarded, natural, Found, lines-before, lines, line, line-at, no-line, first-place, malformed-place, condition-count}
+use Rattle.script.specs.Listing.{_>>=_, guarded, natural, Found, lines-before, lines, lines-within, line, line-at, no-line, first-place, malformed-place, condition-count}
 use Rattle.list_reader.specs.Lines.{is-some, line-among, or-zero, claimed, Claimed}
 use Rattle.list_reader.proofs.Walking.{lines-length}
 
@@ -67,7 +67,7 @@ counted true (some n) f = refl
 counted false o f = refl
 
 pub lines-are : (ws : List ℤ) → lines ws ≡ guarded (ltb 0 (claimed ws)) (lines-before ws (claimed ws) (length ws - 1))
-unfolding lines claimed
+unfolding lines-within claimed
 lines-are ws = counted (leb (length ws) 16384) (natural (getD ws (length ws - 1) (pos 0))) λ n. lines-before ws n (length ws - 1)
 
 module _ (ws : List ℤ) {n : ℕ} (c : Claimed ws n) where
@@ -116,7 +116,7 @@ list-test ws q = ap (λ (l : Line). eqb (l .number) 21) q ∙ go (lines ws)
     go (some fs) = refl
 
 empty-is-no-list : (ws : List ℤ) (fs : List Found) → lines ws ≡ some fs → 0 < length ws
-unfolding lines
+unfolding lines-within
 empty-is-no-list [] fs q = let z : _≡_ {A = ℕ} 0 1 = cc in absurd (omega linear)
 empty-is-no-list (w ∷ ws) fs q = omega linear
 

@@ -6,7 +6,7 @@ use mathlib.Core.Option.{Option, none, some}
 use mathlib.Core.List.{List, [], _∷_}
 use lib.IntN.{ℤ}
 use lib.ListN.{length}
-use Rattle.script.specs.Listing.{_>>=_, read-expr}
+use Rattle.script.specs.Listing.{_>>=_, read-expr-within}
 use Rattle.list_reader.specs.declared.formulas.ExpressionNode.{ExpressionNode}
 use Rattle.list_reader.specs.declared.formulas.ExpressionNode.the-variants as E
 use Rattle.list_reader.specs.declared.formulas.FormulaNode.{FormulaNode}
@@ -62,12 +62,12 @@ module _ (n : ℕ) (expression : (us : List ℤ) → Takes 2 us (after-expressio
   formula-parts-take F.Nothing us = nothing
 
 pub no-bound-expression : (us : List ℤ) → after-expression 0 us ≡ none
-unfolding after-expression read-expr
+unfolding after-expression read-expr-within
 no-bound-expression [] = refl
 no-bound-expression (u ∷ us) = refl
 
 pub no-bound-formula : (us : List ℤ) → after-formula 0 us ≡ none
-unfolding after-formula read-expr
+unfolding after-formula read-expr-within
 no-bound-formula [] = refl
 no-bound-formula (u ∷ us) = refl
 

@@ -13,7 +13,7 @@ use Rattle.script.specs.declared.Row.{Row}
 use Rattle.script.specs.declared.Row.the-variants as Row
 use Rattle.script.specs.Syntax.{var, mark, arith, neg, choose, const, Formula, cmp, not, join}
 use Rattle.script.specs.Rows.{field-number, row-of, variables}
-use Rattle.script.specs.Listing.{_>>=_, guarded, Read, read, next, past-number, row-limit, read-expr, read-formula}
+use Rattle.script.specs.Listing.{_>>=_, guarded, Read, read, next, past-number, row-limit, read-expr, read-expr-within, read-formula}
 use Rattle.list_reader.specs.declared.formulas.ExpressionNode.{ExpressionNode}
 use Rattle.list_reader.specs.declared.formulas.ExpressionNode.the-variants as E
 use Rattle.list_reader.specs.declared.formulas.FormulaNode.{FormulaNode}
@@ -61,7 +61,7 @@ numbered n a false ws = refl
 -- ---- by the row of the word
 
 expression-row : (n : ℕ) (w : Row) (ws : List ℤ) → rest-of (read-expr (suc n) w ws) ≡ expression-parts n (expression-node w) ws
-unfolding read-expr after-expression after-formula
+unfolding read-expr-within after-expression after-formula
 expression-row n (Row.Expression (Constant z)) ws = numbered n (const z) true ws
 expression-row n (Row.Expression (Variable v)) ws = numbered n (var (v .0)) (ltb (v .0) variables) ws
 expression-row n (Row.Expression (Mark m)) ws = numbered n (mark (m .0)) (ltb (m .0) row-limit) ws
@@ -76,7 +76,7 @@ expression-row n (Row.Script x y z) ws = refl
 expression-row n Row.Unknown ws = refl
 
 formula-row : (n : ℕ) (w : Row) (ws : List ℤ) → rest-of (read-formula (suc n) w ws) ≡ formula-parts n (formula-node w) ws
-unfolding read-expr after-expression after-formula
+unfolding read-expr-within after-expression after-formula
 formula-row n (Row.Expression e) ws = refl
 formula-row n (Row.Formula True) ws = refl
 formula-row n (Row.Formula False) ws = refl

@@ -8,7 +8,7 @@ use mathlib.Core.Bool.{Bool, true, false, _&&_}
 use lib.IntN.{ℤ, pos}
 use lib.ListN.{length, getD}
 use borrow.Author.Tests.{le-leb, lt-leb}
-use Rattle.script.specs.Listing.{found, line-before, step-back, no-line}
+use Rattle.script.specs.Listing.{found, line-before, line-before-within, step-back, no-line}
 use Rattle.list_reader.specs.Lines.{answer, start-of}
 
 pub step-answer : (ws : List ℤ) (e : ℕ) → (e ≡ 0 → ⊥) → step-back ws e ≡ answer (line-before ws e)
@@ -23,15 +23,15 @@ and-false false = refl
 module _ (ws : List ℤ) (e : ℕ) where
   pub line-inside : 3 ≤ e → e ≤ length ws
       → line-before ws e ≡ found ws (e - 3) (getD ws (e - 3) (pos 0)) (getD ws (e - 2) (pos 0)) (getD ws (e - 1) (pos 0))
-  unfolding line-before
+  unfolding line-before-within
   line-inside h l = rw (le-leb 3 e h, le-leb e (length ws) l)
 
   pub line-short : e < 3 → line-before ws e ≡ none
-  unfolding line-before
+  unfolding line-before-within
   line-short h = rw (lt-leb 3 e h)
 
   pub line-long : length ws < e → line-before ws e ≡ none
-  unfolding line-before
+  unfolding line-before-within
   line-long h = rw (lt-leb e (length ws) h, and-false)
 
   pub step-front : e ≡ 0 → no-line 21 ≡ step-back ws e

@@ -15,7 +15,7 @@ use Rattle.script.specs.declared.Rule.the-variants.{Exit, Floor, Step, Main}
 use Rattle.script.specs.Syntax.{Formula}
 use Rattle.script.specs.Words.{rule-number}
 use Rattle.script.specs.Rows.{field-number}
-use Rattle.script.specs.Listing.{_>>=_, guarded, Read, next, read-formula, all-read, spelled, rule-of, below}
+use Rattle.script.specs.Listing.{_>>=_, guarded, Read, next, read-formula, all-read, spelled, spelled-within, rule-of, below}
 use Rattle.list_reader.specs.Ends.{Ends, nowhere, here, rest-of, after-formula, Formula-ends}
 use Rattle.list_reader.specs.Lines.{is-some}
 
@@ -87,5 +87,5 @@ spelled-by ws e none (nowhere h) = ne-eqb e (length ws) (omega linear)
 spelled-by ws e (some r) (here h l m) = taken-all ws e (r .got) (r .rest) h m
 
 pub spelled-test : {ws : List ℤ} {e : ℕ} → Formula-ends ws 0 e → eqb e (length ws) ≡ is-some (spelled ws)
-unfolding spelled after-formula
+unfolding spelled-within after-formula
 spelled-test {ws} {e} x = spelled-by ws e (next (read-formula (length ws)) ws) (x .reads (length ws) (omega linear))

@@ -15,7 +15,7 @@ use Rattle.script.specs.Syntax.{Formula}
 use Rattle.script.specs.Conditions.{condition}
 use Rattle.script.specs.Words.{rule-number}
 use Rattle.script.specs.Rows.{field-number}
-use Rattle.script.specs.Listing.{_>>=_, Found, spelled, rule-of, below, row-limit, found, no-line}
+use Rattle.script.specs.Listing.{_>>=_, Found, spelled, rule-of, below, row-limit, found, found-within, no-line}
 use Rattle.list_reader.specs.Lines.{is-some, is-line, answer, start-of, trailer-line}
 use Rattle.list_reader.proofs.Tests.{rule-is, below-is, below-most}
 
@@ -43,7 +43,7 @@ module _ (ws : List ℤ) (e : ℕ) (k r n : ℤ) where
       go (some c) = rw (f x refl, g y refl)
 
   pub found-answer : answer (found ws e k r n) ≡ told e k r n (is-line ws e k r n)
-  unfolding found is-line
+  unfolding found-within is-line
   found-answer =
       assembled (rule-of (field-number k)) (below row-limit r) (below (suc e) n) (λ size. spelled (slice (e - size) e ws)) (rule-is (field-number k))
       (below-is row-limit r) (below-is (suc e) n)

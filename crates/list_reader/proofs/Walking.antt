@@ -10,7 +10,7 @@ use lib.IntN.{ℤ, pos}
 use lib.Dec.{eqb, eqb·zero-suc, eqb·suc-suc}
 use lib.ListN.{length, getElem?, length-append}
 use Rattle.script.specs.declared.Line.{Line}
-use Rattle.script.specs.Listing.{_>>=_, Found, line-before, lines-before, line, no-line}
+use Rattle.script.specs.Listing.{_>>=_, Found, line-before, lines-before, lines-before-within, line, no-line}
 use Rattle.list_reader.specs.Lines.{line-among}
 
 -- ---- the walk: n lines end at e, the line at the index i is looked for, kept is what was found of it so far
@@ -65,7 +65,7 @@ one-more n f fs none h q = let z : _≡_ {A = ℕ} 0 1 = cc in absurd (omega lin
 one-more n f fs (some gs) h q = let z : gs ++ (f ∷ []) ≡ fs = cc in rw (← z, length-append) (omega (linear, h gs refl))
 
 pub lines-length : (ws : List ℤ) (n e : ℕ) (fs : List Found) → lines-before ws n e ≡ some fs → length fs ≡ n
-unfolding lines-before
+unfolding lines-before-within
 lines-length ws zero zero fs q = let z : [] ≡ fs = cc in ap length (sym z)
 lines-length ws zero (suc e) fs q = let z : _≡_ {A = ℕ} 0 1 = cc in absurd (omega linear)
 lines-length ws (suc n) e fs q = go (line-before ws e) (λ f gs. lines-length ws n (f .start) gs) q
@@ -98,7 +98,7 @@ last-found kept i n f none h = refl
 last-found kept i n f (some gs) h = rw (← h gs refl) (last-line kept f gs i)
 
 walk-is : (ws : List ℤ) (i : ℕ) (n : ℕ) (kept : Line) (e : ℕ) → walk ws i kept n e ≡ among kept i (lines-before ws n e)
-unfolding walk lines-before
+unfolding walk lines-before-within
 walk-is ws i zero kept zero = refl
 walk-is ws i zero kept (suc e) = refl
 walk-is ws i (suc n) kept e = go (line-before ws e) (λ k x. walk-is ws i n k x)

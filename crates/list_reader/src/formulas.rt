@@ -67,7 +67,7 @@ fn other_node_of(kind: i32, words: &[i32], at: usize) -> ExpressionNode
 {
     match kind {
         kinds::CONSTANT => ExpressionNode::Number,
-        kinds::VARIABLE => number_below(words, at, 256),
+        kinds::VARIABLE => number_below(words, at, script::VARIABLES),
         kinds::NEGATE => ExpressionNode::Negate,
         kinds::MARK => number_below(words, at, 2048),
         kinds::CHOOSE => ExpressionNode::Choose,

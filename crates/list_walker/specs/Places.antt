@@ -14,7 +14,7 @@ use denote.Ref.{RefT, now}
 use borrow.Author.Tests.{leb-true}
 use Rattle.script.specs.declared.Line.{Line}
 use Rattle.script.specs.Rows.{field-number}
-use Rattle.script.specs.Listing.{Found, below, row-limit, rule-of, spelled, found, line-before, line, no-line, step-back}
+use Rattle.script.specs.Listing.{Found, below, row-limit, rule-of, spelled, found, found-within, line-before, line-before-within, line, no-line, step-back}
 use Rattle.theorems.specs.Options.{some-inj, went-on, held}
 use Rattle.list_walker.specs.Steps.{Part}
 
@@ -31,7 +31,7 @@ both false true h = refl
 both false false h = h
 
 found-stands : (ws : List ℤ) (e : ℕ) (k r n : ℤ) (f : Found) → e ≤ length ws → found ws e k r n ≡ some f → Stands ws (line f)
-unfolding found
+unfolding found-within
 found-stands ws e k r n f h q =
     let rule = went-on (rule-of (field-number k)) _ q in
     let row = went-on (below row-limit r) _ (rule .2) in
@@ -40,7 +40,7 @@ found-stands ws e k r n f h q =
     subst (λ (x : Found). Stands ws (line x)) (some-inj (claim .2)) (record { ordered = omega linear; within = h })
 
 line-stands : (ws : List ℤ) (e : ℕ) (f : Found) → line-before ws e ≡ some f → Stands ws (line f)
-unfolding line-before
+unfolding line-before-within
 line-stands ws e f q =
     let t = held (leb 3 e && leb e (length ws)) _ q in
     let inside : e ≤ length ws = leb-true e (length ws) (both (leb 3 e) (leb e (length ws)) (t .0)) in

@@ -8,9 +8,9 @@ use Rattle.script.specs.Rows.{row, row-of}
 use Rattle.script.specs.Trees.{expr, formula, stmt, expr-at, formula-at, stmt-at, tree, nesting}
 use Rattle.script.specs.Conditions.{conditions, walk, wp, subst-expr, subst-formula}
 use Rattle.script.specs.Words.{list-words, all-lines, line-words, expr-words, formula-words}
-use Rattle.script.specs.Refusals.{length-test, row-test, script-test, unlinked-test, target-test, reading-test, nesting-test, verdict}
-use Rattle.script.specs.Refusals.{lowest, row-fault, linked, misread, misreads}
-use Rattle.script.specs.Generated.{outcome-for, outcome}
+use Rattle.script.specs.Refusals.{length-test, row-test-within, script-test, unlinked-test, target-test, reading-test, nesting-test, verdict-within}
+use Rattle.script.specs.Refusals.{lowest, row-fault-within, linked, misread, misreads}
+use Rattle.script.specs.Generated.{outcome-for, outcome-within}
 use Rattle.text.specs.Ascii.{bytes}
 use Rattle.text.specs.Decimal.{digits, decimal}
 use Rattle.printer.specs.Input.{words-of}
@@ -43,7 +43,7 @@ outputs : map output inputs
     ∷ bytes "refused 1 0\n"
     ∷ bytes "refused 1 0\n"
     ∷ []
-unfolding inputs output table-output words-of _⨾_ example answer-text lines line rest-of-line signed-decimal decimal digits outcome outcome-for verdict length-test row-test script-test unlinked-test target-test reading-test nesting-test lowest row-fault linked misread misreads row row-of expr formula stmt expr-at formula-at stmt-at tree nesting conditions walk wp subst-expr subst-formula list-words all-lines line-words expr-words formula-words
+unfolding inputs output table-output words-of _⨾_ example answer-text lines line rest-of-line signed-decimal decimal digits outcome-within outcome-for verdict-within length-test row-test-within script-test unlinked-test target-test reading-test nesting-test lowest row-fault-within linked misread misreads row row-of expr formula stmt expr-at formula-at stmt-at tree nesting conditions walk wp subst-expr subst-formula list-words all-lines line-words expr-words formula-words
 outputs = refl
 
 -- "a two's complement word, low byte first"

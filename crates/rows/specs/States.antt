@@ -16,7 +16,7 @@ use lib.Seq.{getD-set-same, getD-set-other}
 use Rattle.script.specs.declared.Sort.the-variants.{Unknown}
 use Rattle.script.specs.Laws.{row-is}
 use Rattle.script.specs.Rows.{field-number, fields, row-of, sort-of, rows, row, word}
-use Rattle.script.specs.Refusals.{linked, member, row-fault, same-sort}
+use Rattle.script.specs.Refusals.{linked, member, row-fault, row-fault-within, same-sort}
 use Rattle.theorems.specs.Accepted.{both}
 use Rattle.rows.specs.Patterns.{Asked, cell, cells, adds, below, blank, by-kind, capital, letter, limited, linking, none-zero, of-cells, of-row, pattern, patterns, proper, same-letter, sort-for, unlisted}
 use Rattle.rows.specs.Faults.{after, afters-are, fault, faults, faults-are, first, first-none}
@@ -171,7 +171,7 @@ no e = absurd (omega linear)
 
 module _ (t : List ℤ) (r : ℕ) {n : ℕ} (e : n ≡ field-number (word t r 0)) where
   pub unlisted-row : {s : List ℕ} → 48 < n → Tested t r 2 s
-  unfolding row-fault
+  unfolding row-fault-within
   unlisted-row h =
       let w = sym (row-is t r) ∙ unlisted (field-number (word t r 0)) (word t r 1) (word t r 2) (word t r 3) (omega linear) in
       record { is = rw w; shown = no }
@@ -190,11 +190,11 @@ module _ (t : List ℤ) (r : ℕ) {n : ℕ} (e : n ≡ field-number (word t r 0)
     known-test = sym (same-letter (sort-of (row t r)) Unknown) ∙ ap (λ (x : ℕ). eqb x 85) its-sort
 
     pub unknown-row : {s : List ℕ} {x : ℕ} → x ≡ pattern n 0 → x ≡ 85 → Tested t r 2 s
-    unfolding row-fault
+    unfolding row-fault-within
     unknown-row g d = record { is = rw (known-test, eq-eqb (pattern n 0) 85 (sym g ∙ d)); shown = no }
 
     fault-is : pattern n 0 ≢ 85 → faults t r (linked t r) (cells n (word t r 1) (word t r 2) (word t r 3)) ≡ row-fault t r
-    unfolding row-fault
+    unfolding row-fault-within
     fault-is d =
         rw (
           known-test,

@@ -30,7 +30,7 @@ fn in_range(letter: u8, n: usize, rows: usize) -> bool
         b'_' => n == 0,
         b'c' => true,
         b'l' => n < rows,
-        _ => n < 256,
+        _ => n < script::VARIABLES,
     }
 }
 

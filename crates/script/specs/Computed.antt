@@ -1,5 +1,6 @@
 -- 01, "Trial rows": the starred ones, and those of the others that computation reaches, as rows of a single statement that
--- the prover settles by computing the definitions. Assumes nothing.
+-- the prover settles by computing the definitions. 02, P2, moves one of them, "the case with target 256 becomes planned": within
+-- 256 variables it is what 01 says. With it the rows at the new limit. Assumes nothing.
 use Prim.Native.Nat.{ℕ, zero, suc, _+_, _*_}
 use mathlib.Core.Path.{_≡_, refl}
 use mathlib.Core.Bool.{Bool, true, false}
@@ -19,9 +20,9 @@ use Rattle.script.specs.Conditions.{conditions, walk, wp, subst-expr, su
 use Rattle.script.specs.Words.{list-words, all-lines, line-words, expr-words, formula-words}
 use Rattle.script.specs.Rows.{row, row-of}
 use Rattle.script.specs.Trees.{expr, formula, stmt, expr-at, formula-at, stmt-at, tree, nesting}
-use Rattle.script.specs.Refusals.{Verdict, accepted, refused, bad-length, lowest, row-fault, linked, misread, misreads, length-test, row-test, script-test, unlinked-test, target-test, reading-test, nesting-test, verdict}
-use Rattle.script.specs.Generated.{zeros, outcome-for, outcome, refusal}
-use Rattle.script.specs.Listing.{read-expr, read-formula, spelled, found, line-before, lines-before, lines, line-at, no-line}
+use Rattle.script.specs.Refusals.{Verdict, accepted, refused, bad-length, lowest, row-fault-within, linked, misread, misreads, length-test, row-test-within, script-test, unlinked-test, target-test, reading-test, nesting-test, verdict, verdict-within}
+use Rattle.script.specs.Generated.{zeros, outcome-for, outcome, outcome-within, refusal}
+use Rattle.script.specs.Listing.{read-expr-within, read-formula-within, spelled-within, found-within, line-before-within, lines-before-within, lines-within, line-at, no-line}
 
 -- ---- tables
 
@@ -76,6 +77,16 @@ branches (suc n) = branches n ++ ((16, 0, 0, 0) ⨾ (32, 0, 0, 0) ⨾ (35, 3 * n
 nested : ℕ → List ℤ
 nested n = branches n ++ ((16, 0, 0, 0) ⨾ (16, 0, 0, 0) ⨾ (48, 3 * n + 1, 3 * n, 3 * n + 2) ⨾ [])
 
+-- with variable g in a guard, t assigned to and n in annotations: vn = 0; if vg < 0 then vt := 0 else skip; vn = 0
+names-in : ℕ → ℕ → ℕ → List ℤ
+names-in g t n =
+    (2, n, 0, 0) ⨾ (1, 0, 0, 0) ⨾ (20, 0, 1, 0) ⨾ (2, g, 0, 0) ⨾ (1, 0, 0, 0) ⨾ (18, 3, 4, 0) ⨾ (1, 0, 0, 0) ⨾ (33, t, 6, 0)
+    ⨾ (32, 0, 0, 0) ⨾ (35, 5, 7, 8) ⨾ (2, n, 0, 0) ⨾ (1, 0, 0, 0) ⨾ (20, 10, 11, 0) ⨾ (48, 2, 9, 12) ⨾ []
+
+-- main, of the script in row 0: v = 0
+one-variable : ℕ → List ℤ
+one-variable v = pos 20 ∷ pos 2 ∷ pos v ∷ pos 1 ∷ pos 0 ∷ pos 4 ∷ pos 0 ∷ pos 5 ∷ pos 1 ∷ []
+
 unfoldable pub numbers : List ℕ → List ℤ
 numbers [] = []
 numbers (n ∷ ns) = pos n ∷ numbers ns
@@ -89,6 +100,8 @@ data Trial : Type 0 where
   lists : List ℤ → List ℕ → Trial
   -- table, verdict
   judges : List ℤ → Verdict → Trial
+  -- how many variables there are, table, verdict
+  judges-within : ℕ → List ℤ → Verdict → Trial
   -- a number of words, whether the length test refuses it
   measures : ℕ → Bool → Trial
   -- dividend, divisor, quotient, remainder
@@ -111,6 +124,7 @@ observed : Trial → Observed
 observed (generates t l s a) = answer (outcome t l s .answer)
 observed (lists t ws) = words (take (outcome t 512 5120 .answer .words) (outcome t 512 5120 .list))
 observed (judges t v) = verdict-is (verdict t)
+observed (judges-within n t v) = verdict-is (verdict-within t n)
 observed (measures n b) = test (bad-length n)
 observed (divides n d q r) = division (divZ n d) (modZ n d)
 observed (reads ws i l) = line (line-at ws i)
@@ -119,6 +133,7 @@ expected : Trial → Observed
 expected (generates t l s a) = answer a
 expected (lists t ws) = words (numbers ws)
 expected (judges t v) = verdict-is v
+expected (judges-within n t v) = verdict-is v
 expected (measures n b) = test b
 expected (divides n d q r) = division q r
 expected (reads ws i l) = line l
@@ -143,7 +158,22 @@ trials =
     ∷ divides (negsuc 6) (negsuc 1) (pos 4) (pos 1)
     ∷ divides (pos 5) (pos 0) (pos 0) (pos 5)
     ∷ generates (example (2, 0, 0, 0) (4, 11, 12, 0) (33, 128, 13, 0)) 512 5120 (refusal 8 14)
-    ∷ generates (example (2, 0, 0, 0) (4, 11, 12, 0) (33, 256, 13, 0)) 512 5120 (refusal 3 14)
+    ∷ judges-within 256 (example (2, 0, 0, 0) (4, 11, 12, 0) (33, 256, 13, 0)) (refused 3 14)
+    ∷ generates (example (2, 0, 0, 0) (4, 11, 12, 0) (33, 256, 13, 0)) 512 5120 (planned 4 88)
+    ∷ generates (example (2, 0, 0, 0) (4, 11, 12, 0) (33, 255, 13, 0)) 512 5120 (refusal 8 14)
+    ∷ generates (example (2, 0, 0, 0) (4, 11, 12, 0) (33, 1024, 13, 0)) 512 5120 (refusal 3 14)
+    ∷ judges (names-in 127 127 127) accepted
+    ∷ judges (names-in 0 0 128) accepted
+    ∷ judges (names-in 0 0 255) accepted
+    ∷ judges (names-in 256 256 256) accepted
+    ∷ judges (names-in 1023 1023 1023) accepted
+    ∷ judges (names-in 128 0 0) (refused 9 3)
+    ∷ judges (names-in 255 0 0) (refused 9 3)
+    ∷ judges (names-in 1024 0 0) (refused 3 3)
+    ∷ judges (names-in 0 128 0) (refused 8 7)
+    ∷ judges (names-in 0 255 0) (refused 8 7)
+    ∷ judges (names-in 0 1024 0) (refused 3 7)
+    ∷ judges (names-in 0 0 1024) (refused 3 0)
     ∷ generates (example (9, 15, 0, 0) (4, 11, 12, 0) (33, 0, 13, 0)) 512 5120 (refusal 9 9)
     ∷ generates (example (2, 0, 0, 0) (4, 11, 11, 0) (33, 0, 13, 0)) 512 5120 (refusal 6 13)
     ∷ generates (example (2, 0, 0, 0) (4, 11, 13, 0) (33, 0, 13, 0)) 512 5120 (refusal 4 13)
@@ -184,10 +214,12 @@ trials =
     ∷ reads (numbers (25 ∷ 16 ∷ 16 ∷ 4 ∷ 3 ∷ 3 ∷ 1 ∷ [])) (negsuc 0) (no-line 21)
     ∷ reads (numbers (25 ∷ 16 ∷ 16 ∷ 4 ∷ 3 ∷ 4 ∷ 1 ∷ [])) (pos 0) (no-line 20)
     ∷ reads [] (pos 0) (no-line 20)
+    ∷ reads (one-variable 1023) (pos 0) (record { number = 0; kind = 4; row = 0; start = 0; end = 5 })
+    ∷ reads (one-variable 1024) (pos 0) (no-line 20)
     ∷ []
 
 trials-hold : map observed trials ≡ map expected trials
-unfolding trials observed expected numbers example example-a four-rows loops-in-branches loops-in-sequence loop-in-loop branches nested _⨾_ outcome outcome-for verdict length-test row-test script-test unlinked-test target-test reading-test nesting-test lowest row-fault linked misread misreads row row-of expr formula stmt expr-at formula-at stmt-at tree nesting conditions walk wp subst-expr subst-formula list-words all-lines line-words expr-words formula-words read-expr read-formula spelled found line-before lines-before lines line-at
+unfolding trials observed expected names-in one-variable numbers example example-a four-rows loops-in-branches loops-in-sequence loop-in-loop branches nested _⨾_ outcome-within outcome-for verdict-within length-test row-test-within script-test unlinked-test target-test reading-test nesting-test lowest row-fault-within linked misread misreads row row-of expr formula stmt expr-at formula-at stmt-at tree nesting conditions walk wp subst-expr subst-formula list-words all-lines line-words expr-words formula-words read-expr-within read-formula-within spelled-within found-within line-before-within lines-before-within lines-within line-at
 trials-hold = refl
 
 -- ---- "With guard 0 ≤ x, variant x and body x := x − 1, a start at 0 makes one pass."

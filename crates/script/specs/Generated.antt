@@ -11,7 +11,8 @@ use Rattle.script.specs.Syntax.{Tree}
 use Rattle.script.specs.Conditions.{Condition, conditions}
 use Rattle.script.specs.Words.{list-words}
 use Rattle.script.specs.Trees.{tree, nesting}
-use Rattle.script.specs.Refusals.{accepted, refused, verdict}
+use Rattle.script.specs.Rows.{variables}
+use Rattle.script.specs.Refusals.{accepted, refused, verdict-within}
 
 -- an answer ("An answer holds: number, row, conditions, words used."), and every word that the list and scratch then hold
 pub record Outcome : Type 0 where
@@ -52,9 +53,13 @@ outcome-for t list scratch =
     (cond (ltb (room list) (length (list-words (conditions t)))) (refuse 12 0 list scratch)
     (plan (conditions t) list scratch))
 
-unfoldable pub outcome : List ℤ → ℕ → ℕ → Outcome
-outcome table list scratch =
-    elim (verdict table) [
+-- where the variables are those below a limit
+unfoldable pub outcome-within : ℕ → List ℤ → ℕ → ℕ → Outcome
+outcome-within limit table list scratch =
+    elim (verdict-within table limit) [
       | refused n r ↦ refuse n r list scratch
       | accepted ↦ outcome-for (tree table) list scratch
     ]
+
+abbrev pub outcome : List ℤ → ℕ → ℕ → Outcome
+outcome = outcome-within variables

@@ -55,58 +55,60 @@ past-number a (w ∷ ws) = read a ws
 abbrev pub row-limit : ℕ
 row-limit = 2048
 
-unfoldable mutual
-  pub read-expr : ℕ → Row → List ℤ → Option (Read Expr)
-  read-expr zero w ws = none
-  read-expr (suc n) (Row.Expression (Constant z)) ws = past-number (const z) ws
-  read-expr (suc n) (Row.Expression (Variable v)) ws = guarded (ltb (v .0) variables) (past-number (var (v .0)) ws)
-  read-expr (suc n) (Row.Expression (Mark m)) ws = guarded (ltb (m .0) row-limit) (past-number (mark (m .0)) ws)
-  read-expr (suc n) (Row.Expression (Arithmetic o x y)) ws = do
-    a ← next (read-expr n) ws
-    b ← next (read-expr n) (a .rest)
-    read (arith o (a .got) (b .got)) (b .rest)
-  read-expr (suc n) (Row.Expression (Negate x)) ws = do
-    a ← next (read-expr n) ws
-    read (neg (a .got)) (a .rest)
-  read-expr (suc n) (Row.Expression (Choose x y z)) ws = do
-    f ← next (λ w vs. read-formula n w vs) ws
-    a ← next (read-expr n) (f .rest)
-    b ← next (read-expr n) (a .rest)
-    read (choose (f .got) (a .got) (b .got)) (b .rest)
-  read-expr (suc n) (Row.Formula w) ws = none
-  read-expr (suc n) (Row.Statement w) ws = none
-  read-expr (suc n) (Row.Note x y) ws = none
-  read-expr (suc n) (Row.Script x y z) ws = none
-  read-expr (suc n) Row.Unknown ws = none
-
-  pub read-formula : ℕ → Row → List ℤ → Option (Read Formula)
-  read-formula zero w ws = none
-  read-formula (suc n) (Row.Formula True) ws = read (truth true) ws
-  read-formula (suc n) (Row.Formula False) ws = read (truth false) ws
-  read-formula (suc n) (Row.Formula (Comparison o x y)) ws = do
-    a ← next (λ w vs. read-expr n w vs) ws
-    b ← next (λ w vs. read-expr n w vs) (a .rest)
-    read (cmp o (a .got) (b .got)) (b .rest)
-  read-formula (suc n) (Row.Formula (Not x)) ws = do
-    f ← next (read-formula n) ws
-    read (not (f .got)) (f .rest)
-  read-formula (suc n) (Row.Formula (Junction o x y)) ws = do
-    f ← next (read-formula n) ws
-    g ← next (read-formula n) (f .rest)
-    read (join o (f .got) (g .got)) (g .rest)
-  read-formula (suc n) (Row.Expression w) ws = none
-  read-formula (suc n) (Row.Statement w) ws = none
-  read-formula (suc n) (Row.Note x y) ws = none
-  read-formula (suc n) (Row.Script x y z) ws = none
-  read-formula (suc n) Row.Unknown ws = none
-
 -- with nothing left over
 abbrev pub all-read : {A : Type 0} → Read A → Option A
 all-read r = elim (r .rest) [ [] ↦ some (r .got) | w ∷ ws ↦ none ]
 
--- the formula that the words spell, all read: every node has a word of its own, so their number bounds the depth
-unfoldable pub spelled : List ℤ → Option Formula
-spelled ws = next (read-formula (length ws)) ws >>= all-read
+-- "variables 0 to 255": the variables are those below a limit, which 02, P2, moves
+module _ (limit : ℕ) where
+  unfoldable mutual
+    pub read-expr-within : ℕ → Row → List ℤ → Option (Read Expr)
+    read-expr-within zero w ws = none
+    read-expr-within (suc n) (Row.Expression (Constant z)) ws = past-number (const z) ws
+    read-expr-within (suc n) (Row.Expression (Variable v)) ws = guarded (ltb (v .0) limit) (past-number (var (v .0)) ws)
+    read-expr-within (suc n) (Row.Expression (Mark m)) ws = guarded (ltb (m .0) row-limit) (past-number (mark (m .0)) ws)
+    read-expr-within (suc n) (Row.Expression (Arithmetic o x y)) ws = do
+      a ← next (read-expr-within n) ws
+      b ← next (read-expr-within n) (a .rest)
+      read (arith o (a .got) (b .got)) (b .rest)
+    read-expr-within (suc n) (Row.Expression (Negate x)) ws = do
+      a ← next (read-expr-within n) ws
+      read (neg (a .got)) (a .rest)
+    read-expr-within (suc n) (Row.Expression (Choose x y z)) ws = do
+      f ← next (λ w vs. read-formula-within n w vs) ws
+      a ← next (read-expr-within n) (f .rest)
+      b ← next (read-expr-within n) (a .rest)
+      read (choose (f .got) (a .got) (b .got)) (b .rest)
+    read-expr-within (suc n) (Row.Formula w) ws = none
+    read-expr-within (suc n) (Row.Statement w) ws = none
+    read-expr-within (suc n) (Row.Note x y) ws = none
+    read-expr-within (suc n) (Row.Script x y z) ws = none
+    read-expr-within (suc n) Row.Unknown ws = none
+
+    pub read-formula-within : ℕ → Row → List ℤ → Option (Read Formula)
+    read-formula-within zero w ws = none
+    read-formula-within (suc n) (Row.Formula True) ws = read (truth true) ws
+    read-formula-within (suc n) (Row.Formula False) ws = read (truth false) ws
+    read-formula-within (suc n) (Row.Formula (Comparison o x y)) ws = do
+      a ← next (λ w vs. read-expr-within n w vs) ws
+      b ← next (λ w vs. read-expr-within n w vs) (a .rest)
+      read (cmp o (a .got) (b .got)) (b .rest)
+    read-formula-within (suc n) (Row.Formula (Not x)) ws = do
+      f ← next (read-formula-within n) ws
+      read (not (f .got)) (f .rest)
+    read-formula-within (suc n) (Row.Formula (Junction o x y)) ws = do
+      f ← next (read-formula-within n) ws
+      g ← next (read-formula-within n) (f .rest)
+      read (join o (f .got) (g .got)) (g .rest)
+    read-formula-within (suc n) (Row.Expression w) ws = none
+    read-formula-within (suc n) (Row.Statement w) ws = none
+    read-formula-within (suc n) (Row.Note x y) ws = none
+    read-formula-within (suc n) (Row.Script x y z) ws = none
+    read-formula-within (suc n) Row.Unknown ws = none
+
+  -- the formula that the words spell, all read: every node has a word of its own, so their number bounds the depth
+  unfoldable pub spelled-within : List ℤ → Option Formula
+  spelled-within ws = next (read-formula-within (length ws)) ws >>= all-read
 
 -- ---- the condition that ends at a place
 
@@ -133,38 +135,62 @@ pub record Found : Type 0 where
   pub start : ℕ
   pub end : ℕ
 
--- with the trailer k, r, n after a formula that ends at e: "a kind 1 to 4, a row from 0 to 2,047 and the true length of
--- one whole formula"
-unfoldable pub found : List ℤ → ℕ → ℤ → ℤ → ℤ → Option Found
-found ws e k r n = do
-  rule ← rule-of (field-number k)
-  row ← below row-limit r
-  size ← below (suc e) n
-  claim ← spelled (slice (e - size) e ws)
-  some (record { condition = condition rule row claim; start = e - size; end = e })
+module _ (limit : ℕ) where
+  -- with the trailer k, r, n after a formula that ends at e: "a kind 1 to 4, a row from 0 to 2,047 and the true length of
+  -- one whole formula"
+  unfoldable pub found-within : List ℤ → ℕ → ℤ → ℤ → ℤ → Option Found
+  found-within ws e k r n = do
+    rule ← rule-of (field-number k)
+    row ← below row-limit r
+    size ← below (suc e) n
+    claim ← spelled-within limit (slice (e - size) e ws)
+    some (record { condition = condition rule row claim; start = e - size; end = e })
 
--- the condition whose trailer ends at e
-unfoldable pub line-before : List ℤ → ℕ → Option Found
-line-before ws e =
-    guarded (leb 3 e && leb e (length ws))
-    (found ws (e - 3) (getD ws (e - 3) (pos 0)) (getD ws (e - 2) (pos 0)) (getD ws (e - 1) (pos 0)))
+  -- the condition whose trailer ends at e
+  unfoldable pub line-before-within : List ℤ → ℕ → Option Found
+  line-before-within ws e =
+      guarded (leb 3 e && leb e (length ws))
+      (found-within ws (e - 3) (getD ws (e - 3) (pos 0)) (getD ws (e - 2) (pos 0)) (getD ws (e - 1) (pos 0)))
 
--- ---- a whole list
+  -- ---- a whole list
 
--- n conditions that end at e, first one first: "that many trailers", "nothing left at the front"
-unfoldable pub lines-before : List ℤ → ℕ → ℕ → Option (List Found)
-lines-before ws zero zero = some []
-lines-before ws zero (suc e) = none
-lines-before ws (suc n) e = do
-  last ← line-before ws e
-  front ← lines-before ws n (last .start)
-  some (front ++ (last ∷ []))
+  -- n conditions that end at e, first one first: "that many trailers", "nothing left at the front"
+  unfoldable pub lines-before-within : List ℤ → ℕ → ℕ → Option (List Found)
+  lines-before-within ws zero zero = some []
+  lines-before-within ws zero (suc e) = none
+  lines-before-within ws (suc n) e = do
+    last ← line-before-within ws e
+    front ← lines-before-within ws n (last .start)
+    some (front ++ (last ∷ []))
 
--- "A well-formed list has a count of 1 or more, at most 16,384 words"; "A list is read from the end back."
-unfoldable pub lines : List ℤ → Option (List Found)
-lines ws =
-    guarded (leb (length ws) 16384)
-    (natural (getD ws (length ws - 1) (pos 0)) >>= λ count. guarded (ltb 0 count) (lines-before ws count (length ws - 1)))
+  -- "A well-formed list has a count of 1 or more, at most 16,384 words"; "A list is read from the end back."
+  unfoldable pub lines-within : List ℤ → Option (List Found)
+  lines-within ws =
+      guarded (leb (length ws) 16384)
+      (natural (getD ws (length ws - 1) (pos 0)) >>= λ count. guarded (ltb 0 count) (lines-before-within ws count (length ws - 1)))
+
+-- ---- with as many variables as there are
+
+abbrev pub read-expr : ℕ → Row → List ℤ → Option (Read Expr)
+read-expr = read-expr-within variables
+
+abbrev pub read-formula : ℕ → Row → List ℤ → Option (Read Formula)
+read-formula = read-formula-within variables
+
+abbrev pub spelled : List ℤ → Option Formula
+spelled = spelled-within variables
+
+abbrev pub found : List ℤ → ℕ → ℤ → ℤ → ℤ → Option Found
+found = found-within variables
+
+abbrev pub line-before : List ℤ → ℕ → Option Found
+line-before = line-before-within variables
+
+abbrev pub lines-before : List ℤ → ℕ → ℕ → Option (List Found)
+lines-before = lines-before-within variables
+
+abbrev pub lines : List ℤ → Option (List Found)
+lines = lines-within variables
 
 -- the conditions of a list, or nothing where the words are not a list
 unfoldable pub read-list : List ℤ → Option (List Condition)

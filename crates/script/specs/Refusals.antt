@@ -1,6 +1,8 @@
 -- 01, "Room and scratch": the refusals 1 to 10 of a table, in the order of their tests.
 -- "Number 1 is tested first. Then rows from 0 up, in each row 2 to 6 in order over all its fields; the first faulty row
--- decides, and that row is the one returned, not one it links to. Then 7 to 12 in order." Assumes nothing.
+-- decides, and that row is the one returned, not one it links to. Then 7 to 12 in order." 02, P2: "3 and 20 now begin at
+-- 1,024". What reads how many variables there are takes it as an argument (`-within`), so that the verdict within 256 is still
+-- a definition that theorems can speak of. Assumes nothing.
 use Prim.Native.Nat.{ℕ, zero, suc, _%_, _-_}
 use mathlib.Core.List.{List, [], _∷_, _++_}
 use mathlib.Core.Bool.{Bool, true, false, cond, not, _&&_, _||_}
@@ -38,7 +40,7 @@ abbrev pub member : ℕ → List ℕ → Bool
 member k [] = false
 member k (x ∷ xs) = eqb k x || member k xs
 
--- "128 to 255 are frozen"
+-- "128 to 255 are frozen"; 02, P2: "128 to 255 stay frozen"
 abbrev pub frozen : ℕ → Bool
 frozen v = leb 128 v && leb v 255
 
@@ -69,14 +71,17 @@ all-zero [] = true
 all-zero (z ∷ zs) = is-zero z && all-zero zs
 
 module _ (ws : List ℤ) where
-  -- 3: "variable number not 0 to 255, a mark's row not in the table"
+  -- 3: "variable number not 0 to 255, a mark's row not in the table", with a limit in place of 256
+  abbrev pub in-range-within : ℕ → List Field → Bool
+  in-range-within limit [] = true
+  in-range-within limit (value ∷ fs) = in-range-within limit fs
+  in-range-within limit (variable v ∷ fs) = ltb v limit && in-range-within limit fs
+  in-range-within limit (target v ∷ fs) = ltb v limit && in-range-within limit fs
+  in-range-within limit (loop m ∷ fs) = ltb m (rows ws) && in-range-within limit fs
+  in-range-within limit (link s r ∷ fs) = in-range-within limit fs
+
   abbrev pub in-range : List Field → Bool
-  in-range [] = true
-  in-range (value ∷ fs) = in-range fs
-  in-range (variable v ∷ fs) = ltb v variables && in-range fs
-  in-range (target v ∷ fs) = ltb v variables && in-range fs
-  in-range (loop m ∷ fs) = ltb m (rows ws) && in-range fs
-  in-range (link s r ∷ fs) = in-range fs
+  in-range = in-range-within variables
 
   -- 3: "or an unused field not 0"
   abbrev pub unused-zero : ℕ → ℕ → Bool
@@ -107,14 +112,17 @@ module _ (ws : List ℤ) where
   all-new seen (p ∷ ps) = not (member (p .at) seen) && all-new (p .at ∷ seen) ps
 
   -- the first fault of row r, or 0
-  unfoldable pub row-fault : ℕ → ℕ
-  row-fault r =
+  unfoldable pub row-fault-within : ℕ → ℕ → ℕ
+  row-fault-within limit r =
       let w = row ws r in
       cond (same-sort (sort-of w) Unknown) 2
-      (cond (not (in-range (fields w) && unused-zero r (length (fields w)))) 3
+      (cond (not (in-range-within limit (fields w) && unused-zero r (length (fields w)))) 3
       (cond (not (all-below r (parts w))) 4
       (cond (not (well-sorted (parts w))) 5
       (cond (not (all-new (linked r) (parts w))) 6 0))))
+
+  abbrev pub row-fault : ℕ → ℕ
+  row-fault = row-fault-within variables
 
   -- ---- 7: "last row is no script (that row); else the lowest row but the last that nothing links to". 01 calls such a row
   -- a loose part.
@@ -184,8 +192,11 @@ module _ (ws : List ℤ) where
   unfoldable pub length-test : Verdict
   length-test = cond (bad-length (length ws)) (refused 1 0) accepted
 
-  unfoldable pub row-test : Verdict
-  row-test = lowest row-fault (rows ws) 0
+  unfoldable pub row-test-within : ℕ → Verdict
+  row-test-within limit = lowest (row-fault-within limit) (rows ws) 0
+
+  abbrev pub row-test : Verdict
+  row-test = row-test-within variables
 
   unfoldable pub script-test : Verdict
   script-test = cond (same-sort (sort-of (row ws (rows ws - 1))) Script) accepted (refused 7 (rows ws - 1))
@@ -203,12 +214,15 @@ module _ (ws : List ℤ) where
   unfoldable pub nesting-test : Verdict
   nesting-test = cond (leb (nesting (tree ws .body)) 8) accepted (refused 10 0)
 
-  unfoldable pub verdict : Verdict
-  verdict =
+  unfoldable pub verdict-within : ℕ → Verdict
+  verdict-within limit =
       length-test
-      and-then row-test
+      and-then row-test-within limit
       and-then script-test
       and-then unlinked-test
       and-then target-test
       and-then reading-test
       and-then nesting-test
+
+  abbrev pub verdict : Verdict
+  verdict = verdict-within variables

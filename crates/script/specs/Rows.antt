@@ -146,9 +146,10 @@ links (link s r ∷ fs) = record { at = r; sort = s } ∷ links fs
 abbrev pub parts : Row → List Part
 parts w = links (fields w)
 
--- "2 variable | expression | number 0 to 255"
+-- how many variables there are. 01: "2 variable | expression | number 0 to 255"; 02, P2: "Numbers 256 to 1,023 become
+-- ordinary"
 abbrev pub variables : ℕ
-variables = 256
+variables = 1024
 
 -- ---- "A table is a lent run of 32-bit signed words, four to a row: kind, first, second, third. Rows count from 0; at most
 -- 2,048."

@@ -7,11 +7,15 @@ ghost use mathlib.Core.Path.{_≡_};
 ghost use Prim.Native.Nat.{ℕ, _+_, _*_, _<_, _≤_};
 ghost use lib.ListN.{length};
 ghost use Rattle.script.specs.Rows.{field-number, row-no, var-no, row-of, row, word};
+ghost use Rattle.script.specs.Refusals.{frozen};
 
 // A row number and a variable number are both small whole numbers: two types keep them apart.
 pub struct RowNumber(pub usize);
 
 pub struct VariableNumber(pub usize);
+
+// How many variables there are.
+pub const VARIABLES: usize = 1024;
 
 pub enum Operator {
     Plus,
@@ -115,6 +119,13 @@ pub fn field_number(w: i32) -> usize
     ensures { λ r. ⌜ r ≡ field-number w ⌝ }
 {
     if w < 0 { 4294967295 } else { w as usize }
+}
+
+// Whether a variable is a frozen name.
+pub fn is_frozen(v: usize) -> bool
+    ensures { λ r. ⌜ r ≡ frozen v ⌝ }
+{
+    if 128 <= v { v <= 255 } else { false }
 }
 
 // The number in field f of row r of a table; field 0 is the kind.

@@ -26,7 +26,7 @@ use Rattle.script.specs.Promise.{Valid}
 use Rattle.theorems.specs.Division.{division, only-division}
 use Rattle.smt.specs.Smt.{Symbol, Term, Claim, Division, Model, int, bool, assert, check-sat, Script, Satisfies, Satisfiable}
 use Rattle.text.specs.Decimal.{decimal, number, number-decimal}
-use Rattle.smt.specs.Translate.{Reference, variable, mark, name, constant-term, operate, compare, connective, term, claim, assertion, declarations, declared-references, references, script}
+use Rattle.smt.specs.Translate.{Reference, variable, mark, name, constant-term, operate, compare, connective, term, claim, assertion, declarations, declared-references, references, script, script-within}
 
 -- the state that the values of a model make
 abbrev pub state-of : Model → State
@@ -144,7 +144,7 @@ satisfied-declared M (r ∷ rs) cs h = satisfied-declared M rs cs h
 
 -- a model satisfies the script exactly where it makes the assertion true
 pub satisfies-iff : (M : Model) (f : Formula) → Satisfies M (script f) ↔ T (bool M (assertion f))
-unfolding script
+unfolding script-within
 satisfies-iff M f = (
   λ h. satisfied-declared M (declared-references (references f)) (assert (assertion f) ∷ check-sat ∷ []) h .0,
   λ t. declared-satisfied M (declared-references (references f)) (assert (assertion f) ∷ check-sat ∷ []) (t, tt),

@@ -15,7 +15,7 @@ use Rattle.script.specs.Listing.{row-limit}
 use Rattle.script.specs.WellFormed.{In-range, In-rangeᶠ}
 use Rattle.smt.specs.Smt.{Symbol, assert, check-sat, Script, declared, claim-symbols}
 use Rattle.text.specs.Decimal.{decimal, decimal-tells}
-use Rattle.smt.specs.Translate.{Reference, variable, mark, name, assertion, expr-references, references, occurring, declared-references, declarations, script}
+use Rattle.smt.specs.Translate.{Reference, variable, mark, name, assertion, expr-references, references, occurring, declared-references, declarations, script, script-within}
 use Rattle.smt.specs.Symbols.{Named-in, either, claim-within, claim-named}
 use Rattle.smt.specs.Once.{Once, once-append, in-map, map-in, once-map, rising-once}
 use Rattle.smt.specs.Occurring.{refers-in, in-refers, occurring-in, in-occurring, occurring-rising}
@@ -107,7 +107,7 @@ declared-after (r ∷ rs) cs = ap (λ (l : List Symbol). name r ∷ l) (declared
 
 -- variables, then marks
 pub declared-are : (f : Formula) → declared (script f) ≡ map name (declared-references (references f))
-unfolding script
+unfolding script-within
 declared-are f = declared-after (declared-references (references f)) (assert (assertion f) ∷ check-sat ∷ []) ∙ append-nil _
 
 pub declared-once : (f : Formula) → Once (declared (script f))

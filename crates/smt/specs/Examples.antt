@@ -11,7 +11,7 @@ use Rattle.script.specs.Syntax.{const, var, mark, arith, neg, Formula, truth, c
 use Rattle.text.specs.Ascii.{bytes}
 use Rattle.smt.specs.Smt.{set-logic, declare-const, check-sat}
 use Rattle.text.specs.Decimal.{digits, decimal}
-use Rattle.smt.specs.Translate.{term, claim, references, occurring, script}
+use Rattle.smt.specs.Translate.{term, claim, references, occurring, script, script-within}
 use Rattle.smt.specs.Text.{sexp-text, term-sexp, command-sexp, script-text}
 use Rattle.smt.specs.Sexp.{tokens, parse, sexps}
 use Rattle.smt.specs.Reader.{read-term, read-assertion, read-commands, read-script}
@@ -22,27 +22,27 @@ quotient = cmp Less (arith Div (var 128) (const (negsuc 4))) (mark 3)
 -- a negative divisor, a frozen name, a mark; "(assert (not F)) also where F is a not"
 quotient-text : script-text (script (not quotient)) ≡ bytes
     "(set-logic QF_NIA)\n(declare-const f128 Int)\n(declare-const m3 Int)\n(assert (not (not (< (ite (= (- 5) 0) 0 (div f128 (- 5))) m3))))\n(check-sat)\n"
-unfolding script-text script references occurring term claim command-sexp term-sexp sexp-text decimal digits
+unfolding script-text script-within references occurring term claim command-sexp term-sexp sexp-text decimal digits
 quotient-text = refl
 
 -- negate of 5 and the constant -5 are the same text, negate of -5 is not
 negated-text : script-text (script (cmp Unequal (neg (const (pos 5))) (neg (const (negsuc 4))))) ≡ bytes
     "(set-logic QF_NIA)\n(assert (not (distinct (- 5) (- (- 5)))))\n(check-sat)\n"
-unfolding script-text script references occurring term claim command-sexp term-sexp sexp-text decimal digits
+unfolding script-text script-within references occurring term claim command-sexp term-sexp sexp-text decimal digits
 negated-text = refl
 
 -- each name once, in rising number, variables first; the ends of 32 bits
 names-text : script-text (script (join Implies (truth true) (cmp Less (arith Mod (var 10) (mark 0)) (arith Mod (var 9) (const (negsuc 2147483647))))))
     ≡ bytes
     "(set-logic QF_NIA)\n(declare-const v9 Int)\n(declare-const v10 Int)\n(declare-const m0 Int)\n(assert (not (=> true (< (ite (= m0 0) v10 (mod v10 m0)) (ite (= (- 2147483648) 0) v9 (mod v9 (- 2147483648)))))))\n(check-sat)\n"
-unfolding script-text script references occurring term claim command-sexp term-sexp sexp-text decimal digits
+unfolding script-text script-within references occurring term claim command-sexp term-sexp sexp-text decimal digits
 names-text = refl
 
 -- other white space
 spaced-text : read-script (bytes
     "\t( set-logic\r\n QF_NIA )(declare-const f128 Int)(declare-const m3 Int)\n\n(assert(not(not(<(ite(=(- 5)0)0(div f128(- 5)))m3))))\n(check-sat)")
     ≡ some (script (not quotient))
-unfolding script references occurring term claim decimal digits tokens parse sexps read-term read-assertion read-commands read-script
+unfolding script-within references occurring term claim decimal digits tokens parse sexps read-term read-assertion read-commands read-script
 spaced-text = refl
 
 -- another order of declarations

@@ -16,7 +16,7 @@ use Rattle.script.specs.Syntax as Syntax
 use Rattle.text.specs.Ascii.{bytes}
 use Rattle.smt.specs.Smt.{Script, assert, check-sat}
 use Rattle.text.specs.Decimal.{digits, decimal}
-use Rattle.smt.specs.Translate.{Reference, variable, mark, name, term, claim, assertion, references, declared-references, declarations, script}
+use Rattle.smt.specs.Translate.{Reference, variable, mark, name, term, claim, assertion, references, declared-references, declarations, script, script-within}
 use Rattle.smt.specs.Text.{sexp-text, term-sexp, claim-sexp, command-sexp, script-text}
 
 unfoldable pub expr-text : Expr → List ℕ
@@ -139,7 +139,7 @@ declarations-pieces (r ∷ rs) cs =
 pub script-pieces : (f : Formula) → script-text (script f)
     ≡ bytes "(set-logic QF_NIA)\n" ++ (declarations-text (declared-references (references f))
     ++ (bytes "(assert (not " ++ (formula-text f ++ bytes "))\n(check-sat)\n")))
-unfolding script script-text command-sexp sexp-text formula-text term-sexp
+unfolding script-within script-text command-sexp sexp-text formula-text term-sexp
 script-pieces f =
     ap (λ (l : List ℕ). bytes "(set-logic QF_NIA)\n" ++ l)
     (declarations-pieces (declared-references (references f)) (assert (assertion f) ∷ check-sat ∷ [])

@@ -15,7 +15,7 @@ use Rattle.script.specs.Syntax.{Formula}
 use Rattle.theorems.specs.Truths.{pair}
 use Rattle.smt.specs.Smt.{Symbol, Command, set-logic, declare-const, assert, check-sat, Script, claim-symbols}
 use Rattle.text.specs.Decimal.{decimal, digit, all, decimal-digits, decimal-starts}
-use Rattle.smt.specs.Translate.{Reference, variable, mark, name, assertion, references, declared-references, declarations, script}
+use Rattle.smt.specs.Translate.{Reference, variable, mark, name, assertion, references, declared-references, declarations, script, script-within}
 use Rattle.smt.specs.Symbols.{Named-in, claim-within}
 use Rattle.smt.specs.Sexp.{Sexps, end, then, sexps}
 use Rattle.smt.specs.Reader.{as-bool, read-command, read-commands, read-assertion, read-script}
@@ -129,7 +129,7 @@ declarations-proper [] cs h = h
 declarations-proper (r ∷ rs) cs h = (name-proper r, declarations-proper rs cs h)
 
 pub script-proper : (f : Formula) → Proper (script f)
-unfolding script
+unfolding script-within
 script-proper f =
     (tt, declarations-proper (declared-references (references f)) (assert (assertion f) ∷ check-sat ∷ []) (assertion-proper f, (tt, tt)))
 

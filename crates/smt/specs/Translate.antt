@@ -115,9 +115,12 @@ occurring kind (suc n) rs = occurring kind n rs ++ cond (refers (kind n) rs) (n 
 
 -- ---- the script
 
--- "for each variable, then each mark, that occurs, in rising number"
+-- "for each variable, then each mark, that occurs, in rising number", where the variables are those below a limit
+abbrev pub declared-references-within : ℕ → List Reference → List Reference
+declared-references-within limit rs = map variable (occurring variable limit rs) ++ map mark (occurring mark row-limit rs)
+
 abbrev pub declared-references : List Reference → List Reference
-declared-references rs = map variable (occurring variable variables rs) ++ map mark (occurring mark row-limit rs)
+declared-references = declared-references-within variables
 
 abbrev pub declarations : List Reference → Script
 declarations [] = []
@@ -129,7 +132,10 @@ assertion f = not (claim f)
 
 -- "`(set-logic QF_NIA)`, `(declare-const v0 Int)` for each variable, then each mark, that occurs, in rising number, the
 -- negated condition asserted, `(check-sat)`"
-unfoldable pub script : Formula → Script
-script f =
+unfoldable pub script-within : ℕ → Formula → Script
+script-within limit f =
     set-logic (bytes "QF_NIA")
-    ∷ (declarations (declared-references (references f)) ++ (assert (assertion f) ∷ check-sat ∷ []))
+    ∷ (declarations (declared-references-within limit (references f)) ++ (assert (assertion f) ∷ check-sat ∷ []))
+
+abbrev pub script : Formula → Script
+script = script-within variables

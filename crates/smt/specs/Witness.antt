@@ -15,14 +15,14 @@ use Rattle.script.specs.Meaning.{State, whole, holds}
 use Rattle.script.specs.Run.{Total-correctness}
 use Rattle.script.specs.Rows.{row, row-of}
 use Rattle.script.specs.Trees.{expr, formula, stmt, expr-at, formula-at, stmt-at, tree, nesting}
-use Rattle.script.specs.Refusals.{lowest, row-fault, linked, misread, misreads, length-test, row-test, script-test, unlinked-test, target-test, reading-test, nesting-test, verdict}
-use Rattle.script.specs.Generated.{outcome-for, outcome}
+use Rattle.script.specs.Refusals.{lowest, row-fault-within, linked, misread, misreads, length-test, row-test-within, script-test, unlinked-test, target-test, reading-test, nesting-test, verdict-within}
+use Rattle.script.specs.Generated.{outcome-for, outcome, outcome-within}
 use Rattle.script.specs.Conditions.{conditions, walk, wp, subst-expr, subst-formula}
 use Rattle.script.specs.Words.{list-words, all-lines, line-words, expr-words, formula-words}
-use Rattle.script.specs.Listing.{read-expr, read-formula, spelled, found, line-before, lines-before, lines}
+use Rattle.script.specs.Listing.{read-expr-within, read-formula-within, spelled-within, found-within, line-before-within, lines-before-within, lines-within}
 use Rattle.text.specs.Ascii.{bytes}
 use Rattle.text.specs.Decimal.{digits, decimal}
-use Rattle.smt.specs.Translate.{term, claim, references, occurring, script}
+use Rattle.smt.specs.Translate.{term, claim, references, occurring, script, script-within}
 use Rattle.smt.specs.Text.{sexp-text, term-sexp, command-sexp, script-text}
 use Rattle.smt.specs.Written.{written}
 use Rattle.smt.specs.Verdicts.{Unsatisfiable-text, text-valid-iff}
@@ -41,18 +41,18 @@ valid s = tt
 
 answered : (outcome four-rows 7 14 .answer .number ≡ 0) × (outcome four-rows 7 14 .answer .conditions ≡ 1)
     × (take (outcome four-rows 7 14 .answer .words) (outcome four-rows 7 14 .list) ≡ words)
-unfolding words four-rows _⨾_ outcome outcome-for verdict length-test row-test script-test unlinked-test target-test reading-test nesting-test lowest row-fault linked misread misreads nesting row row-of expr formula stmt expr-at formula-at stmt-at tree conditions walk wp subst-expr subst-formula list-words all-lines line-words expr-words formula-words
+unfolding words four-rows _⨾_ outcome-within outcome-for verdict-within length-test row-test-within script-test unlinked-test target-test reading-test nesting-test lowest row-fault-within linked misread misreads nesting row row-of expr formula stmt expr-at formula-at stmt-at tree conditions walk wp subst-expr subst-formula list-words all-lines line-words expr-words formula-words
 answered = (refl, refl, refl)
 
 text : List ℕ
 text = bytes "(set-logic QF_NIA)\n(assert (not (=> true true)))\n(check-sat)\n"
 
 wrote : (written words (pos 0) 61 .number ≡ 0) × (take (written words (pos 0) 61 .used) (written words (pos 0) 61 .buffer) ≡ text)
-unfolding words text row-of expr-words read-expr read-formula spelled found line-before lines-before lines decimal digits term claim references occurring script sexp-text term-sexp command-sexp script-text written
+unfolding words text row-of expr-words read-expr-within read-formula-within spelled-within found-within line-before-within lines-before-within lines-within decimal digits term claim references occurring script-within sexp-text term-sexp command-sexp script-text written
 wrote = (refl, refl)
 
 meant : script-text (script main) ≡ text
-unfolding main text row-of expr-words read-expr read-formula spelled found line-before lines-before lines decimal digits term claim references occurring script sexp-text term-sexp command-sexp script-text written
+unfolding main text row-of expr-words read-expr-within read-formula-within spelled-within found-within line-before-within lines-before-within lines-within decimal digits term claim references occurring script-within sexp-text term-sexp command-sexp script-text written
 meant = refl
 
 refuted : (i : ℕ) → i < 1 → Refuted words i

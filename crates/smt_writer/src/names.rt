@@ -2,6 +2,7 @@
 // name: variables first, then marks.
 
 use script::RowNumber;
+use script::VARIABLES;
 use script::VariableNumber;
 use script::field_number;
 use script::kinds;
@@ -19,23 +20,13 @@ ghost use Rattle.smt.specs.Pieces.{declaration-text, declarations-text};
 ghost use Rattle.smt_writer.specs.Nodes.{Spells, Spelled};
 ghost use Rattle.smt_writer.specs.Noted.{names, reference-at, noted, past, top-of, declared-if, declared-below};
 
-// How many variables there are.
-const VARIABLES: usize = 256;
-
 // How many names: variables and marks.
-const NAMES: usize = 2304;
+const NAMES: usize = VARIABLES + 2048;
 
-// Frozen names are those from 128 to 255.
 fn letter_of(v: VariableNumber) -> u8
     ensures { λ r. ⌜ r ≡ letter (variable (v .0)) ⌝ }
 {
-    if v.0 < 128 {
-        b'v'
-    } else if 255 < v.0 {
-        b'v'
-    } else {
-        b'f'
-    }
+    if script::is_frozen(v.0) { b'f' } else { b'v' }
 }
 
 pub fn write_variable(text: &mut [u8], at: usize, v: VariableNumber) -> usize

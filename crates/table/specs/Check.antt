@@ -9,7 +9,7 @@ use native.Mathlib.Omega.{arith as linear}
 use lib.IntN.{ℤ}
 use lib.ListN.{length}
 use Rattle.script.specs.Rows.{fields, row, rows}
-use Rattle.script.specs.Refusals.{Verdict, _and-then_, accepted, refused, bad-length, in-range, unused-zero, row-fault, length-test, row-test, script-test, unlinked-test, target-test, reading-test, nesting-test, verdict}
+use Rattle.script.specs.Refusals.{Verdict, _and-then_, accepted, refused, bad-length, in-range, unused-zero, row-fault, length-test, row-test, row-test-within, script-test, unlinked-test, target-test, reading-test, nesting-test, verdict, verdict-within}
 use Rattle.theorems.specs.Lowest.{lowest-accepts}
 use Rattle.script.specs.Trees.{tree, nesting}
 use Rattle.theorems.specs.Accepted.{Sound-row, sound-row, sound-length, both}
@@ -24,7 +24,7 @@ pub sized : (t : List ℤ) {q : Bool} → q ≡ bad-length (length t) → q ≡ 
 sized t e h = let s = sound-length (length t) (sym e ∙ h) in record { filled = s .filled; fours = s .fours; short = s .short }
 
 pub sound : {t : List ℤ} → Sized t → row-test t ≡ accepted → Sound t
-unfolding row-test
+unfolding row-test-within
 sound {t} z h =
     let r : (k : ℕ) → k < rows t → Sound-row t k = λ k l. sound-row t k (lowest-accepts (row-fault t) (rows t) 0 .0 h k (omega linear) (omega linear)) in
     record {
@@ -57,11 +57,11 @@ names-together t = go (target-test t)
 
 module _ (t : List ℤ) {q : Bool} (e : q ≡ bad-length (length t)) where
   pub short-refused : q ≡ true → verdict t ≡ refused 1 0
-  unfolding verdict length-test
+  unfolding verdict-within length-test
   short-refused h = rw (← e, h)
 
   pub length-passed : q ≡ false → verdict t ≡ from-rows t
-  unfolding verdict length-test
+  unfolding verdict-within length-test
   length-passed h = rw (← e, h, names-together t)
 
 -- ---- a test that accepts leaves the verdict to the others, and one that refuses gives it

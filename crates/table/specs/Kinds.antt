@@ -6,7 +6,7 @@ use mathlib.Core.Bool.{Bool, true, false, cond, _&&_, _||_}
 use mathlib.Core.List.{List}
 use native.Mathlib.Omega.{arith as linear}
 use borrow.Author.Tests.{ne-eqb}
-use lib.Dec.{eqb, leb}
+use lib.Dec.{eqb}
 use lib.IntN.{ℤ}
 use Rattle.script.specs.declared.ExpressionRow.{ExpressionRow}
 use Rattle.script.specs.declared.ExpressionRow.the-variants.{Constant, Variable, Arithmetic, Negate, Mark, Choose}
@@ -23,7 +23,7 @@ use Rattle.rows.specs.Patterns.{_also_, any-kind}
 -- a mark, or a frozen name that is read
 abbrev expression-named : ExpressionRow → Bool
 expression-named (Constant z) = false
-expression-named (Variable v) = leb 128 (v .0)
+expression-named (Variable v) = frozen (v .0)
 expression-named (Arithmetic o a b) = false
 expression-named (Negate a) = false
 expression-named (Mark m) = true
@@ -32,7 +32,7 @@ expression-named (Choose f a b) = false
 -- an assignment to a frozen name
 abbrev statement-named : StatementRow → Bool
 statement-named Skip = false
-statement-named (Assign v e) = leb 128 (v .0)
+statement-named (Assign v e) = frozen (v .0)
 statement-named (Sequence a b) = false
 statement-named (If b x y) = false
 statement-named (While b i x) = false
@@ -66,7 +66,7 @@ row-nesting D Row.Unknown = 0
 -- ---- the same by the number n of the kind, where a, b and c are the numbers in the fields
 
 abbrev pub kind-named : ℕ → ℕ → Bool
-kind-named n a = eqb n 9 || ((eqb n 2 || eqb n 33) && leb 128 a)
+kind-named n a = eqb n 9 || ((eqb n 2 || eqb n 33) && frozen a)
 
 abbrev pub kind-assigns : ℕ → ℕ → Bool
 kind-assigns n a = cond (eqb n 33) (frozen a || false) false

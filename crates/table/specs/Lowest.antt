@@ -13,7 +13,7 @@ use lib.Dec.{eqb, ltb}
 use lib.ListN.{length, getD}
 use lib.IntN.{ℤ}
 use Rattle.script.specs.Rows.{field-number, fields, rows, row, word}
-use Rattle.script.specs.Refusals.{bad-length, Verdict, accepted, refused, lowest, assigns-frozen, linked, unlinked-fault, target-fault, row-fault, row-test, script-test, unlinked-test, target-test}
+use Rattle.script.specs.Refusals.{bad-length, Verdict, accepted, refused, lowest, assigns-frozen, linked, unlinked-fault, target-fault, row-fault, row-test, row-test-within, script-test, unlinked-test, target-test}
 use Rattle.table.specs.declared.Verdict.{Verdict as Answer}
 use Rattle.table.specs.declared.Verdict.the-variants as Answer
 use Rattle.table.specs.Verdicts.{verdict-of}
@@ -88,11 +88,11 @@ rows-more {i} a h d e = record { reached = reached-more (a .reached) h (sym (d .
 
 pub rows-refused : {t : List ℤ} {i f : ℕ} {s s′ : List ℕ} → Rows-at t i s → i < rows t → Tested t i f s′ → f ≢ 0
     → Rows-tested t (Answer.Refused f (record { 0 = i })) s′
-unfolding row-test
+unfolding row-test-within
 rows-refused {i} a h d e = record { is = ap (λ (k : ℕ). refused k i) (d .is) ∙ reached-fault (a .reached) h (λ z. e (d .is ∙ z)); shown = clash }
 
 pub rows-accepted : {t : List ℤ} {i : ℕ} {s : List ℕ} → Rows-at t i s → rows t ≤ i → Rows-tested t Answer.Accepted s
-unfolding row-test
+unfolding row-test-within
 rows-accepted {t} {i} {s} a h =
     let w = a .reached .within in
     let e : i ≡ rows t = omega linear in

@@ -8,15 +8,16 @@ use mathlib.Core.List.{List, [], _∷_}
 use native.Mathlib.Omega.{arith as linear}
 use native.Mathlib.Decide.{decLt, ℕ-discrete}
 use native.Mathlib.Numerals.{add-one}
-use borrow.Author.Tests.{eq-eqb, eqb-true, le-leb, ne-eqb}
-use lib.Dec.{eqb, leb}
+use borrow.Author.Tests.{eq-eqb, eqb-true, ne-eqb}
+use lib.Dec.{eqb}
 use lib.IntN.{ℤ}
 use lib.ListN.{replicate}
 use Rattle.script.specs.Rows.{field-number, rows, word}
 use Rattle.script.specs.declared.Row.{Row}
-use Rattle.script.specs.Refusals.{_and-then_, accepted, refused, member, misreads, reading-fault, reading-test, row-test, target-fault, target-test}
+use Rattle.script.specs.Refusals.{_and-then_, accepted, refused, frozen, member, misreads, reading-fault, reading-test, row-test, target-fault, target-test}
 use Rattle.theorems.specs.Lowest.{lowest-accepts}
 use Rattle.theorems.specs.Misplaced.{misread-iff}
+use Rattle.theorems.specs.Occasions.{frozen-iff}
 use Rattle.theorems.specs.Standing.{Wrong, frozen-in-code, mark-in-code, mark-outside}
 use Rattle.table.specs.Seen.{shows-none}
 use Rattle.rows.specs.States.{Sized}
@@ -90,7 +91,7 @@ module _ {t : List ℤ} {m : ℕ} {s : List Bool} (z : Sized t) (d : Misread t (
 -- ---- without marks and frozen names 8 and 9 pass
 
 wrong-named : {code : Bool} {inside : List ℕ} {w : Row} → Wrong code inside w → named w ≡ true
-wrong-named (frozen-in-code {v} c l h) = le-leb 128 (v .0) l
+wrong-named (frozen-in-code {v} c l h) = frozen-iff (v .0) .1 (l, h)
 wrong-named (mark-in-code c) = refl
 wrong-named (mark-outside n) = refl
 
@@ -98,7 +99,7 @@ unassigned : (n a : ℕ) → kind-named n a ≡ false → kind-assigns n a ≡ f
 unassigned n a h = go (ℕ-discrete n 33)
   where
     go : Dec (n ≡ 33) → kind-assigns n a ≡ false
-    go (yes e) = let f : leb 128 a ≡ false = rw e at h in rw (e, f)
+    go (yes e) = let f : frozen a ≡ false = rw e at h in rw (e, f)
     go (no d) = rw (ne-eqb n 33 d)
 
 module _ (t : List ℤ) (ok : row-test t ≡ accepted) (none : Nameless t) where

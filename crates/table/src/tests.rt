@@ -8,7 +8,7 @@ ghost use mathlib.Core.Bool.{Bool, _&&_, _||_};
 ghost use Prim.Native.Nat.{ℕ, _-_};
 ghost use lib.ListN.{length};
 ghost use Rattle.script.specs.Rows.{rows};
-ghost use Rattle.script.specs.Refusals.{bad-length, frozen, linked, unlinked-test, script-test, target-test};
+ghost use Rattle.script.specs.Refusals.{bad-length, linked, unlinked-test, script-test, target-test};
 ghost use Rattle.rows.specs.States.{Sized, States};
 ghost use Rattle.table.specs.Kinds.{kind-assigns, kind-named};
 ghost use Rattle.table.specs.Verdicts.{verdict-of};
@@ -92,7 +92,7 @@ fn is_named(kind: usize, a: usize) -> bool
 {
     let frozen = both(
         either(kind == kinds::VARIABLE, kind == kinds::ASSIGN),
-        128 <= a,
+        script::is_frozen(a),
     );
     either(kind == kinds::MARK, frozen)
 }
@@ -113,18 +113,12 @@ pub fn any_named(table: &[i32]) -> bool
     found
 }
 
-pub fn is_frozen(v: usize) -> bool
-    ensures { λ r. ⌜ r ≡ frozen v ⌝ }
-{
-    both(128 <= v, v <= 255)
-}
-
 // Whether a row of this kind, with this number in its first field, assigns to a frozen name.
 fn assigns_frozen(kind: usize, a: usize) -> bool
     ensures { λ r. ⌜ r ≡ kind-assigns kind a ⌝ }
 {
     if kind == kinds::ASSIGN {
-        is_frozen(a)
+        script::is_frozen(a)
     } else {
         false
     }

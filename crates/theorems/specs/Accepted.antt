@@ -19,7 +19,7 @@ use Rattle.script.specs.Rows.{row, rows, fields, parts, sort-of}
 use Rattle.script.specs.Trees.{tree, nesting}
 pub use Rattle.theorems.specs.Truths.{both}
 use Rattle.theorems.specs.Lowest.{lowest-accepts}
-use Rattle.script.specs.Refusals.{Verdict, accepted, refused, _and-then_, lowest, member, bad-length, same-sort, in-range, unused-zero, all-below, well-sorted, all-new, linked, row-fault, unlinked-fault, assigns-frozen, target-fault, misreads, reading-fault, length-test, row-test, script-test, unlinked-test, target-test, reading-test, nesting-test, verdict}
+use Rattle.script.specs.Refusals.{Verdict, accepted, refused, _and-then_, lowest, member, bad-length, same-sort, in-range, unused-zero, all-below, well-sorted, all-new, linked, row-fault, row-fault-within, unlinked-fault, assigns-frozen, target-fault, misreads, reading-fault, length-test, row-test, row-test-within, script-test, unlinked-test, target-test, reading-test, nesting-test, verdict, verdict-within}
 
 pub record Accepted (t : List ℤ) : Type 0 where
   pub filled : 0 < rows t
@@ -78,7 +78,7 @@ pub record Sound-row (t : List ℤ) (k : ℕ) : Type 0 where
   pub new : T (all-new t (linked t k) (parts (row t k)))
 
 pub sound-row : (t : List ℤ) (k : ℕ) → row-fault t k ≡ 0 → Sound-row t k
-unfolding row-fault
+unfolding row-fault-within
 sound-row t k h =
     let a = known (same-sort (sort-of (row t k)) Unknown) 1 _ h in
     let b = fault-free (in-range t (fields (row t k)) && unused-zero t k (length (fields (row t k)))) 2 _ a in
@@ -124,7 +124,7 @@ pub record Tests (t : List ℤ) : Type 0 where
   pub nesting : nesting-test t ≡ accepted
 
 pub all-tests : (t : List ℤ) → verdict t ≡ accepted → Tests t
-unfolding verdict
+unfolding verdict-within
 all-tests t h =
     let a = both-accept (length-test t) _ h in
     let b = both-accept (row-test t) _ (a .1) in
@@ -135,7 +135,7 @@ all-tests t h =
     record { length = a .0; row = b .0; script = c .0; unlinked = d .0; target = e .0; reading = f .0; nesting = f .1 }
 
 pub passed : (t : List ℤ) → verdict t ≡ accepted → Accepted t
-unfolding length-test row-test script-test unlinked-test target-test reading-test nesting-test
+unfolding length-test row-test-within script-test unlinked-test target-test reading-test nesting-test
 passed t h =
     let s = all-tests t h in
     let l = sound-length (length t) (pass-false (bad-length (length t)) 1 0 (s .length)) in

@@ -24,9 +24,9 @@ use Rattle.script.specs.Words.{list-words, all-lines, line-words, expr-words, f
 use Rattle.script.specs.Laws.{pos-inj}
 use Rattle.script.specs.Rows.{rows, row, row-of}
 use Rattle.script.specs.Trees.{expr, formula, stmt, expr-at, formula-at, stmt-at, tree, nesting}
-use Rattle.script.specs.Refusals.{accepted, lowest, row-fault, linked, misread, misreads, length-test, row-test, script-test, unlinked-test, target-test, reading-test, nesting-test, verdict}
-use Rattle.script.specs.Generated.{Outcome, zeros, scratch-need, outcome-for, outcome}
-use Rattle.script.specs.Listing.{Found, guarded, read-expr, read-formula, spelled, found, line-before, lines-before, lines, read-list}
+use Rattle.script.specs.Refusals.{accepted, lowest, row-fault-within, linked, misread, misreads, length-test, row-test-within, script-test, unlinked-test, target-test, reading-test, nesting-test, verdict, verdict-within}
+use Rattle.script.specs.Generated.{Outcome, zeros, scratch-need, outcome-for, outcome, outcome-within}
+use Rattle.script.specs.Listing.{Found, guarded, read-expr-within, read-formula-within, spelled-within, found-within, line-before-within, lines-before-within, lines-within, read-list}
 use Rattle.script.specs.Promise.{All-valid, List-valid, Demand-3}
 use Rattle.script.specs.Computed.{_⨾_, example, example-a, loops-in-sequence, zero-state}
 use Rattle.theorems.specs.Options.{none-is-not, some-inj}
@@ -156,7 +156,7 @@ record Facts : Type 0 where
   first-read : read-list (true-words 11) ≡ some (true-condition 11 ∷ [])
 
 facts : Facts
-unfolding zero-state first-conditions first-only first-part false-assertion false-body example-a example loops-in-sequence _⨾_ outcome outcome-for verdict length-test row-test script-test unlinked-test target-test reading-test nesting-test lowest row-fault linked misread misreads row row-of expr formula stmt expr-at formula-at stmt-at tree nesting conditions walk wp subst-expr subst-formula list-words all-lines line-words expr-words formula-words value holds after step step-of first-step test read-expr read-formula spelled found line-before lines-before lines read-list
+unfolding zero-state first-conditions first-only first-part false-assertion false-body example-a example loops-in-sequence _⨾_ outcome-within outcome-for verdict-within length-test row-test-within script-test unlinked-test target-test reading-test nesting-test lowest row-fault-within linked misread misreads row row-of expr formula stmt expr-at formula-at stmt-at tree nesting conditions walk wp subst-expr subst-formula list-words all-lines line-words expr-words formula-words value holds after step step-of first-step test read-expr-within read-formula-within spelled-within found-within line-before-within lines-before-within lines-within read-list
 facts = record {
   example-accepted = refl;
   example-need = lit≤ tt;
@@ -280,7 +280,7 @@ zero-word (suc w) (suc l) zero = refl
 zero-word (suc w) (suc l) (suc k) = zero-word w l k
 
 no-list : (ws : List ℤ) → getD ws (length ws - 1) (pos 0) ≡ pos 0 → read-list ws ≡ none
-unfolding read-list lines
+unfolding read-list lines-within
 no-list ws h = rw (h, neither)
   where
     neither : (b : Bool) → guarded {A = List Found} b none ≡ none

@@ -14,7 +14,7 @@ use borrow.Author.Tests.{eqb-true, ltb-false, le-ltb}
 use Rattle.script.specs.declared.Row.{Row}
 use Rattle.script.specs.declared.Sort.the-variants.{Unknown}
 use Rattle.script.specs.Rows.{Field, value, variable, target, loop, link, Part, fields, sort-of, parts, variables, rows, row, word}
-use Rattle.script.specs.Refusals.{same-sort, is-zero, all-zero, linked, in-range, unused-zero, all-below, well-sorted, all-new, row-fault}
+use Rattle.script.specs.Refusals.{same-sort, is-zero, all-zero, linked, in-range, unused-zero, all-below, well-sorted, all-new, row-fault, row-fault-within}
 use Rattle.theorems.specs.Tests.{either, not-iff, false-iff, and-false, sort-iff}
 use Rattle.theorems.specs.Links.{Shared, shared-iff}
 
@@ -113,7 +113,7 @@ module _ (ws : List ℤ) (r : ℕ) where
   Fault = Else (Unlisted ws r) 2 from-3
 
   pub row-faults : (k : ℕ) → (row-fault ws r ≡ k) ↔ Fault k
-  unfolding row-fault
+  unfolding row-fault-within
   row-faults k =
       chosen from-3 (same-sort (sort-of w) Unknown) 2 _ k (sort-iff (sort-of w) Unknown)
       (chosen from-4 (not (in-range ws (fields w) && unused)) 3 _ k (Iff·trans (not-iff (in-range ws (fields w) && unused)) ranges)

@@ -33,6 +33,8 @@ pub mod Spelling
 pub mod Line
 pub mod ReadBack
 pub mod Lookup
+pub mod StoredTables
+pub mod StoredLists
 pub mod Nesting
 pub mod RowPaths
 pub mod Outcomes

@@ -19,7 +19,7 @@ use Rattle.script.specs.Rows.{field-number}
 use Rattle.script.specs.Conditions.{Condition}
 use Rattle.script.specs.Words.{formula-words, rule-number, trailer, line-words}
 use Rattle.script.specs.WellFormed.{In-rangeᶠ}
-use Rattle.script.specs.Listing.{below, rule-of, Found, found, line-before, spelled, row-limit}
+use Rattle.script.specs.Listing.{below, rule-of, Found, found, found-within, line-before, line-before-within, spelled, row-limit}
 use Rattle.theorems.specs.Options.{none-is-not, some-inj, went-on, held}
 use Rattle.theorems.specs.Spelling.{spelled-words, spelled-only}
 
@@ -44,7 +44,7 @@ found-back : (front tail : List ℤ) (c : Condition) → c .row < row-limit → 
     → (n : ℕ) → n ≡ length (formula-words (c .claim))
     → found (front ++ (formula-words (c .claim) ++ tail)) (length front + n) (pos (rule-number (c .rule))) (pos (c .row)) (pos n)
     ≡ some (place (length front) c)
-unfolding found
+unfolding found-within
 found-back front tail c h r n e =
     let start : length front + n - n ≡ length front = omega linear in
     let low = lt-ltb (c .row) row-limit h in
@@ -54,7 +54,7 @@ found-back front tail c h r n e =
 -- the trailer is the three words before the end
 line-before-is : (ws : List ℤ) (m : ℕ) → m + 3 ≤ length ws
     → line-before ws (m + 3) ≡ found ws m (getD ws m (pos 0)) (getD ws (m + 1) (pos 0)) (getD ws (m + 2) (pos 0))
-unfolding line-before
+unfolding line-before-within
 line-before-is ws m h =
     let first : m + 3 - 3 ≡ m = omega linear in
     let second : m + 3 - 2 ≡ m + 1 = omega linear in
@@ -121,7 +121,7 @@ record Read-from (ws : List ℤ) (e : ℕ) (k r n : ℤ) (f : Found) : Type 0 wh
   range : In-rangeᶠ (f .condition .claim)
 
 found-only : (ws : List ℤ) (e : ℕ) (k r n : ℤ) (f : Found) → e ≤ length ws → found ws e k r n ≡ some f → Read-from ws e k r n f
-unfolding found
+unfolding found-within
 found-only ws e k r n f l q =
     let rule = went-on (rule-of (field-number k)) _ q in
     let row = went-on (below row-limit r) _ (rule .2) in
@@ -179,7 +179,7 @@ line-from ws m f l q =
     }
 
 pub line-only : (ws : List ℤ) (e : ℕ) (f : Found) → line-before ws e ≡ some f → Line-ends ws e f
-unfolding line-before
+unfolding line-before-within
 line-only ws e f q =
     let tests = and-eq-true-iff (leb 3 e) (leb e (length ws)) .0 (held (leb 3 e && leb e (length ws)) _ q .0) in
     let low = leb-true 3 e (tests .0) in

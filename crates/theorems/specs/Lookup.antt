@@ -14,7 +14,7 @@ use Rattle.script.specs.declared.Line.{Line}
 use Rattle.script.specs.Conditions.{Condition}
 use Rattle.script.specs.Words.{formula-words, trailer, line-words, all-lines, list-words}
 use Rattle.script.specs.WellFormed.{In-rangeᶠ, All-in-range, Well-formed}
-use Rattle.script.specs.Listing.{Found, line-before, lines-before, lines, read-list}
+use Rattle.script.specs.Listing.{Found, line-before, line-before-within, lines-before, lines-before-within, lines, read-list}
 use Rattle.script.specs.Listing.{no-line, line, line-of, line-at, part-at, malformed-place, first-place, step-back, next-place}
 use Rattle.theorems.specs.Options.{none-is-not, some-inj, went-on, stopped}
 use Rattle.theorems.specs.Line.{place, slice-part}
@@ -112,16 +112,16 @@ walk-back ws (suc n) e = step-back ws e ∷ walk-back ws n (next-place ws e)
 
 -- no condition ends at 0 or at 1: the reader stays there, and gives the same answer again
 none-at-front : (ws : List ℤ) → line-before ws 0 ≡ none
-unfolding line-before
+unfolding line-before-within
 none-at-front ws = refl
 
 stays-at-front : (ws : List ℤ) (n : ℕ) → walk-back ws n 0 ≡ replicate n (no-line 21)
-unfolding walk-back step-back next-place line-before
+unfolding walk-back step-back next-place line-before-within
 stays-at-front ws zero = refl
 stays-at-front ws (suc n) = ap (λ l. no-line 21 ∷ l) (stays-at-front ws n)
 
 stays-malformed : (ws : List ℤ) (n : ℕ) → walk-back ws n malformed-place ≡ replicate n (no-line 20)
-unfolding walk-back step-back next-place line-before
+unfolding walk-back step-back next-place line-before-within
 stays-malformed ws zero = refl
 stays-malformed ws (suc n) = ap (λ l. no-line 20 ∷ l) (stays-malformed ws n)
 
@@ -143,7 +143,7 @@ one-back ws n e f fs p h =
     rw (steps, answers, reverse-append (map line fs) (line f ∷ []), one-step ws (length fs + n) e f p, h)
 
 walked : (ws : List ℤ) (m n e : ℕ) (fs : List Found) → lines-before ws m e ≡ some fs → Walked ws n e fs
-unfolding lines-before
+unfolding lines-before-within
 walked ws zero n zero fs q = subst (λ x. Walked ws n 0 x) (some-inj q) (rw (zero-add n))
 walked ws zero n (suc e) fs q = none-is-not q
 walked ws (suc m) n e fs q =

@@ -29,11 +29,11 @@ module _ (fault : ℕ → ℕ) where
     none : Faultless fault n r → Outcome n r accepted
     first : {k q : ℕ} → First-fault fault n r k q → Outcome n r (refused k q)
 
-  passed : (n r : ℕ) → fault r ≡ 0 → lowest fault (suc n) r ≡ lowest fault n (suc r)
+  pub passed : (n r : ℕ) → fault r ≡ 0 → lowest fault (suc n) r ≡ lowest fault n (suc r)
   unfolding lowest
   passed n r h = rw (eq-eqb (fault r) 0 h, lowest)
 
-  stopped : (n r : ℕ) → fault r ≢ 0 → lowest fault (suc n) r ≡ refused (fault r) r
+  pub stopped : (n r : ℕ) → fault r ≢ 0 → lowest fault (suc n) r ≡ refused (fault r) r
   unfolding lowest
   stopped n r h = rw (ne-eqb (fault r) 0 h, lowest)
 

@@ -10,7 +10,7 @@ use mathlib.Core.List.{List, []}
 use mathlib.Core.Bool.{Bool, true, false, false≢true}
 use lib.IntN.{ℤ}
 use Rattle.script.specs.Rows.{Part, parts, rows, row}
-use Rattle.script.specs.Refusals.{accepted, member, row-fault, misread, misreads, reading-fault, row-test, reading-test}
+use Rattle.script.specs.Refusals.{accepted, member, row-fault, misread, misreads, reading-fault, row-test, row-test-within, reading-test}
 use Rattle.theorems.specs.Lowest.{Says, Lowest, lowest-with, lowest-accepts, where-true}
 use Rattle.theorems.specs.Links.{Link, here, there}
 use Rattle.theorems.specs.Faults.{Some, Rising-link, whole-row}
@@ -44,7 +44,7 @@ link-falls r (there l) f = link-falls r l (λ s. f (inr s))
 
 module _ (ws : List ℤ) (ok : row-test ws ≡ accepted) (q : ℕ) (in-table : q < rows ws) where
   falls : (r : ℕ) → r < rows ws → ¬ Rising-link ws r
-  unfolding row-test
+  unfolding row-test-within
   falls r h = whole-row ws r .0 (lowest-accepts (row-fault ws) (rows ws) 0 .0 ok r (omega arith) (omega arith)) .0 .falls
 
   -- a bound that reaches below row r, with which what is found at r or below is found in the script

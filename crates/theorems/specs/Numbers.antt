@@ -14,7 +14,7 @@ use lib.Dec.{eqb, ltb, leb}
 use borrow.Author.Tests.{eqb-true, eqb-false, eq-eqb, ne-eqb, ltb-true, lt-ltb, leb-false, lt-leb}
 use Rattle.script.specs.Rows.{rows, row}
 use Rattle.script.specs.Trees.{tree, nesting}
-use Rattle.script.specs.Refusals.{Verdict, accepted, refused, _and-then_, bad-length, row-fault, length-test, row-test, script-test, unlinked-test, target-test, reading-test, nesting-test, verdict}
+use Rattle.script.specs.Refusals.{Verdict, accepted, refused, _and-then_, bad-length, row-fault, length-test, row-test, row-test-within, script-test, unlinked-test, target-test, reading-test, nesting-test, verdict, verdict-within}
 use Rattle.theorems.specs.Lowest.{Says, Lowest, First-fault, lowest-refuses}
 use Rattle.theorems.specs.Tests.{either, not-iff, or-iff, turned}
 use Rattle.theorems.specs.Faults.{Fault, row-faults}
@@ -81,7 +81,7 @@ pub record Faulty-row (ws : List ℤ) (k r : ℕ) : Type 0 where
   pub lower : (j : ℕ) → j < r → Fault ws j 0
 
 pub row-says : (ws : List ℤ) → Says (row-test ws) (Faulty-row ws)
-unfolding row-test
+unfolding row-test-within
 row-says ws k r = Iff·trans (lowest-refuses (row-fault ws) (rows ws) 0 k r) (out, back)
   where
     out : First-fault (row-fault ws) (rows ws) 0 k r → Faulty-row ws k r
@@ -125,7 +125,7 @@ regroup accepted b c = refl
 regroup (refused k r) b c = refl
 
 pub refusal-numbers : (ws : List ℤ) → Says (verdict ws) (Occasion ws)
-unfolding verdict
+unfolding verdict-within
 refusal-numbers ws =
     then-says (length-test ws) (row-test ws and-then rest) (length-says ws)
     (λ e. then-says (row-test ws) rest (row-says ws)

@@ -21,6 +21,12 @@ module _ {A B : Type 0} where
   went-on none f e = none-is-not e
   went-on (some a) f e = (a, refl, e)
 
+  -- what is done with what was found is replaced
+  pub goes-on : (o : Option A) {f g : A → Option B} {b : B} → (o >>= f) ≡ some b → ((a : A) → f a ≡ some b → g a ≡ some b)
+      → (o >>= g) ≡ some b
+  goes-on none e h = none-is-not e
+  goes-on (some a) e h = h a e
+
   -- nothing was found, where it would have been answered
   pub stopped : (o : Option A) (f : A → B) → _≡_ {A = Option B} (o >>= λ a. some (f a)) none → o ≡ none
   stopped none f e = refl

@@ -14,7 +14,7 @@ use Rattle.script.specs.Conditions.{conditions}
 use Rattle.script.specs.Words.{list-words}
 use Rattle.script.specs.Trees.{tree}
 use Rattle.script.specs.Refusals.{Verdict, accepted, refused, verdict}
-use Rattle.script.specs.Generated.{Outcome, refuse, plan, room, scratch-need, outcome-for, outcome}
+use Rattle.script.specs.Generated.{Outcome, refuse, plan, room, scratch-need, outcome-for, outcome, outcome-within}
 use Rattle.theorems.specs.Numbers.{one-to-ten}
 
 module _ (P : Outcome → Type 0) (table : List ℤ) (list scratch : ℕ) (refusals : (n r : ℕ) → n ≢ 0 → P (refuse n r list scratch))
@@ -32,5 +32,5 @@ module _ (P : Outcome → Type 0) (table : List ℤ) (list scratch : ℕ) (refus
   of-verdict (refused n r) h = refusals n r (λ e. let k = one-to-ten table n r h in omega linear)
 
   pub outcome-cases : P (outcome table list scratch)
-  unfolding outcome
+  unfolding outcome-within
   outcome-cases = of-verdict (verdict table) refl

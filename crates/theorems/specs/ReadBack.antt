@@ -18,7 +18,7 @@ use borrow.Author.Tests.{lt-ltb, ltb-true, le-leb, leb-true}
 use Rattle.script.specs.Conditions.{Condition}
 use Rattle.script.specs.Words.{line-words, all-lines, list-words}
 use Rattle.script.specs.WellFormed.{In-rangeᶠ, All-in-range, Well-formed}
-use Rattle.script.specs.Listing.{row-limit, natural, Found, line-before, lines-before, lines, read-list}
+use Rattle.script.specs.Listing.{row-limit, natural, Found, line-before, lines-before, lines-before-within, lines, lines-within, read-list}
 use Rattle.theorems.specs.Options.{none-is-not, some-inj, went-on, held}
 use Rattle.theorems.specs.Line.{place, line-back, Line-ends, line-only}
 
@@ -35,7 +35,7 @@ conditions-of fs = map (λ (f : Found). f .condition) fs
 -- the condition that ends at e, after those that end where it starts
 one-more : (ws : List ℤ) (n e : ℕ) (f : Found) (fs : List Found) → line-before ws e ≡ some f → lines-before ws n (f .start) ≡ some fs
     → lines-before ws (suc n) e ≡ some (fs ++ (f ∷ []))
-unfolding lines-before
+unfolding lines-before-within
 one-more ws n e f fs p q = rw (p, q)
 
 -- where fs are read before the lines of cs, fs and then cs are read after them
@@ -59,7 +59,7 @@ lines-back (c ∷ cs) front tail ws n fs h p q =
     rw (count, ends, append-snoc fs (place s c) (places (length next) cs), ← end) at more
 
 pub lines-written : (ws : List ℤ) (cs : List Condition) → Well-formed ws cs → lines ws ≡ some (places 0 cs)
-unfolding lines list-words lines-before
+unfolding lines-within list-words lines-before-within
 lines-written ws cs w =
     let words = all-lines cs in
     let end : length ws - 1 ≡ length words = omega (linear, length-append words (pos (length cs) ∷ []), ap length (w .spells)) in
@@ -106,7 +106,7 @@ snoc ws n e fs f before here =
     }
 
 lines-only : (ws : List ℤ) (n e : ℕ) (fs : List Found) → lines-before ws n e ≡ some fs → Lines-end ws n e fs
-unfolding lines-before all-lines
+unfolding lines-before-within all-lines
 lines-only ws zero zero fs q = subst (λ x. Lines-end ws 0 0 x) (some-inj q) (record { whole = refl; count = refl; ranges = tt })
 lines-only ws zero (suc e) fs q = none-is-not q
 lines-only ws (suc n) e fs q =
@@ -139,7 +139,7 @@ pub record Tested (ws : List ℤ) (fs : List Found) : Type 0 where
   pub read : lines-before ws count (length ws - 1) ≡ some fs
 
 pub tested : (ws : List ℤ) (fs : List Found) → lines ws ≡ some fs → Tested ws fs
-unfolding lines
+unfolding lines-within
 tested ws fs q =
     let limit = held (leb (length ws) 16384) _ q in
     let counted = went-on (natural (getD ws (length ws - 1) (pos 0))) _ (limit .1) in

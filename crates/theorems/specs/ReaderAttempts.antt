@@ -18,7 +18,7 @@ use Rattle.script.specs.Conditions.{Condition, condition}
 use Rattle.script.specs.Words.{rule-number, formula-words}
 use Rattle.script.specs.WellFormed.{Well-formed}
 use Rattle.script.specs.Rows.{row-of}
-use Rattle.script.specs.Listing.{Found, no-line, line, read-expr, read-formula, spelled, found, line-before, lines-before, lines, read-list, line-at, part-at, condition-count, first-place, step-back, next-place}
+use Rattle.script.specs.Listing.{Found, no-line, line, read-expr-within, read-formula-within, spelled-within, found-within, line-before-within, lines-before-within, lines, lines-within, read-list, line-at, part-at, condition-count, first-place, step-back, next-place}
 use Rattle.script.specs.Computed.{numbers}
 use Rattle.theorems.specs.ReadBack.{written-read, lines-written, places}
 use Rattle.theorems.specs.Lookup.{line-at-index, part-at-index, walk-back, walk-back-list, walk-back-malformed}
@@ -56,7 +56,7 @@ record Facts : Type 0 where
   torn-step : step-back torn 1 .number ≡ 20
 
 facts : Facts
-unfolding two two-conditions torn numbers row-of read-expr read-formula spelled found line-before lines-before lines read-list line-at condition-count first-place step-back next-place
+unfolding two two-conditions torn numbers row-of read-expr-within read-formula-within spelled-within found-within line-before-within lines-before-within lines-within read-list line-at condition-count first-place step-back next-place
 facts = record {
   read = refl;
   first = refl;

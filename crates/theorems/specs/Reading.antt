@@ -16,7 +16,7 @@ use Rattle.script.specs.Rows.{row-of, variables}
 use Rattle.script.specs.Syntax.{Expr, const, var, mark, arith, neg, choose, Formula, truth, cmp, not, join}
 use Rattle.script.specs.Words.{expr-words, formula-words}
 use Rattle.script.specs.WellFormed.{In-range, In-rangeᶠ}
-use Rattle.script.specs.Listing.{_>>=_, Read, read, next, read-expr, read-formula, row-limit}
+use Rattle.script.specs.Listing.{_>>=_, Read, read, next, read-expr, read-expr-within, read-formula, read-formula-within, row-limit}
 use Rattle.theorems.specs.Kinds.{operator-row, relation-row, connective-row}
 
 abbrev pub Reader : Type 0 → Type 0
@@ -43,7 +43,7 @@ parts-fit : (us vs : List ℤ) (n : ℕ) → suc (length (us ++ vs)) ≤ suc n �
 parts-fit us vs n l = omega (linear, length-append us vs)
 
 mutual
-  unfolding read-expr read-formula expr-words formula-words row-of
+  unfolding read-expr-within read-formula-within expr-words formula-words row-of
 
   pub expr-back : (e : Expr) (n : ℕ) → In-range e → length (expr-words e) ≤ n → Reads (read-expr n) (expr-words e) e
   expr-back (const z) zero h l = absurd (omega linear)

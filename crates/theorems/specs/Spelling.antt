@@ -21,13 +21,13 @@ use Rattle.script.specs.Rows.{field-number, variables}
 use Rattle.script.specs.Syntax.{Expr, const, var, mark, arith, neg, choose, Formula, truth, cmp, not, join}
 use Rattle.script.specs.Words.{expr-words, formula-words}
 use Rattle.script.specs.WellFormed.{In-range, In-rangeᶠ}
-use Rattle.script.specs.Listing.{_>>=_, Read, read, next, past-number, read-expr, read-formula, all-read, spelled, row-limit}
+use Rattle.script.specs.Listing.{_>>=_, Read, read, next, past-number, read-expr, read-expr-within, read-formula, read-formula-within, all-read, spelled, spelled-within, row-limit}
 use Rattle.theorems.specs.Options.{none-is-not, some-inj, went-on, held}
 use Rattle.theorems.specs.Kinds.{begun, Fits, row-fits}
 use Rattle.theorems.specs.Reading.{Reader, formula-back}
 
 pub spelled-words : (f : Formula) → In-rangeᶠ f → spelled (formula-words f) ≡ some f
-unfolding spelled
+unfolding spelled-within
 spelled-words f h =
     let ws = formula-words f in
     ap (λ o. o >>= all-read) (rw append-nil at (formula-back f (length ws) h (le-refl (length ws)) []))
@@ -112,7 +112,7 @@ module _ (n : ℕ) (below : Readers n) where
   formula-part ws h e = part (read-formula n) Formula-first (below .formulas) ws h e
 
   expr-only : Only (read-expr (suc n)) Expr-first
-  unfolding read-expr read-formula expr-words formula-words
+  unfolding read-expr-within read-formula-within expr-words formula-words
   expr-only (Row.Expression (Constant z)) k ws r fits e = number-is (const z) (pos 1) k z ws refl tt (fits .0) (fits .1) e
   expr-only (Row.Expression (Variable v)) k ws r fits e =
       let h = held (ltb (v .0) variables) (past-number (var (v .0)) ws) e in
@@ -146,7 +146,7 @@ module _ (n : ℕ) (below : Readers n) where
   expr-only Row.Unknown k ws r fits e = none-is-not e
 
   formula-only : Only (read-formula (suc n)) Formula-first
-  unfolding read-expr read-formula expr-words formula-words
+  unfolding read-expr-within read-formula-within expr-words formula-words
   formula-only (Row.Formula True) k ws r fits e = formula-is (truth true) ws (k ∷ ws) (headed fits refl) tt e
   formula-only (Row.Formula False) k ws r fits e = formula-is (truth false) ws (k ∷ ws) (headed fits refl) tt e
   formula-only (Row.Formula (Comparison o x y)) k ws r fits e =
@@ -170,12 +170,12 @@ module _ (n : ℕ) (below : Readers n) where
   formula-only Row.Unknown k ws r fits e = none-is-not e
 
 readers : (n : ℕ) → Readers n
-unfolding read-expr read-formula
+unfolding read-expr-within read-formula-within
 readers zero = record { exprs = λ w k ws r fits e. none-is-not e; formulas = λ w k ws r fits e. none-is-not e }
 readers (suc n) = record { exprs = expr-only n (readers n); formulas = formula-only n (readers n) }
 
 pub spelled-only : (ws : List ℤ) (f : Formula) → spelled ws ≡ some f → (formula-words f ≡ ws) × In-rangeᶠ f
-unfolding spelled
+unfolding spelled-within
 spelled-only ws f e =
     let r = formula-part (length ws) (readers (length ws)) ws all-read e in
     all-of (r .of .got) (r .of .rest) (r .first) (r .then)

@@ -16,8 +16,8 @@ use Rattle.script.specs.Rows.{rows, row}
 use Rattle.script.specs.Trees.{tree, nesting}
 use Rattle.script.specs.Conditions.{conditions}
 use Rattle.script.specs.Words.{list-words}
-use Rattle.script.specs.Refusals.{Verdict, accepted, refused, _and-then_, length-test, row-test, script-test, unlinked-test, target-test, reading-test, nesting-test, verdict}
-use Rattle.script.specs.Generated.{Outcome, refuse, plan, room, scratch-need, outcome-for, outcome}
+use Rattle.script.specs.Refusals.{Verdict, accepted, refused, _and-then_, length-test, row-test, script-test, unlinked-test, target-test, reading-test, nesting-test, verdict, verdict-within}
+use Rattle.script.specs.Generated.{Outcome, refuse, plan, room, scratch-need, outcome-for, outcome, outcome-within}
 use Rattle.theorems.specs.Lowest.{Says, Lowest}
 use Rattle.theorems.specs.Occasions.{Unlinked, unlinked-row, Assigns-frozen, frozen-target}
 use Rattle.theorems.specs.Misplaced.{Misplaced, misplaced-name}
@@ -142,7 +142,7 @@ module _ (t : List ℤ) (list scratch : ℕ) where
   by-tests accepted false false = refl
 
   outcome-is : outcome t list scratch ≡ ended in-order
-  unfolding outcome outcome-for verdict buffers scratch-short list-long
+  unfolding outcome-within outcome-for verdict-within buffers scratch-short list-long
   outcome-is =
       by-tests (verdict t) scratch-short list-long
       ∙ ap ended (grouped (length-test t) (row-test t) (script-test t) (unlinked-test t) (target-test t) (reading-test t) (nesting-test t) buffers)

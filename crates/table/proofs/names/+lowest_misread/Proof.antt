@@ -17,7 +17,7 @@ use Rattle.table.proofs.names.lower.Reads as lower-reads
 use Rattle.table.proofs.names.mark_misplaced.Reads as mark-misplaced-reads
 use Rattle.table.proofs.names.reads.Reads as reads-reads
 use Rattle.table.proofs.tests.both.Reads as both-reads
-use Rattle.table.proofs.tests.is_frozen.Reads as is-frozen-reads
+use Rattle.script.proofs.is_frozen.Reads as is-frozen-reads
 use Rattle.table.proofs.names.+lowest_misread.{statement}
 use Rattle.table.proofs.names.+lowest_misread.Tie.{close}
 

@@ -1,0 +1,13 @@
+-- `script::is_frozen` meets its contract. Assumes nothing.
+use borrow.Author.Tests.{le-leb, lt-leb}
+use Rattle.script.proofs.is_frozen.Statement.{statement}
+use Rattle.script.proofs.is_frozen.Tie as tie
+
+returns : tie.Need-returns
+returns c = rw (le-leb 128 _ (c .if1 .taken))
+
+returns-2 : tie.Need-returns-2
+returns-2 c = rw (lt-leb 128 _ (c .if1 .left))
+
+pub is-frozen-spec : {M : Type 1} → statement M
+is-frozen-spec = tie.close (tie.spec returns returns-2)
