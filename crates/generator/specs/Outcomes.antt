@@ -31,11 +31,11 @@ fitted t list scratch =
 module _ (t : List ℤ) (list scratch : ℕ) where
   pub outcome-refused : {n r : ℕ} → verdict t ≡ refused n r → outcome t list scratch ≡ refuse n r list scratch
   unfolding outcome-within
-  outcome-refused e = rw (e, outcome)
+  outcome-refused e = rw (e, outcome-within)
 
   pub outcome-accepted : verdict t ≡ accepted → outcome t list scratch ≡ outcome-for (tree t) list scratch
   unfolding outcome-within
-  outcome-accepted e = rw (e, outcome)
+  outcome-accepted e = rw (e, outcome-within)
 
 module _ (t : Tree) (list scratch : ℕ) where
   pub too-short : scratch < scratch-need t list → outcome-for t list scratch ≡ refuse 11 0 list scratch
