@@ -53,6 +53,14 @@ choice = one (pos 22 ∷ pos 25 ∷ pos 16 ∷ pos 20 ∷ pos 10 ∷ pos 17 ∷ 
 sums : List ℤ
 sums = one (pos 24 ∷ pos 18 ∷ pos 3 ∷ pos 2 ∷ pos 0 ∷ pos 2 ∷ pos 0 ∷ pos 5 ∷ pos 2 ∷ pos 0 ∷ pos 9 ∷ pos 2047 ∷ pos 17 ∷ [])
 
+-- v1023 + v256 = f255 + (f128 + v127): the last ordinary numbers, the frozen ones' ends, and what stands beside them
+ends : List ℤ
+ends = one (pos 20 ∷ pos 3 ∷ pos 2 ∷ pos 1023 ∷ pos 2 ∷ pos 256 ∷ pos 3 ∷ pos 2 ∷ pos 255 ∷ pos 3 ∷ pos 2 ∷ pos 128 ∷ pos 2 ∷ pos 127 ∷ [])
+
+-- v1024 = 0, where there is no such variable
+past-ends : List ℤ
+past-ends = one (pos 20 ∷ pos 2 ∷ pos 1024 ∷ pos 1 ∷ pos 0 ∷ [])
+
 -- ---- figures
 
 figures : List (Call × Written)
@@ -89,13 +97,20 @@ figures =
       text
           "(set-logic QF_NIA)\n(declare-const v0 Int)\n(declare-const m2047 Int)\n(assert (not (or (< (+ v0 v0) (* v0 m2047)) false)))\n(check-sat)\n" 0,
     )
+    ∷ (
+      (ends, pos 0, 214),
+      text
+          "(set-logic QF_NIA)\n(declare-const v127 Int)\n(declare-const f128 Int)\n(declare-const f255 Int)\n(declare-const v256 Int)\n(declare-const v1023 Int)\n(assert (not (= (+ v1023 v256) (+ f255 (+ f128 v127)))))\n(check-sat)\n"
+          0,
+    )
+    ∷ ((past-ends, pos 0, 9), refuse 20 9)
     ∷ ((sums, pos 2147483647, 1), refuse 21 1)
     ∷ ((sums, negsuc 2147483647, 1), refuse 21 1)
     ∷ (([], negsuc 0, 3), refuse 20 3)
     ∷ []
 
 figures-hold : map (λ (f : Call × Written). written (f .0 .0) (f .0 .1) (f .0 .2)) figures ≡ map (λ (f : Call × Written). f .1) figures
-unfolding figures list-a one constants divisions choice sums text example-a example _⨾_ row row-of expr formula stmt expr-at formula-at stmt-at tree conditions walk wp subst-expr subst-formula list-words all-lines line-words expr-words formula-words read-expr-within read-formula-within spelled-within found-within line-before-within lines-before-within lines-within decimal digits term claim references occurring script-within sexp-text term-sexp command-sexp script-text written
+unfolding figures list-a one constants divisions choice sums ends past-ends text example-a example _⨾_ row row-of expr formula stmt expr-at formula-at stmt-at tree conditions walk wp subst-expr subst-formula list-words all-lines line-words expr-words formula-words read-expr-within read-formula-within spelled-within found-within line-before-within lines-before-within lines-within decimal digits term claim references occurring script-within sexp-text term-sexp command-sexp script-text written
 figures-hold = refl
 
 -- ---- what a writer cannot do

@@ -5,6 +5,7 @@ pub mod Symbols
 pub mod Once
 pub mod Occurring
 pub mod Declared
+pub mod StoredScripts
 pub mod Sexp
 pub mod Lexicon
 pub mod Reader

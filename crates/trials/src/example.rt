@@ -39,7 +39,11 @@ fn edited(name: &[u8], row: usize, kind: i32, first: i32, second: i32) {
 
 pub fn edits() {
     edited(b"A, row 14 is 33 128 13 0", 14, 33, 128, 13);
+    // 3 at row 14 by document 01; planned since 02, P2.
     edited(b"A, row 14 is 33 256 13 0", 14, 33, 256, 13);
+    edited(b"A, row 14 is 33 255 13 0", 14, 33, 255, 13);
+    edited(b"A, row 14 is 33 1023 13 0", 14, 33, 1023, 13);
+    edited(b"A, row 14 is 33 1024 13 0", 14, 33, 1024, 13);
     edited(b"A, row 9 is 9 15 0 0", 9, 9, 15, 0);
     edited(b"A, row 13 is 4 11 11 0", 13, 4, 11, 11);
     edited(b"A, row 13 is 4 11 13 0", 13, 4, 11, 13);

@@ -1,4 +1,4 @@
-// Conditions as scripts for solvers (02, P1): example A's, and what is refused.
+// Conditions as scripts for solvers (02, P1): example A's, what is refused, and the last variable (02, P2).
 
 use crate::example;
 use crate::run;
@@ -32,6 +32,10 @@ fn torn(list: &[i32], text: &mut [u8]) {
     }
 }
 
+const LAST_VARIABLE: [i32; 9] = [20, 2, 1023, 2, 255, 4, 0, 5, 1];
+
+const NO_VARIABLE: [i32; 9] = [20, 2, 1024, 2, 255, 4, 0, 5, 1];
+
 pub fn all() {
     let table = example::rows();
     let mut list = [7; 94];
@@ -47,4 +51,6 @@ pub fn all() {
     script(&list, 2, &mut short);
     script(&list, 4, &mut short);
     torn(&list, &mut short);
+    script(&LAST_VARIABLE, 0, &mut text);
+    script(&NO_VARIABLE, 0, &mut text);
 }
