@@ -24,6 +24,7 @@ use Rattle.smt.specs.Occurring.{refers-in}
 
 mutual
   unfolding expr-references references
+
   expr-occurs : (e : Expr) (v : ℕ) → List·Memᴰ (variable v) (expr-references e) → Occurs e v
   expr-occurs (const z) v m = absurd (List·Memᴰ·not-nil m)
   expr-occurs (var w) v m = let e = List·Memᴰ·eq-of-singleton m in cc
