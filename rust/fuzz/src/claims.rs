@@ -3,6 +3,8 @@
 //! bodies per arrival (v the variant's value there), fails no assertion and
 //! meets the postcondition.
 
+use std::collections::BTreeSet;
+
 use reference::{
     check, formula_from_words, formula_is_true, lines, need, run_observed, script_of, Arrival, End,
     Formula, Line, Row, Run, Script, State, Variable, Verdict,
@@ -226,7 +228,8 @@ pub fn has_too_many_passes(arrival: &Arrival) -> bool {
     i128::from(arrival.bodies_begun) > variant.saturating_add(1).max(0)
 }
 
-/// A state with small values; frozen names often equal their variables.
+/// A state with small values; frozen names often equal their variables, and
+/// variables from 8 on a low one.
 pub fn small_state(random: &mut Prng, words: &[i32]) -> State {
     let mut state = State::default();
     for number in 0..8 {
@@ -239,11 +242,28 @@ pub fn small_state(random: &mut Prng, words: &[i32]) -> State {
         };
         state.set_variable(Variable(128 + number), frozen);
     }
+    for variable in variables_from_8(words) {
+        let value = if random.once_in(2) {
+            random.between(-4, 25).into()
+        } else {
+            state.variable(Variable(variable.0 % 4))
+        };
+        state.set_variable(variable, value);
+    }
     let whiles = (0..words.len() / 4).filter(|row| words[4 * row] == 36);
     for row in whiles {
         state.set_mark(Row(row), random.between(-4, 25).into());
     }
     state
+}
+
+/// Those ordinary ones that a row reads or assigns.
+fn variables_from_8(words: &[i32]) -> BTreeSet<Variable> {
+    let rows = words.chunks(4).filter(|row| matches!(row[0], 2 | 33));
+    let variables = rows.map(|row| Variable(row[1] as usize));
+    variables
+        .filter(|variable| variable.0 >= 8 && !variable.is_frozen())
+        .collect()
 }
 
 /// An accepted table made from an accepted one by a small change of its
@@ -263,7 +283,10 @@ fn change_meaning_once(words: &mut [i32], random: &mut Prng) {
     let row = 4 * random.below(words.len() / 4);
     match words[row] {
         1 => words[row + 1] = words[row + 1].wrapping_add(random.pick(&[-2, -1, 1, 2])),
-        2 | 33 => words[row + 1] = random.between(0, 3),
+        2 | 33 => {
+            let low = random.between(0, 3);
+            words[row + 1] = random.pick(&[low, low, 256 * low, 256 + low, 1_020 + low]);
+        }
         3..=7 => words[row] = random.between(3, 7),
         16 | 17 => words[row] = random.between(16, 17),
         18..=21 => words[row] = random.between(18, 21),

@@ -3,11 +3,11 @@
 
 use crate::arena::{Arena, Node, Order};
 use crate::prng::Prng;
-use crate::scripts::{script_words, Shape};
+use crate::scripts::{ordinary_variables, script_words, Shape};
 
 /// The words of a table at some limit.
 pub fn limit_words(random: &mut Prng) -> Vec<i32> {
-    match random.below(9) {
+    match random.below(10) {
         0 => odd_length(random),
         1 => {
             let rows = random.pick(&[2_046, 2_047, 2_048, 2_049, 2_050]);
@@ -24,6 +24,7 @@ pub fn limit_words(random: &mut Prng) -> Vec<i32> {
         5 => deep_expression(random),
         6 => chain_of_assignments(random),
         7 => chain_of_branches(random),
+        8 => chain_of_variables(random),
         _ => chain_of_loops(random),
     }
 }
@@ -170,6 +171,35 @@ fn chain_of_assignments(random: &mut Prng) -> Vec<i32> {
     let statement = sequence(&mut arena, statements, leaning_left);
     let (left, right) = (arena.variable(0), arena.constant(0));
     let post = arena.two(20, left, right);
+    let pre = arena.leaf(16);
+    finish(arena, pre, statement, post, random)
+}
+
+/// Each of many variables from the next one, and a postcondition that reads
+/// some of them.
+fn chain_of_variables(random: &mut Prng) -> Vec<i32> {
+    let mut arena = Arena::default();
+    let count = random.pick(&[129, 300, 480]);
+    let variables = ordinary_variables(random, count);
+    let mut statements = Vec::new();
+    for pair in variables.windows(2) {
+        let read = arena.variable(pair[1]);
+        let negates = random.once_in(2);
+        let value = if negates { arena.one(8, read) } else { read };
+        statements.push(arena.assign(pair[0], value));
+    }
+    // From the last one up, every value is carried to the first variable.
+    if random.once_in(2) {
+        statements.reverse();
+    }
+    let leaning_left = random.once_in(2);
+    let statement = sequence(&mut arena, statements, leaning_left);
+    let mut post = arena.leaf(16);
+    for variable in variables.iter().step_by(count / 20) {
+        let (left, right) = (arena.variable(*variable), arena.constant(0));
+        let is_zero = arena.two(20, left, right);
+        post = arena.two(23, post, is_zero);
+    }
     let pre = arena.leaf(16);
     finish(arena, pre, statement, post, random)
 }

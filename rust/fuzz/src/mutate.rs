@@ -30,7 +30,7 @@ fn change_word(words: &mut [i32], random: &mut Prng) {
             words[place]
         }
         6 => 0,
-        7 => random.pick(&[127, 128, 255, 256, 48, 2_047, 2_048]),
+        7 => random.pick(&[127, 128, 255, 256, 1_023, 1_024, 48, 2_047, 2_048]),
         _ => random.word(),
     };
 }
@@ -46,7 +46,7 @@ fn change_to_edge(words: &mut [i32], random: &mut Prng) {
     words[4 * row + 1 + field] = match shape.roles[field] {
         Role::Unused => random.pick(&[1, -1]),
         Role::AnyValue => random.pick(&[i32::MIN, i32::MAX]),
-        Role::VariableNumber => random.pick(&[-1, 0, 127, 128, 255, 256]),
+        Role::VariableNumber => random.pick(&[-1, 0, 127, 128, 255, 256, 1_023, 1_024]),
         Role::LoopRow => random.pick(&[-1, 0, rows - 1, rows]),
         Role::Link(_) => random.pick(&[-1, 0, row as i32 - 1, row as i32, row as i32 + 1]),
     };

@@ -77,15 +77,33 @@ impl Prng {
 
     /// A word: often small, sometimes at an edge, sometimes any.
     pub fn word(&mut self) -> i32 {
-        match self.below(8) {
+        match self.below(9) {
             0..=3 => self.between(-3, 50),
             4 => self.between(120, 260),
-            5 => self.pick(&[i32::MIN, i32::MAX, -1, 0, 127, 128, 255, 256, 2_047, 2_048]),
+            5 => self.pick(&EDGES),
             6 => self.pick(&KINDS),
+            7 => self.between(256, 1_030),
             _ => self.number() as i32,
         }
     }
 }
+
+/// Where what a number may be begins or ends: words, variables, frozen ones,
+/// rows.
+const EDGES: [i32; 12] = [
+    i32::MIN,
+    i32::MAX,
+    -1,
+    0,
+    127,
+    128,
+    255,
+    256,
+    1_023,
+    1_024,
+    2_047,
+    2_048,
+];
 
 /// The kinds that the document lists.
 pub const KINDS: [i32; 28] = [

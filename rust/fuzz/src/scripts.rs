@@ -1,6 +1,8 @@
 //! Example A, valid scripts of random shape, and ones with a fault that only the whole
 //! script shows (numbers 8, 9 and 10).
 
+use reference::{Variable, VARIABLES};
+
 use crate::arena::{Arena, Field, Node, Order};
 use crate::prng::Prng;
 
@@ -17,7 +19,7 @@ pub struct Shape {
     /// About how many rows it has.
     pub rows: usize,
     /// How many ordinary variables it uses: few make substitution busy.
-    pub variables: i32,
+    pub variables: usize,
     /// The most ifs and whiles one in the other.
     pub nesting: usize,
     /// How parts are split: evenly, or into long chains.
@@ -43,7 +45,7 @@ impl Shape {
         };
         Shape {
             rows,
-            variables: random.pick(&[1, 2, 3, 128]),
+            variables: random.pick(&[1, 2, 3, 3, 128, 128, 300, 896]),
             nesting: random.pick(&[0, 1, 2, 3, 8, 8]),
             split: random.pick(&[Split::Anywhere, Split::FirstSmall, Split::SecondSmall]),
             faults: 0,
@@ -70,11 +72,31 @@ pub fn script_words(random: &mut Prng, shape: Shape) -> Vec<i32> {
     }
 }
 
+/// So many of the 896 ordinary variables: the lowest, the highest, those around
+/// the frozen ones, or such as are alike in their low byte.
+pub fn ordinary_variables(random: &mut Prng, count: usize) -> Vec<i32> {
+    let is_ordinary = |number: &usize| !Variable(*number).is_frozen();
+    let mut all: Vec<usize> = (0..VARIABLES).filter(is_ordinary).collect();
+    let from = match random.below(6) {
+        0..=2 => 0,
+        3 => all.len() - count,
+        4 => 128_usize.saturating_sub(count.div_ceil(2)),
+        _ => {
+            all.sort_by_key(|number| number % 256);
+            0
+        }
+    };
+    let some = &all[from..from + count];
+    some.iter().map(|number| *number as i32).collect()
+}
+
 /// A script of this shape; its rows may be somewhat more than asked for.
 pub fn script(random: &mut Prng, shape: Shape) -> Arena {
+    let ordinary = ordinary_variables(random, shape.variables);
     let mut writer = Writer {
         random,
         shape,
+        ordinary,
         arena: Arena::default(),
         bodies: Vec::new(),
     };
@@ -134,15 +156,16 @@ fn spell(random: &mut Prng, size: usize, is_formula: bool, wrong: usize, words: 
 
 fn number_of_leaf(random: &mut Prng, kind: i32, wrong: usize) -> i32 {
     let most = match kind {
-        2 => 255,
+        2 => VARIABLES as i32 - 1,
         9 => 2_047,
         _ => return random.number() as i32,
     };
     if wrong > 0 && random.once_in(wrong) {
         random.pick(&[-1, most + 1, i32::MIN, i32::MAX])
     } else {
-        let any = random.between(0, most);
-        random.pick(&[0, most, any, any])
+        let (low, any) = (random.between(0, 255), random.between(0, most));
+        let edge = random.pick(&[0, 127, 128, 255, 256, most]);
+        random.pick(&[0, most, edge, low, low, any, any])
     }
 }
 
@@ -157,6 +180,7 @@ enum Place {
 struct Writer<'a> {
     random: &'a mut Prng,
     shape: Shape,
+    ordinary: Vec<i32>,
     arena: Arena,
     /// The loops in whose bodies the next node stands.
     bodies: Vec<Node>,
@@ -361,7 +385,7 @@ impl Writer<'_> {
     }
 
     fn ordinary(&mut self) -> i32 {
-        self.random.between(0, self.shape.variables - 1)
+        self.random.pick(&self.ordinary)
     }
 
     fn frozen(&mut self) -> i32 {

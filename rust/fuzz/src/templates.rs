@@ -389,11 +389,25 @@ fn halving(_: &mut Prng) -> Template {
     template("halving", not_negative(), the_loop, equal(x(), constant(0)))
 }
 
-/// The rows of a template, in some legal order.
+/// The ordinary variables that may stand for the four of a template.
+const VARIABLES: [[i32; 4]; 8] = [
+    [0, 1, 2, 3],
+    [0, 1, 2, 3],
+    [0, 1, 2, 3],
+    [256, 257, 258, 259],
+    [1_020, 1_021, 1_022, 1_023],
+    [0, 256, 512, 768],
+    [512, 768, 256, 0],
+    [256, 127, 1_023, 0],
+];
+
+/// The rows of a template, in some legal order and with some variables for its
+/// own.
 pub fn lay_out(script: &Script, random: &mut Prng) -> Vec<i32> {
     let mut layout = Layout {
         arena: Arena::default(),
         loops: BTreeMap::new(),
+        variables: random.pick(&VARIABLES),
     };
     let precondition = layout.formula(&script.precondition);
     let statement = layout.statement(&script.statement);
@@ -409,13 +423,22 @@ struct Layout {
     arena: Arena,
     /// The nodes of the loops met so far, by label.
     loops: BTreeMap<Row, Node>,
+    variables: [i32; 4],
 }
 
 impl Layout {
+    /// The number that stands for a variable; frozen names keep theirs.
+    fn number(&self, variable: Variable) -> i32 {
+        match self.variables.get(variable.0) {
+            Some(number) => *number,
+            None => variable.0 as i32,
+        }
+    }
+
     fn expression(&mut self, expression: &Expression) -> Node {
         match expression {
             Expression::Constant(value) => self.arena.constant(*value),
-            Expression::Variable(variable) => self.arena.variable(variable.0 as i32),
+            Expression::Variable(variable) => self.arena.variable(self.number(*variable)),
             Expression::Mark(label) => self.arena.mark(self.loops[label]),
             Expression::Negate(part) => {
                 let part = self.expression(part);
@@ -475,7 +498,7 @@ impl Layout {
             Statement::Skip => self.arena.leaf(32),
             Statement::Assign(variable, assigned) => {
                 let assigned = self.expression(assigned);
-                self.arena.assign(variable.0 as i32, assigned)
+                self.arena.assign(self.number(*variable), assigned)
             }
             Statement::Sequence(first, second) => {
                 let (first, second) = (self.statement(first), self.statement(second));

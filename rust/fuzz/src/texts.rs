@@ -123,15 +123,18 @@ fn depths<const N: usize>(depth: usize, random: &mut Prng) -> [usize; N] {
     depths
 }
 
+const VARIABLE_EDGES: [i32; 9] = [126, 127, 128, 129, 254, 255, 256, 1_000, 1_023];
+
 fn leaf(random: &mut Prng) -> [i32; 2] {
     let (small, any) = (random.between(-2, 12), random.number() as i32);
     let row = random.between(0, 2_047);
-    match random.below(8) {
+    match random.below(9) {
         0..=1 => [1, small],
         2 => [1, random.pick(&[-1, -5, i32::MIN, i32::MAX, any])],
         3 => [9, random.pick(&[0, 9, 10, 2_047, row])],
-        4 => [2, random.pick(&[126, 127, 128, 129, 255])],
+        4 => [2, random.pick(&VARIABLE_EDGES)],
         5 => [2, random.between(0, 255)],
+        6 => [2, random.between(256, 1_023)],
         _ => [2, random.between(0, 3)],
     }
 }

@@ -1,5 +1,6 @@
 //! The harness tried on the reference itself and on broken subjects.
 
+mod misnumbered;
 mod misspelt;
 
 use fuzz::mutate::{list_with_length, made_up_list};
@@ -8,7 +9,7 @@ use fuzz::texts::dividing_list;
 use fuzz::{compare, compare_counting, limits, seed_from_environment};
 use fuzz::{Answer, Prng, Reference, Subject, Tally};
 use misspelt::{Misspelt, TextFault, TEXT_FAULTS};
-use reference::{check, lines, need, Line, Verdict};
+use reference::{check, lines, need, Line, Variable, Verdict};
 
 const CASES: u64 = 30_000;
 
@@ -103,7 +104,6 @@ enum Fault {
     LongListRead,
     KindAfterRefusal,
     ExpressionAsFormula,
-    VariableOffTheScale,
     WalksForward,
     WalkEndsWithTwenty,
     RecordsCutShort,
@@ -111,7 +111,7 @@ enum Fault {
     OddBytesDropped,
 }
 
-const FAULTS: [Fault; 27] = [
+const FAULTS: [Fault; 26] = [
     Fault::NumberOneForgotten,
     Fault::RowOfPart,
     Fault::FrozenBeforeLoose,
@@ -133,7 +133,6 @@ const FAULTS: [Fault; 27] = [
     Fault::LongListRead,
     Fault::KindAfterRefusal,
     Fault::ExpressionAsFormula,
-    Fault::VariableOffTheScale,
     Fault::WalksForward,
     Fault::WalkEndsWithTwenty,
     Fault::RecordsCutShort,
@@ -163,8 +162,9 @@ impl Broken {
                 None => verdict,
             },
             (Fault::HighestPeekingRow, 9) => {
-                let frozen = |row: &usize| words[4 * row] == 2 && words[4 * row + 1] > 127;
-                refused(9, (0..words.len() / 4).rev().find(frozen).unwrap_or(row))
+                let reads_frozen = |row: &[i32]| row[0] == 2 && is_frozen(row[1]);
+                let highest = words.chunks(4).rposition(reads_frozen);
+                refused(9, highest.unwrap_or(row))
             }
             (Fault::MarkInPreconditionAllowed, 9) if words[4 * row] == 9 => Verdict::Accepted,
             (Fault::NestingNine, 10) => Verdict::Accepted,
@@ -174,8 +174,13 @@ impl Broken {
     }
 }
 
+fn is_frozen(number: i32) -> bool {
+    Variable(number as usize).is_frozen()
+}
+
 fn sealed(words: &[i32]) -> Option<usize> {
-    words.chunks(4).position(|row| row[0] == 33 && row[1] > 127)
+    let assigns_frozen = |row: &[i32]| row[0] == 33 && is_frozen(row[1]);
+    words.chunks(4).position(assigns_frozen)
 }
 
 /// The conditions of a list with those at two places exchanged.
@@ -269,13 +274,6 @@ impl Subject for Broken {
             Fault::LongListRead if torn && list.len() > 16_384 => Line { number: 21, ..line },
             Fault::KindAfterRefusal if line.number == 21 => Line { kind: 1, ..line },
             Fault::ExpressionAsFormula if torn && list.len() == 5 => Line { number: 0, ..line },
-            Fault::VariableOffTheScale if torn => {
-                let mended: Vec<i32> = list
-                    .iter()
-                    .map(|&w| if w == 256 { 255 } else { w })
-                    .collect();
-                reference::line_at(&mended, index)
-            }
             _ => line,
         }
     }
@@ -329,6 +327,17 @@ fn every_broken_subject_is_found() {
     let seed = seed_from_environment();
     for fault in FAULTS {
         assert_found(format!("{fault:?}"), &mut Broken(fault), seed);
+    }
+}
+
+#[test]
+fn every_mistake_about_numbers_is_found() {
+    // Another seed: two tests are not to write the same files.
+    let seed = seed_from_environment().wrapping_add(2);
+    let faultless = compare(&mut { misnumbered::FAULTLESS }, seed, CASES / 10);
+    assert!(faultless.is_ok(), "{}", faultless.unwrap_err());
+    for mut misnumbered in misnumbered::all() {
+        assert_found(misnumbered.to_string(), &mut misnumbered, seed);
     }
 }
 

@@ -54,7 +54,8 @@ fn every_room_up_to_the_need_and_scratches_around_it() {
 
 /// Values at the edges of what a word of a table or of a list may be.
 fn telling_values() -> impl Iterator<Item = i32> + Clone {
-    (-2..52).chain([127, 128, 255, 256, 2_047, 2_048, 16_384, i32::MAX, i32::MIN])
+    let edges = [127, 128, 255, 256, 1_023, 1_024, 2_047, 2_048, 16_384];
+    (-2..52).chain(edges).chain([i32::MAX, i32::MIN])
 }
 
 /// The words with every one of them changed to every telling value, dropped
@@ -102,6 +103,43 @@ const DIVIDING_LIST: [i32; 29] = [
 fn every_small_tear_of_a_dividing_list() {
     assert_eq!(lines(&DIVIDING_LIST).expect("a list").len(), 1);
     compare_all(every_small_change(DIVIDING_LIST.to_vec()).map(Input::List));
+}
+
+/// Around all that there are.
+const VARIABLE_NUMBERS: std::ops::Range<i32> = -2..1_027;
+
+/// Where example A names its variable, in rows that read and assign it.
+fn variables_of_example_a() -> impl Iterator<Item = usize> + Clone {
+    let names_variable = |row: &usize| matches!(EXAMPLE_A[4 * row], 2 | 33);
+    let rows = (0..EXAMPLE_A.len() / 4).filter(names_variable);
+    rows.map(|row| 4 * row + 1)
+}
+
+#[test]
+fn every_number_in_place_of_a_variable() {
+    let each = variables_of_example_a().map(|place| vec![place]);
+    let all = std::iter::once(variables_of_example_a().collect());
+    compare_all(each.chain(all).flat_map(|places: Vec<usize>| {
+        VARIABLE_NUMBERS.map(move |number| {
+            let mut words = EXAMPLE_A.to_vec();
+            places.iter().for_each(|place| words[*place] = number);
+            Input::Table {
+                words,
+                list_len: 120,
+                scratch_len: 360,
+            }
+        })
+    }));
+}
+
+#[test]
+fn every_number_in_place_of_a_variable_of_a_list() {
+    let list = |number| {
+        vec![
+            23, 20, 2, number, 2, 256, 20, 2, 255, 2, number, 4, 3, 11, 1,
+        ]
+    };
+    compare_all(VARIABLE_NUMBERS.map(|number| Input::List(list(number))));
 }
 
 /// Every room for the text of every condition, at indexes around them too.

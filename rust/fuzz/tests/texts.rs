@@ -7,7 +7,7 @@ use std::collections::BTreeSet;
 use fuzz::scripts::formula_words;
 use fuzz::texts::dividing_list;
 use fuzz::{seed_from_environment, tell, Prng};
-use reference::{lines, smt, spelled_formula_is_true, Row, State, Variable};
+use reference::{lines, smt, spelled_formula_is_true, Row, State, Variable, VARIABLES};
 
 /// A text as it is written: a symbol or numeral, or a list.
 enum Tree<'a> {
@@ -167,7 +167,7 @@ fn any_state(random: &mut Prng) -> State {
     for number in 0..2_048 {
         let value = i128::from(random.between(-3, 3));
         state.set_mark(Row(number), value);
-        if number < 256 {
+        if number < VARIABLES {
             let value = i128::from(random.between(-3, 3));
             state.set_variable(Variable(number), value);
         }

@@ -5,7 +5,7 @@
 use crate::faults::fault;
 use crate::names::check_names;
 use crate::stack::Storage;
-use crate::{Row, Verdict, MOST_ROWS};
+use crate::{is_frozen, Row, Verdict, MOST_ROWS, VARIABLES};
 
 /// The state of a row: its sort, whether it is linked, and how deep it nests (of
 /// statements only, and up to 9 levels).
@@ -25,6 +25,8 @@ const NESTING: State = 0xF0;
 pub struct Accepted {
     pub nesting: usize,
     pub has_loops: bool,
+    /// Above the number of every variable that is assigned to.
+    pub targets: usize,
 }
 
 /// The check of a table.
@@ -50,6 +52,7 @@ pub fn check_rows(rows: &[Row]) -> Result<Accepted, Verdict> {
         states: states.filled(rows.len(), NOT_SEEN),
         has_names: false,
         has_loops: false,
+        targets: 0,
     };
     for (row, &fields) in rows.iter().enumerate() {
         match checker.state(fields) {
@@ -69,6 +72,7 @@ pub fn check_rows(rows: &[Row]) -> Result<Accepted, Verdict> {
     Ok(Accepted {
         nesting: nesting.into(),
         has_loops: checker.has_loops,
+        targets: checker.targets,
     })
 }
 
@@ -95,6 +99,7 @@ struct Checker<'a> {
     states: &'a mut [State],
     has_names: bool,
     has_loops: bool,
+    targets: usize,
 }
 
 impl Checker<'_> {
@@ -108,8 +113,8 @@ impl Checker<'_> {
                 E
             }
             2 => {
-                good((first as u32 <= 255) & (second | third == 0))?;
-                self.has_names |= first > 127;
+                good(((first as u32 as usize) < VARIABLES) & (second | third == 0))?;
+                self.has_names |= is_frozen(first);
                 E
             }
             3..=7 => {
@@ -150,8 +155,9 @@ impl Checker<'_> {
                 S
             }
             33 => {
-                good(first as u32 <= 255)?;
-                self.has_names |= first > 127;
+                good((first as u32 as usize) < VARIABLES)?;
+                self.has_names |= is_frozen(first);
+                self.targets = self.targets.max(first as usize + 1);
                 self.link([(second, E)], third)?;
                 S
             }

@@ -1,7 +1,7 @@
 //! Which of the numbers 2 to 6 a faulty row is refused with: the slow way, for
 //! a row that is known to have a fault.
 
-use crate::{Row, Verdict};
+use crate::{Row, Verdict, VARIABLES};
 
 #[derive(Clone, Copy, PartialEq)]
 enum Sort {
@@ -64,7 +64,7 @@ pub fn fault(rows: &[Row], row: usize) -> Verdict {
     };
     let out_of_range = |role, field| match role {
         Role::Unused => field != 0,
-        Role::Variable => field > 255,
+        Role::Variable => field >= VARIABLES,
         Role::Loop => field >= rows.len(),
         Role::Any | Role::Link(_) => false,
     };

@@ -32,12 +32,12 @@ pub fn generate(table: &[i32], list: &mut [i32], scratch: &mut [i32]) -> Answer 
 #[inline(always)]
 fn answer(table: &[i32], list: &mut [i32], scratch: usize) -> Result<Answer, Verdict> {
     let rows = rows_of(table)?;
-    let Accepted { nesting, has_loops } = check_rows(rows)?;
+    let accepted = check_rows(rows)?;
     let room = list.len().min(LONGEST_LIST);
-    if scratch < (nesting + 2) * room {
+    if scratch < (accepted.nesting + 2) * room {
         return Err(Verdict { number: 11, row: 0 });
     }
-    let (conditions, words) = write_list(rows, &mut list[..room], has_loops)
+    let (conditions, words) = write_list(rows, &mut list[..room], accepted)
         .map_err(|Full| Verdict { number: 12, row: 0 })?;
     Ok(Answer {
         number: 0,
@@ -48,14 +48,17 @@ fn answer(table: &[i32], list: &mut [i32], scratch: usize) -> Result<Answer, Ver
 }
 
 /// How many conditions the list has, and how many words.
-fn write_list(rows: &[Row], list: &mut [i32], has_loops: bool) -> Result<(usize, usize), Full> {
+fn write_list(rows: &[Row], list: &mut [i32], accepted: Accepted) -> Result<(usize, usize), Full> {
+    let Accepted {
+        has_loops, targets, ..
+    } = accepted;
     let last = rows.len() - 1;
     let [_, precondition, statement, postcondition] = rows[last];
     let (mut memory, mut follow) = (Memory::new(), Storage::<_, MOST_ROWS>::new());
     let (mut invariants, mut open) = (Storage::<_, MOST_ROWS>::new(), Storage::new());
     let mut branches = Storage::new();
     let mut walk = Walk {
-        writer: Writer::new(rows, list, &mut memory),
+        writer: Writer::new(rows, list, &mut memory, targets),
         follow: follow.filled(rows.len(), SCRIPT),
         invariants: invariants.filled(if has_loops { rows.len() } else { 0 }, Part::default()),
         open: open.stack(),

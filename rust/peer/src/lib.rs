@@ -1,5 +1,5 @@
-//! A yardstick for the proved library: document 01 and request P1 written by hand
-//! for speed.
+//! A yardstick for the proved library: document 01 and requests P1 and P2 written
+//! by hand for speed.
 //!
 //! Nothing of it is proved. `fuzz/tests/peer.rs` compares it with the proved
 //! library word for word, and the benchmark times the library beside it; it has
@@ -10,7 +10,8 @@
 //! and copies what stands in the list already. The reader goes over the words
 //! of a line once. [`smt`] writes a part once and copies it where it stands
 //! again. Nothing is taken from the heap, and working memory is cleared only as
-//! far as the table has rows; the module `stack` has the only `unsafe` code.
+//! far as the table has rows, or assigns to variables; the module `stack` has the
+//! only `unsafe` code.
 
 mod check;
 mod faults;
@@ -33,6 +34,14 @@ type Row = [i32; 4];
 const MOST_ROWS: usize = 2_048;
 
 const LONGEST_LIST: usize = 16_384;
+
+const VARIABLES: usize = 1_024;
+
+/// Whether the variable of this number is frozen.
+#[inline(always)]
+fn is_frozen(variable: i32) -> bool {
+    (128..256).contains(&variable)
+}
 
 /// Number and row, both 0 for an accepted table.
 #[derive(Clone, Copy, Debug, Default, PartialEq, Eq)]

@@ -1,7 +1,7 @@
 //! Numbers 8 and 9, for tables with a frozen name or a mark.
 
 use crate::stack::Storage;
-use crate::{Row, Verdict, MOST_ROWS};
+use crate::{is_frozen, Row, Verdict, MOST_ROWS};
 
 /// The place of a row: the innermost loop whose body it stands in, and whether
 /// it stands in code.
@@ -13,7 +13,7 @@ const NO_LOOP: Place = 0x7fff;
 /// From the last row down, so that a row comes before its parts.
 #[inline(never)]
 pub fn check_names(rows: &[Row]) -> Result<(), Verdict> {
-    let assigns_frozen = |&[kind, variable, ..]: &Row| kind == 33 && variable > 127;
+    let assigns_frozen = |&[kind, variable, ..]: &Row| kind == 33 && is_frozen(variable);
     if let Some(row) = rows.iter().position(assigns_frozen) {
         return Err(Verdict { number: 8, row });
     }
@@ -25,7 +25,7 @@ pub fn check_names(rows: &[Row]) -> Result<(), Verdict> {
         let [first_place, second_place, third_place] =
             [first, second, third].map(|link| link as usize);
         match kind {
-            2 if here & CODE != 0 && first > 127 => lowest = Some(row),
+            2 if here & CODE != 0 && is_frozen(first) => lowest = Some(row),
             9 if !is_in_body_of(first, here, places) => lowest = Some(row),
             8 | 22 | 38 => places[first_place] = here,
             3..=7 | 18..=21 | 23..=25 | 34 | 37 => {

@@ -4,14 +4,14 @@
 //! (two an expression, one a formula). An operator lowers it and a leaf does
 //! not; a formula that fills its words ends with none.
 
-use crate::{Line, LONGEST_LIST};
+use crate::{Line, LONGEST_LIST, VARIABLES};
 
 /// The largest number after a constant, a variable and a mark; no number is as
 /// small as that of another kind.
 const LARGEST: [i64; 10] = {
     let mut largest = [-1; 10];
     largest[1] = u32::MAX as i64;
-    largest[2] = 255;
+    largest[2] = VARIABLES as i64 - 1;
     largest[9] = 2_047;
     largest
 };

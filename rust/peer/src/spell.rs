@@ -5,7 +5,7 @@
 //! in the list it is copied.
 
 use crate::stack::{Stack, Storage};
-use crate::{Row, MOST_ROWS};
+use crate::{Row, MOST_ROWS, VARIABLES};
 
 /// No room for one more word.
 pub struct Full;
@@ -20,7 +20,7 @@ pub struct Part {
 /// An assignment on the path. They count from 1.
 #[derive(Clone, Copy)]
 struct Passed {
-    variable: u8,
+    variable: u16,
     /// The row of the assigned expression.
     value: u16,
     /// The assignment to the same variable before this one, or 0.
@@ -47,6 +47,7 @@ pub struct Memory {
     path: Storage<Passed, MOST_ROWS>,
     later: Storage<u16, MOST_ROWS>,
     values: Storage<Value, MOST_ROWS>,
+    latest: Storage<u16, VARIABLES>,
 }
 
 impl Memory {
@@ -55,6 +56,7 @@ impl Memory {
             path: Storage::new(),
             later: Storage::new(),
             values: Storage::new(),
+            latest: Storage::new(),
         }
     }
 }
@@ -64,8 +66,8 @@ pub struct Writer<'a> {
     list: &'a mut [i32],
     at: usize,
     path: Stack<'a, Passed, MOST_ROWS>,
-    /// The latest assignment to each variable, or 0.
-    latest: [u16; 256],
+    /// The latest assignment to each variable, or 0; none to variables beyond.
+    latest: &'a mut [u16],
     /// How many assignments were ever put on the path.
     versions: u32,
     /// Rows to be written later.
@@ -77,13 +79,19 @@ pub struct Writer<'a> {
 const SHORT: usize = 8;
 
 impl<'a> Writer<'a> {
-    pub fn new(rows: &'a [Row], list: &'a mut [i32], memory: &'a mut Memory) -> Writer<'a> {
+    /// For rows that assign to variables below `targets` only.
+    pub fn new(
+        rows: &'a [Row],
+        list: &'a mut [i32],
+        memory: &'a mut Memory,
+        targets: usize,
+    ) -> Writer<'a> {
         Writer {
             rows,
             list,
             at: 0,
             path: memory.path.stack(),
-            latest: [0; 256],
+            latest: memory.latest.filled(targets, 0),
             versions: 0,
             later: &mut memory.later,
             values: &mut memory.values,
@@ -125,10 +133,10 @@ impl<'a> Writer<'a> {
 
     #[inline(always)]
     pub fn pass(&mut self, variable: i32, value: i32) {
-        let latest = &mut self.latest[usize::from(variable as u8)];
+        let latest = &mut self.latest[variable as usize];
         self.versions += 1;
         self.path.push(Passed {
-            variable: variable as u8,
+            variable: variable as u16,
             value: value as u16,
             before: *latest,
             written: Part::default(),
@@ -166,8 +174,8 @@ impl<'a> Writer<'a> {
             let [kind, first, second, third] = rows[usize::from(row)];
             match kind {
                 2 => {
-                    let latest = self.latest[usize::from(first as u8)];
-                    let assignment = latest_of(&self.path, latest, seen);
+                    let latest = self.latest.get(first as usize).copied();
+                    let assignment = latest_of(&self.path, latest.unwrap_or(0), seen);
                     match self.path.get(usize::from(assignment).wrapping_sub(1)) {
                         None => put_two(list, &mut at, 2, first)?,
                         Some(passed) if passed.written.length > 0 => {

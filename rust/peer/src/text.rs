@@ -5,7 +5,7 @@
 //! written by recursion, as deep as the formula is.
 
 use crate::reader::line_at;
-use crate::Written;
+use crate::{is_frozen, Written, MOST_ROWS, VARIABLES};
 
 const TOO_LONG: usize = 30;
 
@@ -89,7 +89,7 @@ impl<'a> Writer<'a> {
     }
 
     fn put_variable(&mut self, number: i32) -> Option<()> {
-        self.put_name(if number < 128 { "v" } else { "f" }, number)
+        self.put_name(if is_frozen(number) { "f" } else { "v" }, number)
     }
 
     /// The whole script; the bytes used.
@@ -103,7 +103,7 @@ impl<'a> Writer<'a> {
     }
 
     fn declarations(&mut self) -> Option<()> {
-        let (mut variables, mut marks) = ([0; 4], [0; 32]);
+        let (mut variables, mut marks) = ([0; VARIABLES / 64], [0; MOST_ROWS / 64]);
         let mut at = 0;
         while at < self.words.len() {
             at += match self.words[at] {

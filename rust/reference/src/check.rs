@@ -1,7 +1,7 @@
 //! The check of a script table: numbers 1 to 10 of "Room and scratch".
 
 use crate::kinds::{shape, Role, Sort};
-use crate::table::{Row, Table};
+use crate::table::{Row, Table, Variable};
 
 /// The longest table: 2,048 rows of four words.
 const LONGEST_TABLE: usize = 8_192;
@@ -85,11 +85,12 @@ fn links(table: Table, row: Row) -> impl Iterator<Item = i32> {
 }
 
 /// 3, off the scale: "variable number not 0 to 255, a mark's row not in the
-/// table, or an unused field not 0".
+/// table, or an unused field not 0"; of variables, request P2 says that it
+/// begins at 1,024.
 fn is_off_the_scale(table: Table, row: Row) -> bool {
     fields_with_roles(table, row).any(|(role, value)| match role {
         Role::Unused => value != 0,
-        Role::VariableNumber => !(0..=255).contains(&value),
+        Role::VariableNumber => Variable::numbered(value).is_none(),
         Role::LoopRow => value < 0 || value as usize >= table.rows(),
         Role::AnyValue | Role::Link(_) => false,
     })

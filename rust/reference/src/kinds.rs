@@ -17,7 +17,7 @@ pub enum Role {
     Unused,
     /// "any 32-bit value"
     AnyValue,
-    /// "number 0 to 255"
+    /// "number 0 to 255", since request P2 up to 1,023
     VariableNumber,
     /// "row number of a loop, not a link"
     LoopRow,

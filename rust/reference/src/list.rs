@@ -2,6 +2,7 @@
 
 use crate::generate::LONGEST_LIST;
 use crate::kinds::{shape, Role, Sort};
+use crate::table::Variable;
 
 /// What the list reader answers: "number 0, kind, row and the formula as the
 /// part of the caller's words where it stands", from `start` up to `end`.
@@ -101,7 +102,7 @@ fn last_line(words: &[i32]) -> Option<Line> {
 }
 
 /// Whether the words spell one formula and nothing more, with "variables 0 to
-/// 255, marks 0 to 2,047".
+/// 255, marks 0 to 2,047", and since request P2 variables up to 1,023.
 pub fn is_whole_formula(words: &[i32]) -> bool {
     whole_formula(words).is_some()
 }
@@ -122,7 +123,7 @@ fn whole_formula(words: &[i32]) -> Option<()> {
         }
         let number_fits = match shape.roles[0] {
             Role::AnyValue => words.next().is_some(),
-            Role::VariableNumber => (0..=255).contains(words.next()?),
+            Role::VariableNumber => Variable::numbered(*words.next()?).is_some(),
             Role::LoopRow => (0..=2_047).contains(words.next()?),
             Role::Unused | Role::Link(_) => true,
         };

@@ -1,18 +1,35 @@
 //! A table: "a lent run of 32-bit signed words, four to a row: kind, first,
 //! second, third".
 
+use std::ops::Range;
+
 /// The number of a row. "Rows count from 0."
 #[derive(Clone, Copy, Debug, PartialEq, Eq, PartialOrd, Ord, Hash)]
 pub struct Row(pub usize);
+
+/// How many variables there are: 256 in document 01, more since request P2,
+/// "Numbers 256 to 1,023 become ordinary".
+pub const VARIABLES: usize = 1_024;
+
+/// The frozen ones, "128 to 255". Document 01 ends with them; request P2 puts
+/// ordinary variables after them, and they "stay frozen, so that no stored
+/// table changes meaning".
+const FROZEN: Range<usize> = 128..256;
 
 /// The number of a variable, kept apart by type from the number of a row.
 #[derive(Clone, Copy, Debug, PartialEq, Eq, PartialOrd, Ord, Hash)]
 pub struct Variable(pub usize);
 
 impl Variable {
-    /// "Variables 0 to 127 are ordinary. 128 to 255 are frozen."
+    /// The variable whose number the word is; nothing where it is none's: "3
+    /// and 20 now begin at 1,024".
+    pub fn numbered(word: i32) -> Option<Variable> {
+        let number = usize::try_from(word).ok()?;
+        (number < VARIABLES).then_some(Variable(number))
+    }
+
     pub fn is_frozen(self) -> bool {
-        self.0 >= 128
+        FROZEN.contains(&self.0)
     }
 }
 

@@ -304,7 +304,7 @@ fn take_expression(rest: &mut &[i32]) -> Option<Expression> {
     }
     Some(match kind {
         1 => Expression::Constant(take_word(rest)?),
-        2 => Expression::Variable(Variable(usize::try_from(take_word(rest)?).ok()?)),
+        2 => Expression::Variable(Variable::numbered(take_word(rest)?)?),
         8 => Expression::Negate(Box::new(take_expression(rest)?)),
         9 => Expression::Mark(Row(usize::try_from(take_word(rest)?).ok()?)),
         10 => {

@@ -1,5 +1,5 @@
 //! Every trial row of document 01, example A to the byte, and the five wrong
-//! turns.
+//! turns; of variables, what request P2 makes of them.
 
 use reference::*;
 
@@ -141,7 +141,6 @@ fn div_and_mod_are_those_of_smt_lib() {
 #[test]
 fn refusals_of_changed_examples() {
     assert_eq!(check(&example_a_with(14, [33, 128, 13, 0])), refusal(8, 14));
-    assert_eq!(check(&example_a_with(14, [33, 256, 13, 0])), refusal(3, 14));
     assert_eq!(check(&example_a_with(9, [9, 15, 0, 0])), refusal(9, 9));
     assert_eq!(check(&example_a_with(13, [4, 11, 11, 0])), refusal(6, 13));
     assert_eq!(check(&example_a_with(13, [4, 11, 13, 0])), refusal(4, 13));
@@ -162,6 +161,114 @@ fn one_refusal_of_each_other_number() {
     assert_eq!(check(&example_a_with(1, [9, 15, 0, 0])), refusal(9, 1));
     assert_eq!(check(&example_a_with(1, [2, 200, 0, 0])), Verdict::Accepted);
     assert_eq!(check(&example_a_with(7, [2, 200, 0, 0])), Verdict::Accepted);
+}
+
+/// Document 01 refuses target 256; by request P2 "the case with target 256
+/// becomes planned", and 3 begins at 1,024.
+#[test]
+fn targets_at_the_edges_of_what_is_frozen() {
+    for target in [0, 127, 256, 257, 1_023] {
+        let table = example_a_with(14, [33, target, 13, 0]);
+        assert_eq!(answer(&table, 512, 5_120).0, 0, "{target}");
+    }
+    for target in [128, 129, 254, 255] {
+        let table = example_a_with(14, [33, target, 13, 0]);
+        assert_eq!(answer(&table, 512, 5_120), (8, 14, 0, 0), "{target}");
+    }
+    for target in [-1, 1_024, 1_025, 65_536, i32::MIN, i32::MAX] {
+        let table = example_a_with(14, [33, target, 13, 0]);
+        assert_eq!(answer(&table, 512, 5_120), (3, 14, 0, 0), "{target}");
+    }
+}
+
+/// Rows of example A that read a variable: in a guard and an assigned
+/// expression, and in precondition, invariant, variant and postcondition.
+const READ_BY_CODE: [usize; 2] = [4, 11];
+const READ_BY_ANNOTATIONS: [usize; 4] = [1, 7, 9, 16];
+
+#[test]
+fn reads_at_the_edges_of_what_is_frozen() {
+    let verdict = |row, number| check(&example_a_with(row, [2, number, 0, 0]));
+    for row in READ_BY_CODE.into_iter().chain(READ_BY_ANNOTATIONS) {
+        for number in [0, 127, 256, 257, 1_023] {
+            assert_eq!(verdict(row, number), Verdict::Accepted, "{row} {number}");
+        }
+        for number in [-1, 1_024, 1_025, 65_536, i32::MIN, i32::MAX] {
+            assert_eq!(verdict(row, number), refusal(3, row), "{row} {number}");
+        }
+    }
+    for number in [128, 129, 254, 255] {
+        for row in READ_BY_CODE {
+            assert_eq!(verdict(row, number), refusal(9, row), "{row} {number}");
+        }
+        for row in READ_BY_ANNOTATIONS {
+            assert_eq!(verdict(row, number), Verdict::Accepted, "{row} {number}");
+        }
+    }
+}
+
+#[test]
+fn an_assertion_reads_ordinary_and_frozen_variables() {
+    let verdict = |number| {
+        let mut rows = EXAMPLE_A;
+        rows[11] = [2, number, 0, 0];
+        rows[13] = [20, 11, 12, 0];
+        rows[14] = [38, 13, 0, 0];
+        check(&words(&rows))
+    };
+    for number in [0, 127, 128, 255, 256, 1_023] {
+        assert_eq!(verdict(number), Verdict::Accepted, "{number}");
+    }
+    assert_eq!(verdict(1_024), refusal(3, 11));
+}
+
+/// Example A with another variable in place of 0.
+fn example_a_of(variable: i32) -> Vec<i32> {
+    let mut rows = EXAMPLE_A;
+    for row in rows.iter_mut().filter(|row| matches!(row[0], 2 | 33)) {
+        row[1] = variable;
+    }
+    words(&rows)
+}
+
+#[test]
+fn example_a_of_another_variable() {
+    for variable in [127, 256, 1_023] {
+        let output = program_output(&bytes(&example_a_of(variable)));
+        let expected = EXAMPLE_A_OUTPUT.replace("2 0", &format!("2 {variable}"));
+        assert_eq!(String::from_utf8(output).unwrap(), expected);
+        let mut start = State::default();
+        start.set_variable(Variable(variable as usize), 7);
+        let run = run(&example_a_of(variable), &start, 1_000).unwrap();
+        assert_eq!(run.end, End::Done);
+        assert_eq!(run.state.variable(Variable(variable as usize)), 0);
+        assert_eq!(run.arrivals[0].bodies_begun, 7);
+    }
+}
+
+/// v256 := v1023, with a postcondition that reads variables whose numbers are
+/// alike in their low byte.
+#[test]
+fn only_the_very_variable_is_replaced() {
+    let table = words(&[
+        [16, 0, 0, 0],
+        [2, 1_023, 0, 0],
+        [33, 256, 1, 0],
+        [2, 0, 0, 0],
+        [2, 256, 0, 0],
+        [20, 3, 4, 0],
+        [2, 255, 0, 0],
+        [2, 512, 0, 0],
+        [21, 6, 7, 0],
+        [23, 5, 8, 0],
+        [48, 0, 2, 9],
+    ]);
+    let outcome = generate(&table, 100, 1_000);
+    let list = &outcome.list[..outcome.words];
+    assert_eq!(
+        list,
+        [25, 16, 23, 20, 2, 0, 2, 1_023, 21, 2, 255, 2, 512, 4, 10, 13, 1]
+    );
 }
 
 /// Whiles and ifs in turn, one in the other, `nesting` deep.
@@ -369,7 +476,8 @@ fn torn_lists() {
         &[16, 25, 16, 16, 4, 3, 3, 1],
         &[25, 16, 16, 5, 3, 3, 1],
         &[25, 16, 16, 4, 2_048, 3, 1],
-        &[20, 2, 256, 1, 0, 4, 3, 5, 1],
+        &[20, 2, 1_024, 1, 0, 4, 3, 5, 1],
+        &[20, 2, -1, 1, 0, 4, 3, 5, 1],
         &[20, 9, 2_048, 1, 0, 4, 3, 5, 1],
         &[1, 5, 4, 3, 2, 1],
     ] {
@@ -377,6 +485,21 @@ fn torn_lists() {
         assert_eq!(line_at(list, -1), torn);
         let mut reader = ListReader::new(list);
         assert_eq!([reader.step(), reader.step()], [torn, torn]);
+    }
+}
+
+/// "3 and 20 now begin at 1,024."
+#[test]
+fn variables_of_a_list() {
+    for number in [0, 127, 128, 255, 256, 1_023] {
+        let list = [20, 2, number, 1, 0, 4, 3, 5, 1];
+        assert_eq!((line_at(&list, 0).number, line_at(&list, 0).end), (0, 5));
+        assert!(formula_from_words(&list[..5]).is_some());
+    }
+    for number in [-1, 1_024, 1_025, i32::MIN, i32::MAX] {
+        let list = [20, 2, number, 1, 0, 4, 3, 5, 1];
+        assert_eq!(line_at(&list, 0).number, 20, "{number}");
+        assert_eq!(formula_from_words(&list[..5]), None, "{number}");
     }
 }
 

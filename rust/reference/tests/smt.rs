@@ -1,4 +1,5 @@
-//! Request P1: the text of conditions to the byte, its refusals and the room.
+//! Request P1: the text of conditions to the byte, its refusals and the room;
+//! with the variables of request P2.
 
 use reference::*;
 
@@ -209,6 +210,48 @@ fn names_are_declared_once_in_rising_number() {
     assert_eq!(declarations(&[20, 1, 2, 1, 9]), "");
 }
 
+/// Frozen names stand where their numbers do, between ordinary ones.
+#[test]
+fn names_at_the_edges_of_what_is_frozen() {
+    let formula = [
+        23, 20, 2, 1_023, 2, 255, 23, 20, 2, 256, 2, 128, 20, 2, 127, 9, 1_023,
+    ];
+    let names = ["v127", "f128", "f255", "v256", "v1023", "m1023"];
+    let expected = names.map(|name| format!("(declare-const {name} Int)\n"));
+    assert_eq!(declarations(&formula), expected.concat());
+    assert_eq!(
+        asserted(&formula),
+        "(and (= v1023 f255) (and (= v256 f128) (= v127 m1023)))"
+    );
+}
+
+#[test]
+fn every_variable_has_its_name() {
+    for number in 0..1_024 {
+        let name = match number {
+            128..=255 => format!("f{number}"),
+            _ => format!("v{number}"),
+        };
+        assert_eq!(expression(&[2, number]), name);
+    }
+    for number in [-1, 1_024] {
+        let list = list_of(&[20, 2, number, 1, 0]);
+        assert_eq!(smt(&list, 0, 100), refused(20, 100));
+    }
+}
+
+#[test]
+fn as_many_names_as_there_are() {
+    let comparisons = (0..1_024).rev().flat_map(|number| [20, 2, number, 1, 0]);
+    let formula: Vec<i32> = [24; 1_023].into_iter().chain(comparisons).collect();
+    let name = |number| match number {
+        128..=255 => format!("(declare-const f{number} Int)\n"),
+        _ => format!("(declare-const v{number} Int)\n"),
+    };
+    let expected: String = (0..1_024).map(name).collect();
+    assert_eq!(declarations(&formula), expected);
+}
+
 /// A mark and a variable of one number are two names.
 #[test]
 fn a_mark_is_no_variable() {
@@ -265,7 +308,7 @@ fn twenty_before_twenty_one_before_thirty() {
 #[test]
 fn torn_behind_the_index() {
     let mut list = EXAMPLE_A;
-    list[80] = 256;
+    list[84] = 1_024;
     assert_eq!(smt(&list, 0, 500).number, 20);
 }
 

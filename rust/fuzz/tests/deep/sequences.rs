@@ -135,6 +135,10 @@ impl Cases {
             let name = format!("eight assignments of {shape}");
             self.add(name, PLANNED, rows.script_of(whole));
         }
+        for (how, leaning) in LEANINGS {
+            let name = format!("680 variables from the next {how}");
+            self.add(name, PLANNED, variables_from_the_next(leaning));
+        }
     }
 }
 
@@ -189,6 +193,19 @@ fn in_turn(rows: &mut Rows, whole: i32, next: i32, leaning: Leaning) -> i32 {
         (next, whole)
     };
     rows.add([34, first, second, 0])
+}
+
+/// As many variables as rows allow, each assigned the next one.
+fn variables_from_the_next(leaning: Leaning) -> Vec<i32> {
+    let ordinary: Vec<i32> = (0..128).chain(256..1_024).collect();
+    let mut rows = Rows::new();
+    let mut whole = rows.skip();
+    for pair in ordinary[..681].windows(2) {
+        let read = rows.variable(pair[1]);
+        let next = rows.assign(pair[0], read);
+        whole = in_turn(&mut rows, whole, next, leaning);
+    }
+    rows.script_of(whole)
 }
 
 /// Eight loops in one another, with skips around each.

@@ -7,12 +7,36 @@ pub fn misspelt(fault: TextFault, text: &str) -> String {
     match fault {
         TextFault::NotNegated => asserted(text, "(not ", ")"),
         TextFault::DoubleNotDropped => asserted(text, "(not (not ", "))"),
-        TextFault::MarkAsVariable => renamed(text, 'm'),
-        TextFault::FrozenAsVariable => renamed(text, 'f'),
+        TextFault::MarkAsVariable => with_names(text, |name| match name {
+            ('m', number) => ('v', number),
+            name => name,
+        }),
+        TextFault::FrozenAsVariable => with_names(text, |name| match name {
+            ('f', number) => ('v', number),
+            name => name,
+        }),
+        TextFault::HighVariablesAsFrozen => with_names(text, |name| match name {
+            ('v', number @ 256..) => ('f', number),
+            name => name,
+        }),
+        TextFault::Name127AsFrozen => renamed(text, ('v', 127), ('f', 127)),
+        TextFault::Name128AsVariable => renamed(text, ('f', 128), ('v', 128)),
+        TextFault::Name255AsVariable => renamed(text, ('f', 255), ('v', 255)),
+        TextFault::Name256AsFrozen => renamed(text, ('v', 256), ('f', 256)),
+        TextFault::NumbersInLowByte => with_names(text, |name| match name {
+            ('v', number) => ('v', number % 256),
+            name => name,
+        }),
         TextFault::NumbersFalling => redeclared(text, |names| names.reverse()),
         TextFault::NamesInTextOrder => redeclared(text, |names| names.sort()),
         TextFault::MarksFirst => redeclared(text, |names| {
             names.sort_by_key(|name| !name.starts_with("(declare-const m"));
+        }),
+        TextFault::FrozenAfterVariables => redeclared(text, |names| {
+            names.sort_by_key(|name| !name.starts_with("(declare-const v"));
+        }),
+        TextFault::LastVariableNotDeclared => redeclared(text, |names| {
+            names.retain(|name| *name != "(declare-const v1023 Int)");
         }),
         TextFault::DeclaredTwice => redeclared(text, |names| names.extend_from_within(..)),
         TextFault::DivisionBare => divided(text, "div", |division| division.bare.to_string()),
@@ -44,15 +68,31 @@ fn asserted(text: &str, from: &str, to: &str) -> String {
     found.unwrap_or(text.to_string())
 }
 
-/// Names with this letter as variables.
-fn renamed(text: &str, letter: char) -> String {
-    let mut renamed = String::new();
-    let mut letters = text.chars().peekable();
-    while let Some(found) = letters.next() {
-        let is_name = found == letter && letters.peek().is_some_and(char::is_ascii_digit);
-        renamed.push(if is_name { 'v' } else { found });
+/// The letter and the number of a name.
+type Name = (char, usize);
+
+/// The text with other names.
+fn with_names(text: &str, change: impl Fn(Name) -> Name) -> String {
+    let mut changed = String::new();
+    let mut rest = text;
+    while let Some(letter) = rest.chars().next() {
+        let digits = rest[1..].bytes().take_while(u8::is_ascii_digit).count();
+        let (name, after) = rest.split_at(1 + digits);
+        match (letter, name[1..].parse()) {
+            ('v' | 'f' | 'm', Ok(number)) => {
+                let (letter, number) = change((letter, number));
+                changed += &format!("{letter}{number}");
+            }
+            _ => changed += name,
+        }
+        rest = after;
     }
-    renamed
+    changed
+}
+
+/// The text with one name in place of another.
+fn renamed(text: &str, from: Name, to: Name) -> String {
+    with_names(text, |name| if name == from { to } else { name })
 }
 
 /// The text with other declarations, each a line.
