@@ -318,7 +318,7 @@ fn tables_with_rooms_around_the_need() {
 
 #[test]
 fn tables_altered() {
-    const RECORDED: [u64; 2] = [0xF5D9_0313_BFD6_D064, 0x38A9_6C3D_3764_9F91];
+    const RECORDED: [u64; 2] = [0xF5D9_0313_BFD6_D064, 0xFC51_7DA0_B842_25EC];
     compare(3, 50_000, RECORDED, |chance, digests| {
         let script = altered_script(chance);
         digest_at_the_need(&script, digests.of_table(&script.words));
@@ -375,7 +375,7 @@ fn lists_made_up() {
 
 #[test]
 fn lists_torn() {
-    const RECORDED: [u64; 2] = [0xE10A_8C80_9764_43C6, 0xB792_ABFD_F95D_10E8];
+    const RECORDED: [u64; 2] = [0xE10A_8C80_9764_43C6, 0x7932_EFF6_C853_6778];
     compare(9, 10_000, RECORDED, |chance, digests| {
         let mut words = match chance.below(4) {
             0 => few_words(chance),
@@ -404,7 +404,7 @@ fn texts_for_solvers() {
 /// one in four has numbers at the edges of the ranges too.
 #[test]
 fn numbers_that_p2_made_ordinary() {
-    const RECORDED: u64 = 0x6B3C_26F0_41E4_0A46;
+    const RECORDED: u64 = 0x3867_D288_33CA_E5E2;
     let mut digest = Digest::new();
     for input in 0..5_000 {
         let chance = &mut Chance::of_input(11, input);
