@@ -63,6 +63,7 @@ fn time_lists(watch: &Stopwatch) {
             "350 assignments passed 200 times",
             scripts::assignments_passed(350, 200),
         ),
+        ("v256 to v606", scripts::shifted_variables(350)),
         ("a full list", scripts::full_list()),
     ];
     for (name, table) in tables {
@@ -111,6 +112,7 @@ fn time_refusals(watch: &Stopwatch) {
 fn time_readings(watch: &Stopwatch) {
     let lists = [
         ("50 loops", list_of(&scripts::loops(50))),
+        ("v256 to v606", list_of(&scripts::shifted_variables(350))),
         ("one condition", list_of(&scripts::full_list())),
         ("4,095 conditions", list_of_short_conditions()),
     ];
@@ -132,6 +134,7 @@ fn list_of_divisors(depth: usize) -> Vec<i32> {
 fn time_texts(watch: &Stopwatch) {
     let texts = [
         ("example A, step", list_of(&EXAMPLE_A), 2),
+        ("v256 to v606", list_of(&scripts::shifted_variables(350)), 0),
         ("a full list", list_of(&scripts::full_list()), 0),
         ("divisors 12 deep", list_of_divisors(12), 0),
     ];

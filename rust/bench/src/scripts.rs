@@ -94,6 +94,25 @@ pub fn full_list() -> Vec<i32> {
     list_of_length(&mut Prng::new(1), leqwarti::LONGEST_LIST)
 }
 
+/// v256 := v257; v257 := v258; .. and then v0 := v256 + v257 + .., over so many
+/// variables past the frozen names: each goes through its own assignment.
+pub fn shifted_variables(count: i32) -> Vec<i32> {
+    let mut arena = Arena::default();
+    let mut statements = Vec::new();
+    for variable in 256..256 + count {
+        let next = arena.variable(variable + 1);
+        statements.push(arena.assign(variable, next));
+    }
+    let mut sum = arena.variable(256);
+    for variable in 257..256 + count {
+        let read = arena.variable(variable);
+        sum = arena.two(3, sum, read);
+    }
+    statements.push(arena.assign(0, sum));
+    let statement = in_sequence(&mut arena, statements);
+    laid_out(arena, statement)
+}
+
 /// Assignments to other variables before one whose value reads its variable so
 /// many times: each read goes back past them all.
 pub fn assignments_passed(others: i32, reads: i32) -> Vec<i32> {

@@ -16,12 +16,17 @@ const TAKEN: [&str; 11] = [
 impl Names {
     /// Reads a line such as `v0 is x`.
     pub fn add(&mut self, line: &str) -> Result<(), String> {
-        let form = || "a line that names a variable is like `v0 is x`".to_string();
         let words: Vec<&str> = line.split_whitespace().collect();
         let [variable, "is", name] = words[..] else {
-            return Err(form());
+            return Err("a line that names a variable is like `v0 is x`".to_string());
         };
-        let number = variable_number(variable).ok_or_else(form)?;
+        let no_variable = || {
+            format!(
+                "`{}` is no variable: v0 to v{LAST_VARIABLE}, with no zero in front",
+                variable.escape_debug()
+            )
+        };
+        let number = variable_number(variable).ok_or_else(no_variable)?;
         if !is_name(name) {
             return Err(format!(
                 "`{}` is no name: letters and _, and no word of formulas",
@@ -53,10 +58,12 @@ impl Names {
     }
 }
 
-/// The number of `v0` to `v255`.
+const LAST_VARIABLE: usize = 1_023;
+
+/// The number of `v0` to `v1023`, in the one form that formulas have it in.
 fn variable_number(text: &str) -> Option<usize> {
-    let number: u8 = text.strip_prefix('v')?.parse().ok()?;
-    Some(number.into())
+    let number = text.strip_prefix('v')?.parse().ok()?;
+    (number <= LAST_VARIABLE && text == format!("v{number}")).then_some(number)
 }
 
 /// Names have no digits, so none of them looks like a number, a variable or a mark.
@@ -90,17 +97,42 @@ mod tests {
     }
 
     #[test]
+    fn variables_past_the_frozen_names_have_names_too() {
+        let names = names(&["v255 is last_frozen", "v256 is front", "v1023 is rear"]);
+        let text = "(v255 < v256) and (v25 < (v1023 + v102))";
+        assert_eq!(
+            names.put_into(text),
+            "(last_frozen < front) and (v25 < (rear + v102))"
+        );
+    }
+
+    #[test]
     fn lines_that_name_nothing_are_told() {
         let form = "a line that names a variable is like `v0 is x`";
-        for line in [
-            "v0",
-            "v0 is",
-            "v0 = x",
-            "v256 is x",
-            "vx is y",
-            "v0 is two words",
-        ] {
+        for line in ["v0", "v0 is", "v0 = x", "v0 is two words", "v 0 is x"] {
             assert_eq!(Names::default().add(line), Err(form.to_string()), "{line}");
+        }
+    }
+
+    #[test]
+    fn what_is_no_variable_is_told() {
+        for wrong in [
+            "v",
+            "vx",
+            "v1024",
+            "v65536",
+            "v99999999999999999999",
+            "v01",
+            "v00",
+            "v+1",
+            "v-1",
+            "v1x",
+            "v1.0",
+            "variable",
+        ] {
+            let told = format!("`{wrong}` is no variable: v0 to v1023, with no zero in front");
+            let line = format!("{wrong} is x");
+            assert_eq!(Names::default().add(&line), Err(told));
         }
     }
 

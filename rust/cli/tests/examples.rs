@@ -89,6 +89,10 @@ fn what_cannot_be_read_has_status_2_and_its_line() {
         ),
         ("1: 1 0 0 0\n", "standard input:1: row 0 is labelled `1`"),
         ("v0 x\n", "standard input:1: a line that names a variable"),
+        (
+            "v1023 is x\nv1024 is y\n",
+            "standard input:2: `v1024` is no variable",
+        ),
     ];
     for (input, told) in faults {
         let output = vcgen(&["-"], input);

@@ -79,7 +79,7 @@ impl Example {
 /// A state whose values are so small that equations are often true by chance.
 fn tiny_state(random: &mut Prng, words: &[i32]) -> State {
     let mut state = State::default();
-    for number in (0..6).chain(128..134) {
+    for number in (0..6).chain(128..134).chain(256..262) {
         state.set_variable(Variable(number), random.between(-2, 4).into());
     }
     for row in (0..words.len() / 4).filter(|row| words[4 * row] == 36) {

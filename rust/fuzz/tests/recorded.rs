@@ -1,9 +1,10 @@
-//! The answers of the proved library on 200,000 inputs, as recorded digests.
+//! The answers of the proved library on 210,000 inputs, as recorded digests.
 //!
 //! Inputs: tables with lengths of both buffers, through the check and both
-//! generators, with every answer and every word of both buffers; and lists,
-//! through the reader at several indices, its first place and all its steps.
-//! Each group of inputs has a constant of its own, so that a difference says
+//! generators, with every answer and every word of both buffers; lists, through
+//! the reader at several indices, its first place and all its steps; and lists
+//! with an index and a room, through the writer of texts, with every byte.
+//! Each group of inputs has constants of its own, so that a difference says
 //! where it is. The inputs are in the module `frozen`, apart from those of the
 //! other tests and from their seed, so that they never change by the way. Rooms
 //! around the need and the lists of the generator come from the library itself.
@@ -11,6 +12,13 @@
 //! No change that keeps the contracts may change a constant. A request that
 //! changes answers on purpose renews the constants of the groups concerned, or
 //! splits a group so that the rest of it stays, and says so.
+//!
+//! P2 made the variable numbers 256 to 1,023 ordinary, and may have changed the
+//! answers only of inputs that hold one of them. It split every group: inputs
+//! are drawn until so many that hold none are there as the group wants, and
+//! the digest of these was recorded with the library from before P2. The others
+//! that were drawn have a digest of their own, and so have 5,000 inputs
+//! beside the 210,000 that hold such numbers in plenty.
 
 mod frozen;
 
@@ -18,6 +26,7 @@ use std::collections::BTreeMap;
 
 use frozen::limits::script_at_a_limit;
 use frozen::lists::{few_words, list, tear};
+use frozen::numbers::{put_at_edges, renumbered_script};
 use frozen::tables::{altered_script, faulty_script, random_rows, script, Script};
 use frozen::Chance;
 use fuzz::tell;
@@ -26,14 +35,19 @@ use leqwarti::{entries, Record, LONGEST_LIST};
 /// FNV-1a, a word at a time in place of a byte.
 struct Digest {
     hash: u64,
+    inputs: u64,
     /// How often each number was answered, for those who read the log.
     numbers: BTreeMap<usize, u64>,
 }
 
+/// The digest of no inputs.
+const NO_INPUTS: u64 = 0xCBF2_9CE4_8422_2325;
+
 impl Digest {
     fn new() -> Digest {
         Digest {
-            hash: 0xCBF2_9CE4_8422_2325,
+            hash: NO_INPUTS,
+            inputs: 0,
             numbers: BTreeMap::new(),
         }
     }
@@ -54,6 +68,14 @@ impl Digest {
         }
     }
 
+    fn add_text(&mut self, written: entries::Written, text: &[u8]) {
+        *self.numbers.entry(written.number).or_default() += 1;
+        for part in [written.number, written.used, text.len()] {
+            self.add(part as u64);
+        }
+        text.iter().for_each(|&byte| self.add(u64::from(byte)));
+    }
+
     fn add_line(&mut self, line: entries::Line) {
         *self.numbers.entry(line.number).or_default() += 1;
         for part in [line.number, line.kind, line.row, line.start, line.end] {
@@ -62,19 +84,77 @@ impl Digest {
     }
 }
 
-/// Runs the inputs of a group and compares the digest with the one recorded.
-fn compare(group: u64, inputs: u64, recorded: u64, run: fn(&mut Chance, &mut Digest)) {
-    let mut digest = Digest::new();
-    for input in 0..inputs {
-        run(&mut Chance::of_input(group, input), &mut digest);
+/// The digests of a group: of the inputs that hold none of the variable numbers
+/// that P2 made ordinary, and of the others.
+struct Digests {
+    from_before_p2: Digest,
+    since_p2: Digest,
+}
+
+impl Digests {
+    /// The digest that a table belongs to.
+    fn of_table(&mut self, words: &[i32]) -> &mut Digest {
+        let (rows, _) = words.as_chunks();
+        let holds_one = |row: &[i32; 4]| matches!(row, [2 | 33, 256..=1_023, ..]);
+        self.of_input(rows.iter().any(holds_one))
     }
-    let Digest { hash, numbers } = digest;
+
+    /// The digest that a list belongs to. Torn words do not say which of them
+    /// are kinds, so that every word 2 is taken for the kind of a variable: some
+    /// lists are parted with the others though they hold none, and no list stays
+    /// that holds one.
+    fn of_list(&mut self, words: &[i32]) -> &mut Digest {
+        let holds_one = |pair: &[i32]| matches!(pair, [2, 256..=1_023]);
+        self.of_input(words.windows(2).any(holds_one))
+    }
+
+    fn of_input(&mut self, holds_new_numbers: bool) -> &mut Digest {
+        let digest = if holds_new_numbers {
+            &mut self.since_p2
+        } else {
+            &mut self.from_before_p2
+        };
+        digest.inputs += 1;
+        digest
+    }
+}
+
+/// Runs inputs of a group until so many hold none of the numbers that P2 made
+/// ordinary, and compares the two digests with those recorded: with the library
+/// from before P2, and since.
+fn compare(group: u64, inputs: u64, recorded: [u64; 2], run: fn(&mut Chance, &mut Digests)) {
+    let mut digests = Digests {
+        from_before_p2: Digest::new(),
+        since_p2: Digest::new(),
+    };
+    let mut drawn = 0;
+    while digests.from_before_p2.inputs < inputs {
+        run(&mut Chance::of_input(group, drawn), &mut digests);
+        drawn += 1;
+    }
+    let [from_before_p2, since_p2] = recorded;
+    let name = |of| format!("group {group} {of}");
+    expect(
+        &name("from before P2"),
+        from_before_p2,
+        digests.from_before_p2,
+    );
+    expect(&name("since P2"), since_p2, digests.since_p2);
+}
+
+/// Tells what a digest is of, and compares it with the one recorded.
+fn expect(name: &str, recorded: u64, digest: Digest) {
+    let Digest {
+        hash,
+        inputs,
+        numbers,
+    } = digest;
     tell(format!(
-        "group {group}, {inputs} inputs: {hash:#018x}, numbers {numbers:?}"
+        "{name}, {inputs} inputs: {hash:#018x}, numbers {numbers:?}"
     ));
     assert_eq!(
         hash, recorded,
-        "group {group}: {hash:#018x} in place of {recorded:#018x}"
+        "{name}: {hash:#018x} in place of {recorded:#018x}"
     );
 }
 
@@ -182,55 +262,102 @@ fn digest_steps(words: &[i32], place: &mut usize, digest: &mut Digest) {
     }
 }
 
+/// The bytes of the text at an index, or as many as it gets; a few for what is
+/// refused.
+fn bytes_needed(words: &[i32], index: i32) -> usize {
+    const TOO_LONG: usize = 30;
+    const MOST: usize = 1 << 17;
+    for room in [1 << 10, 1 << 14, MOST] {
+        match entries::smt(words, index, &mut vec![0; room]) {
+            written if written.number == 0 => return written.used,
+            written if written.number == TOO_LONG => {}
+            _ => return 20,
+        }
+    }
+    MOST
+}
+
+/// Mostly at an index that the list has, with a room about as large as it needs.
+fn digest_text(words: &[i32], chance: &mut Chance, digest: &mut Digest) {
+    let count = words.last().copied().unwrap_or(0);
+    let any = chance.below(count.clamp(1, 5_000) as usize) as i32;
+    let index = match chance.below(8) {
+        0 => chance.pick(&[i32::MIN, -1, count, i32::MAX]),
+        _ => any,
+    };
+    let needed = bytes_needed(words, index);
+    let room = match chance.below(6) {
+        0 | 1 => needed,
+        2 => needed + 1,
+        3 => needed + chance.below(200),
+        4 => needed - 1,
+        _ => chance.below(needed + 1),
+    };
+    let mut text = vec![0x5A; room];
+    let written = entries::smt(words, index, &mut text);
+    digest.add_text(written, &text);
+}
+
 #[test]
 fn tables_accepted() {
-    compare(1, 50_000, 0x124F_E570_025F_2DF1, |chance, digest| {
-        digest_at_the_need(&script(chance), digest);
+    const RECORDED: [u64; 2] = [0x124F_E570_025F_2DF1, NO_INPUTS];
+    compare(1, 50_000, RECORDED, |chance, digests| {
+        let script = script(chance);
+        digest_at_the_need(&script, digests.of_table(&script.words));
     });
 }
 
 #[test]
 fn tables_with_rooms_around_the_need() {
-    compare(2, 30_000, 0x4C99_CDAB_660F_850B, |chance, digest| {
+    const RECORDED: [u64; 2] = [0x4C99_CDAB_660F_850B, NO_INPUTS];
+    compare(2, 30_000, RECORDED, |chance, digests| {
         let script = script(chance);
-        digest_around_the_need(&script, chance, digest);
+        digest_around_the_need(&script, chance, digests.of_table(&script.words));
     });
 }
 
 #[test]
 fn tables_altered() {
-    compare(3, 50_000, 0x448D_863E_2B96_A707, |chance, digest| {
-        digest_at_the_need(&altered_script(chance), digest);
+    const RECORDED: [u64; 2] = [0xF5D9_0313_BFD6_D064, 0xFC51_7DA0_B842_25EC];
+    compare(3, 50_000, RECORDED, |chance, digests| {
+        let script = altered_script(chance);
+        digest_at_the_need(&script, digests.of_table(&script.words));
     });
 }
 
 #[test]
 fn tables_with_names_or_nesting_out_of_place() {
-    compare(4, 20_000, 0xCAB0_F20F_45DE_48A9, |chance, digest| {
+    const RECORDED: [u64; 2] = [0xCAB0_F20F_45DE_48A9, NO_INPUTS];
+    compare(4, 20_000, RECORDED, |chance, digests| {
         let script = faulty_script(chance);
-        digest_around_the_need(&script, chance, digest);
+        digest_around_the_need(&script, chance, digests.of_table(&script.words));
     });
 }
 
 #[test]
 fn tables_of_random_rows() {
-    compare(5, 20_000, 0xF447_B34F_3C4E_6348, |chance, digest| {
-        digest_table(&random_rows(chance), 40, 100, digest);
+    const RECORDED: [u64; 2] = [0xDB19_1B0F_5BA3_EB63, 0x2117_DFF6_0D53_0D55];
+    compare(5, 20_000, RECORDED, |chance, digests| {
+        let words = random_rows(chance);
+        digest_table(&words, 40, 100, digests.of_table(&words));
     });
 }
 
 #[test]
 fn tables_at_limits() {
-    compare(6, 1_000, 0x32DB_0B42_6C90_41C0, |chance, digest| {
+    const RECORDED: [u64; 2] = [0x32DB_0B42_6C90_41C0, NO_INPUTS];
+    compare(6, 1_000, RECORDED, |chance, digests| {
         let script = script_at_a_limit(chance);
-        digest_around_the_need(&script, chance, digest);
+        digest_around_the_need(&script, chance, digests.of_table(&script.words));
     });
 }
 
 #[test]
 fn lists_of_the_generator() {
-    compare(7, 9_000, 0x83B1_8392_8125_007E, |chance, digest| {
+    const RECORDED: [u64; 2] = [0x83B1_8392_8125_007E, NO_INPUTS];
+    compare(7, 9_000, RECORDED, |chance, digests| {
         let script = script(chance);
+        let digest = digests.of_table(&script.words);
         if let Ok(plan) = leqwarti::plan(&script.words) {
             digest_list(plan.words(), chance, digest);
         }
@@ -239,15 +366,17 @@ fn lists_of_the_generator() {
 
 #[test]
 fn lists_made_up() {
-    compare(8, 10_000, 0x8E69_B353_6BF2_564B, |chance, digest| {
+    const RECORDED: [u64; 2] = [0x6448_93D4_70F5_9375, 0x10EA_3B94_782B_AE55];
+    compare(8, 10_000, RECORDED, |chance, digests| {
         let words = list(chance);
-        digest_list(&words, chance, digest);
+        digest_list(&words, chance, digests.of_list(&words));
     });
 }
 
 #[test]
 fn lists_torn() {
-    compare(9, 10_000, 0x6B6D_2AB3_C10B_7165, |chance, digest| {
+    const RECORDED: [u64; 2] = [0xE10A_8C80_9764_43C6, 0x7932_EFF6_C853_6778];
+    compare(9, 10_000, RECORDED, |chance, digests| {
         let mut words = match chance.below(4) {
             0 => few_words(chance),
             _ => list(chance),
@@ -255,6 +384,44 @@ fn lists_torn() {
         for _ in 0..1 + chance.below(2) {
             tear(&mut words, chance);
         }
-        digest_list(&words, chance, digest);
+        digest_list(&words, chance, digests.of_list(&words));
     });
+}
+
+#[test]
+fn texts_for_solvers() {
+    const RECORDED: [u64; 2] = [0x52E5_6E1C_A12D_6886, 0xDCF5_D9AE_A27D_FC6A];
+    compare(10, 10_000, RECORDED, |chance, digests| {
+        let mut words = list(chance);
+        if chance.once_in(8) {
+            tear(&mut words, chance);
+        }
+        digest_text(&words, chance, digests.of_list(&words));
+    });
+}
+
+/// Scripts with the numbers that P2 made ordinary, and their lists and texts;
+/// one in four has numbers at the edges of the ranges too.
+#[test]
+fn numbers_that_p2_made_ordinary() {
+    const RECORDED: u64 = 0x3867_D288_33CA_E5E2;
+    let mut digest = Digest::new();
+    for input in 0..5_000 {
+        let chance = &mut Chance::of_input(11, input);
+        let mut script = renumbered_script(chance);
+        if chance.once_in(4) {
+            put_at_edges(&mut script.words, 4, &[2, 33], chance);
+        }
+        digest_at_the_need(&script, &mut digest);
+        if let Ok(plan) = leqwarti::plan(&script.words) {
+            let mut words = plan.words().to_vec();
+            if chance.once_in(4) {
+                put_at_edges(&mut words, 1, &[2], chance);
+            }
+            digest_list(&words, chance, &mut digest);
+            digest_text(&words, chance, &mut digest);
+        }
+        digest.inputs += 1;
+    }
+    expect("group 11", RECORDED, digest);
 }

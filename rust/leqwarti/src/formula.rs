@@ -13,7 +13,8 @@ use std::fmt::{self, Write};
 /// assert_eq!(formula.to_string(), "(0 <= v0) implies (not (v0 = m15))");
 /// ```
 ///
-/// A variable is `v` and its number, the mark of a loop `m` and the loop's row.
+/// A variable is `v` and its number, a frozen one too; the mark of a loop is `m`
+/// and the loop's row.
 #[derive(Clone, Copy, Debug, PartialEq, Eq)]
 pub struct Formula<'a> {
     words: &'a [i32],
@@ -166,8 +167,8 @@ mod tests {
         let chosen = [20, 10, 24, 16, 17, 2, 0, 9, 7, 1, 0];
         assert_eq!(written(&chosen), "(if (true or false) then v0 else m7) = 0");
         assert_eq!(
-            written(&[25, 22, 21, 2, 0, 1, 1, 23, 16, 19, 1, 0, 2, 255]),
-            "(not (v0 != 1)) implies (true and (0 <= v255))"
+            written(&[25, 22, 21, 2, 0, 1, 1, 23, 16, 19, 2, 1023, 2, 255]),
+            "(not (v0 != 1)) implies (true and (v1023 <= v255))"
         );
     }
 

@@ -14,7 +14,7 @@ pub enum Reason {
     TableLength = 1,
     /// "unknown job": the row's kind is none of the listed ones.
     UnknownKind = 2,
-    /// "off the scale": a variable number not 0 to 255, a mark of a row that
+    /// "off the scale": a variable number not 0 to 1,023, a mark of a row that
     /// the table lacks, or an unused field that is not 0.
     FieldOutOfRange = 3,
     /// "bad link": a link not to a lower row.
@@ -82,7 +82,7 @@ impl Reason {
             Reason::TableLength => "a table has 1 to 2,048 rows of four words",
             Reason::UnknownKind => "the row has a kind that does not exist",
             Reason::FieldOutOfRange => {
-                "the row has a variable number not from 0 to 255, a mark of a row that the table lacks, \
+                "the row has a variable number not from 0 to 1,023, a mark of a row that the table lacks, \
                  or an unused field that is not 0"
             }
             Reason::BadLink => "the row links to a row that is not above it in the table",

@@ -22,9 +22,10 @@ const STACK: usize = 4 << 20;
 
 /// The condition at an index of a finished list, from the front, as an
 /// SMT-LIB 2 script that asserts its opposite: where a solver answers `unsat`,
-/// the condition is true in every state. Refused with
-/// [`TextTooLong`](Reason::TextTooLong) where the text is longer than
-/// [`LONGEST_TEXT`].
+/// the condition is true in every state. Variables are `v0` to `v127` and `v256`
+/// to `v1023`, frozen names `f128` to `f255`, marks `m` and the loop's row.
+/// Refused with [`TextTooLong`](Reason::TextTooLong) where the text is longer
+/// than [`LONGEST_TEXT`].
 ///
 /// A list of more than 4,096 words is written by a thread with a stack of its
 /// own, since a deep formula takes more than a thread of Rust's has by default.

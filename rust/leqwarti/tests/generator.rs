@@ -1,12 +1,14 @@
 //! The generator: room and scratch at their edges, the largest tables and
 //! lists, and scripts of each shape with their whole lists. The answers wanted
-//! are worked out from document 01's rules. The document's trial rows, which the
-//! program `trials` runs, are among them: here the buffers are looked at too.
+//! are worked out from document 01's rules, with the range of variables from
+//! document 02, P2. Document 01's trial rows, which the program `trials` runs,
+//! are among them: here the buffers are looked at too. `generator_cases.txt` has
+//! cases that an independent reading of P2 answered.
 
 mod common;
 
 use common::{answer, cases, edited, longest_path, nested, number, numbers, parts};
-use common::{planned, refused, Row, Script};
+use common::{planned, refused, sum_of_all_variables, sum_of_all_variables_list, Row, Script};
 use common::{EVERY_KIND, EXAMPLE_A, EXAMPLE_A_LIST, FOUR_ROWS};
 use leqwarti::entries::{generate, Answer};
 use leqwarti::Plan;
@@ -81,16 +83,19 @@ fn lengths() {
 fn refusals_by_number() {
     for case in cases(
         "
-        14: 33 128 13 0 | refused 8 14 | an assignment to a frozen name
-        14: 33 256 13 0 | refused 3 14 | no variable has that number
-         9: 9 15 0 0    | refused 9 9  | a mark in the variant of its own loop
-        13: 4 11 11 0   | refused 6 13 | a part twice
-        13: 4 11 13 0   | refused 4 13 | a link to itself
-         0: 11 0 0 0    | refused 2 0  | a kind that is not listed
-        13: 4 11 8 0    | refused 5 13 | a formula for an expression
-        14: 32 0 0 0    | refused 7 13 | nothing links to row 13
-        19: 16 0 0 0    | refused 7 19 | the last row is no script
-        11: 2 128 0 0   | refused 9 11 | an assigned expression that reads a frozen name
+        14: 33 128 13 0  | refused 8 14 | an assignment to a frozen name
+        14: 33 255 13 0  | refused 8 14 | an assignment to a frozen name
+        14: 33 1024 13 0 | refused 3 14 | no variable has that number (before P2 it was 256)
+        14: 33 -1 13 0   | refused 3 14 | no variable has that number
+         9: 9 15 0 0     | refused 9 9  | a mark in the variant of its own loop
+        13: 4 11 11 0    | refused 6 13 | a part twice
+        13: 4 11 13 0    | refused 4 13 | a link to itself
+         0: 11 0 0 0     | refused 2 0  | a kind that is not listed
+        13: 4 11 8 0     | refused 5 13 | a formula for an expression
+        14: 32 0 0 0     | refused 7 13 | nothing links to row 13
+        19: 16 0 0 0     | refused 7 19 | the last row is no script
+        11: 2 128 0 0    | refused 9 11 | an assigned expression that reads a frozen name
+        11: 2 255 0 0    | refused 9 11 | an assigned expression that reads a frozen name
         ",
     ) {
         let [edit, wanted, _why] = parts(case, "|");
@@ -284,6 +289,78 @@ fn the_order_of_refusals() {
 fn the_lists_of_the_trial_rows() {
     expect_list("example A", &EXAMPLE_A, EXAMPLE_A_LIST);
     expect_list("four rows", &FOUR_ROWS, "25 16 16 4 3 3 1");
+}
+
+/// Example A whose body assigns to a variable that P2 made ordinary; 3 before
+/// P2. x stays as it is in the step, and nothing of the target is in the list.
+#[test]
+fn targets_from_256_to_1023() {
+    for target in [256, 257, 1_000, 1_023] {
+        expect_list(
+            &format!("target {target}"),
+            &edited(&EXAMPLE_A, 14, [33, target, 13, 0]),
+            "
+            25 23 19 1 0 2 0 22 18 1 0 2 0 20 2 0 1 0 1 15 18,
+            25 23 19 1 0 2 0 18 1 0 2 0 19 1 0 2 0 2 15 17,
+            25 23 23 19 1 0 2 0 18 1 0 2 0 20 2 0 9 15 23 19 1 0 2 0 18 2 0 9 15 3 15 29,
+            25 19 1 0 2 0 19 1 0 2 0 4 19 11,
+            4
+            ",
+        );
+    }
+}
+
+/// Example A with another variable for x everywhere.
+#[test]
+fn variables_from_256_to_1023() {
+    for variable in [127, 256, 1_023] {
+        let renumbered = |row: Row| match row {
+            [2, 0, ..] => [2, variable, 0, 0],
+            [33, 0, assigned, _] => [33, variable, assigned, 0],
+            other => other,
+        };
+        let list = EXAMPLE_A_LIST.replace(" 2 0", &format!(" 2 {variable}"));
+        let rows = EXAMPLE_A.map(renumbered);
+        expect_list(&format!("v{variable}"), &rows, &list);
+    }
+}
+
+#[test]
+fn all_ordinary_variables_in_one_expression() {
+    let (table, list) = (sum_of_all_variables().concat(), sum_of_all_variables_list());
+    assert_eq!((table.len() / 4, list.len()), (1_797, 2_696));
+    for room in [2_696, 4_000] {
+        let written = expect("the sum", &table, room, 8_000, planned(1, 2_696));
+        assert_eq!(written, list);
+    }
+    expect("no room", &table, 2_695, 8_000, refused(12, 0));
+}
+
+/// v257 := v256 + 1; v258 := v257 + 1; .. before v656 = v0: all 400 pass into
+/// one another, and v256 + 1 + .. + 1 is left.
+#[test]
+fn assignments_to_400_variables() {
+    let mut rows: Vec<Row> = vec![[16, 0, 0, 0]];
+    let mut statement = None;
+    for variable in 256..656 {
+        let next = rows.len() as i32;
+        rows.extend([[2, variable, 0, 0], [1, 1, 0, 0], [3, next, next + 1, 0]]);
+        rows.push([33, variable + 1, next + 2, 0]);
+        if let Some(before) = statement {
+            rows.push([34, before, next + 3, 0]);
+        }
+        statement = Some(rows.len() as i32 - 1);
+    }
+    let next = rows.len() as i32;
+    rows.extend([[2, 656, 0, 0], [2, 0, 0, 0], [20, next, next + 1, 0]]);
+    rows.push([48, 0, next - 1, next + 2]);
+
+    let sum = [vec![3; 400], vec![2, 256], [1, 1].repeat(400)].concat();
+    let trailer = vec![4, next + 3, 1_207, 1];
+    let list = [vec![25, 16, 20], sum, vec![2, 0], trailer].concat();
+    assert_eq!((next + 4, list.len()), (2_004, 1_211));
+    let written = expect("400", &rows.concat(), 1_211, 2_422, planned(1, 1_211));
+    assert_eq!(written, list);
 }
 
 /// Loops in branches, in sequence and in loops, with empty bodies.
@@ -502,4 +579,17 @@ fn constants() {
         &rows("1 -2147483648 0 0, 1 2147483647 0 0, 20 0 1 0, 32 0 0 0, 16 0 0 0, 48 2 3 4"),
         "25 20 1 -2147483648 1 2147483647 16 4 5 7, 1",
     );
+}
+
+#[test]
+fn the_recorded_cases() {
+    let mut tried = 0;
+    for case in cases(include_str!("generator_cases.txt")).skip(1) {
+        let [table, room, scratch, wanted, list] = parts(case, "|");
+        let (room, scratch) = (number(room), number(scratch));
+        let written = expect(case, &numbers(table), room, scratch, answer(wanted));
+        assert_eq!(written, numbers(list), "{case}");
+        tried += 1;
+    }
+    assert_eq!(tried, 75);
 }

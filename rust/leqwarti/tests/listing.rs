@@ -1,9 +1,11 @@
 //! The list reader: the line at an index, words that are no list (20), and
-//! indexes that a list does not have (21). What is wanted is from document 01.
+//! indexes that a list does not have (21). What is wanted is from document 01,
+//! with the range of variables from document 02, P2; `listing_cases.txt` has
+//! cases that an independent reading of P2 answered.
 
 mod common;
 
-use common::{cases, number, numbers, parts, EXAMPLE_A_LIST};
+use common::{cases, number, numbers, parts, sum_of_all_variables_list, EXAMPLE_A_LIST};
 use leqwarti::entries::{first_place, line_at, step, Line};
 
 /// A line whose formula stands from start up to end.
@@ -100,6 +102,8 @@ fn numbers_at_their_limits() {
         "
         20 1 -2147483648 1 2147483647 1 2047 5 1 | 0 | 1 | 2047 | 0 to 5 | any constant, row 2,047
         18 2 255 2 0 2 0 5 1                     | 0 | 2 | 0    | 0 to 5 | variables 255 and 0
+        18 2 1023 2 256 2 0 5 1                  | 0 | 2 | 0    | 0 to 5 | variables 1,023 and 256; 20 before P2
+        18 2 127 2 128 2 0 5 1                   | 0 | 2 | 0    | 0 to 5 | variables 127 and 128
         21 9 2047 9 0 3 1 5 1                    | 0 | 3 | 1    | 0 to 5 | marks 2,047 and 0
         19 10 16 6 1 1 1 0 8 7 2 1 2 2 5 3 1 5 1 5 1 5 4 0 22 1 | 0 | 4 | 0 | 0 to 22 | every kind of expression
         ",
@@ -224,17 +228,39 @@ fn torn_by_the_sort() {
     );
 }
 
-/// Variables are 0 to 255, marks 0 to 2,047.
+/// Variables are 0 to 1,023, marks 0 to 2,047.
 #[test]
 fn torn_by_numbers_past_their_limits() {
     expect_all_torn(
         "
-        18 2 256 1 0 4 0 5 1  | a variable
-        18 2 -1 1 0 4 0 5 1   | a variable
-        18 1 0 9 2048 4 0 5 1 | a mark
-        18 1 0 9 -1 4 0 5 1   | a mark
+        18 2 1024 1 0 4 0 5 1       | a variable (before P2 from 256 on)
+        18 1 0 2 1024 4 0 5 1       | a variable
+        18 2 -1 1 0 4 0 5 1         | a variable
+        18 2 2147483647 1 0 4 0 5 1 | a variable
+        18 2 65536 1 0 4 0 5 1      | a variable, 0 and 65,536
+        18 1 0 9 2048 4 0 5 1       | a mark
+        18 1 0 9 -1 4 0 5 1         | a mark
         ",
     );
+}
+
+/// Every variable there is, one to a line, read at each index and walking back.
+#[test]
+fn every_variable() {
+    let line_of = |variable| [18, 2, variable, 1, 0, 4, 7, 5];
+    let list = [(0..1_024).flat_map(line_of).collect(), vec![1_024]].concat();
+    for index in 0..1_024 {
+        let start = 8 * index as usize;
+        expect_line("a variable", &list, index, line(4, 7, start, start + 5));
+    }
+    assert_eq!(passed(&list), 1_024);
+}
+
+#[test]
+fn a_list_with_all_ordinary_variables() {
+    let list = sum_of_all_variables_list();
+    expect_line("the sum", &list, 0, line(4, 1_796, 0, 2_692));
+    assert_eq!(passed(&list), 1);
 }
 
 #[test]
@@ -344,4 +370,23 @@ fn lists_that_are_too_long() {
         let list = list_of([vec![22; nots], vec![16]].concat());
         expect_torn(&format!("{} words", list.len()), &list);
     }
+}
+
+#[test]
+fn the_recorded_cases() {
+    let mut tried = 0;
+    for case in cases(include_str!("listing_cases.txt")).skip(1) {
+        let [words, index, wanted] = parts(case, "|");
+        let [told, kind, row, start, end] = parts(wanted, " ");
+        let wanted = Line {
+            number: number(told),
+            kind: number(kind),
+            row: number(row),
+            start: number(start),
+            end: number(end),
+        };
+        expect_line(case, &numbers(words), number(index), wanted);
+        tried += 1;
+    }
+    assert_eq!(tried, 40);
 }

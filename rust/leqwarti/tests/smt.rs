@@ -1,10 +1,11 @@
 //! A condition as an SMT-LIB 2 script, and 30 for a buffer that is too short.
-//! What is wanted is from document 02, P1; `smt_cases.txt` has cases that an
-//! independent reading of both documents answered.
+//! What is wanted is from document 02, P1 and P2; `smt_cases.txt` has cases that
+//! an independent reading of both documents answered.
 
 mod common;
 
-use common::{cases, number, numbers, parts, EXAMPLE_A_LIST};
+use common::EXAMPLE_A_LIST;
+use common::{cases, number, numbers, ordinary_variables, parts, sum_of_all_variables_list};
 use leqwarti::entries::{self, Written};
 use leqwarti::{Plan, Reason, LONGEST_TEXT};
 
@@ -166,6 +167,33 @@ fn declared_names() {
          23 20 1 2 1 9 18 2 1 2 9       | v1 v9          | (and (= 2 9) (< v1 v9))
          20 10 18 2 5 9 3 2 1 2 130 1 2 | v1 v5 f130 m3  | (= (ite (< v5 m3) v1 f130) 2)",
     );
+}
+
+/// What P2 made ordinary is declared by number too, after the frozen names.
+#[test]
+fn declared_names_past_the_frozen_ones() {
+    expect_formulas(
+        "20 2 1023 2 1023               | v1023          | (= v1023 v1023)
+         20 2 256 2 255                 | f255 v256      | (= v256 f255)
+         20 3 2 256 2 127 3 2 255 2 128 | v127 f128 f255 v256 | (= (+ v256 v127) (+ f255 f128))
+         20 3 2 1000 2 999 3 2 100 2 9  | v9 v100 v999 v1000  | (= (+ v1000 v999) (+ v100 v9))
+         18 9 1023 2 1023               | v1023 m1023    | (< m1023 v1023)
+         18 9 256 6 2 256 2 1022        | v256 v1022 m256 | (< m256 (ite (= v1022 0) 0 (div v256 v1022)))",
+    );
+    for torn in [1_024, -1] {
+        let list = list_of(&[20, 2, torn, 1, 0]);
+        expect_refusal("no variable", &list, 0, 1_000, 20);
+    }
+}
+
+#[test]
+fn all_ordinary_variables_are_declared_in_rising_number() {
+    let names: Vec<String> = ordinary_variables().map(|v| format!("v{v}")).collect();
+    let (last, others) = names.split_last().unwrap();
+    let add = |sum: String, name: &String| format!("(+ {name} {sum})");
+    let sum = others.iter().rev().fold(last.clone(), add);
+    let wanted = script(&names.join(" "), &format!("(=> true (<= 0 {sum}))"));
+    expect("the sum", &sum_of_all_variables_list(), 0, &wanted);
 }
 
 #[test]

@@ -1,5 +1,6 @@
 //! The check of a table: cases for each number of document 01 from 1 to 10.
-//! The numbers and rows wanted are those that the document says.
+//! The numbers and rows wanted are those that the document says, with the
+//! range of variables from document 02, P2; what P2 moved says so.
 
 mod common;
 
@@ -85,10 +86,17 @@ fn variable_numbers_and_rows_of_marks() {
         "
          1: 2 -1 0 0          | 3 at 1   | variable
          1: 2 255 0 0         | accepted | in range, and frozen: a precondition may read it
-         1: 2 256 0 0         | 3 at 1   | variable
+         1: 2 256 0 0         | accepted | variable; 3 before P2
+         1: 2 1023 0 0        | accepted | the last variable
+         1: 2 1024 0 0        | 3 at 1   | variable
          1: 2 2147483647 0 0  | 3 at 1   | variable
+         1: 2 -2147483648 0 0 | 3 at 1   | variable
+         1: 2 65536 0 0       | 3 at 1   | 0 and 65,536
         14: 33 -1 13 0        | 3 at 14  | assigned variable
-        14: 33 256 13 0       | 3 at 14  | assigned variable
+        14: 33 256 13 0       | accepted | assigned variable; 3 before P2
+        14: 33 1023 13 0      | accepted | the last one assigned
+        14: 33 1024 13 0      | 3 at 14  | assigned variable
+        14: 33 2147483647 13 0 | 3 at 14 | assigned variable
          1: 9 -1 0 0          | 3 at 1   | mark's row
          1: 9 20 0 0          | 3 at 1   | mark's row past the last
          1: 9 19 0 0          | 9 at 1   | mark's row the last: in the table, and no while
@@ -96,7 +104,8 @@ fn variable_numbers_and_rows_of_marks() {
          1: 1 2147483647 0 0  | accepted | any constant
          1: 1 -2147483648 0 0 | accepted | any constant
         13: 4 11 13 1         | 3 at 13  | 3 before 4: an unused field, and a link to itself
-        14: 33 256 15 0       | 3 at 14  | 3 before 4: a variable, and a link upwards
+        14: 33 1024 15 0      | 3 at 14  | 3 before 4: a variable, and a link upwards
+        14: 33 256 15 0       | 4 at 14  | the link alone; 3 before P2
         ",
     );
 }
@@ -253,10 +262,12 @@ fn assignments_to_frozen_names() {
     expect_edits(
         &EXAMPLE_A,
         "
-        14: 33 127 13 0 | accepted | ordinary
-        14: 33 128 13 0 | 8 at 14  | frozen
-        14: 33 255 13 0 | 8 at 14  | frozen
-        14: 33 256 13 0 | 3 at 14  | no variable
+        14: 33 127 13 0  | accepted | ordinary
+        14: 33 128 13 0  | 8 at 14  | frozen
+        14: 33 255 13 0  | 8 at 14  | frozen
+        14: 33 256 13 0  | accepted | ordinary; 3 before P2
+        14: 33 1023 13 0 | accepted | ordinary
+        14: 33 1024 13 0 | 3 at 14  | no variable
         ",
     );
 }
@@ -267,14 +278,20 @@ fn frozen_names_that_are_read() {
     expect_edits(
         &EXAMPLE_A,
         "
-         4: 2 127 0 0 | accepted | ordinary, in the guard
-         4: 2 128 0 0 | 9 at 4   | in the guard
-         4: 2 255 0 0 | 9 at 4   | in the guard
-        11: 2 128 0 0 | 9 at 11  | in the assigned expression
-         7: 2 128 0 0 | accepted | in the invariant
-         9: 2 128 0 0 | accepted | in the variant
-         1: 2 128 0 0 | accepted | in the precondition
-        16: 2 255 0 0 | accepted | in the postcondition
+         4: 2 127 0 0  | accepted | ordinary, in the guard
+         4: 2 128 0 0  | 9 at 4   | in the guard
+         4: 2 255 0 0  | 9 at 4   | in the guard
+         4: 2 256 0 0  | accepted | ordinary, in the guard; 3 before P2
+         4: 2 1023 0 0 | accepted | ordinary, in the guard
+        11: 2 127 0 0  | accepted | ordinary, in the assigned expression
+        11: 2 128 0 0  | 9 at 11  | in the assigned expression
+        11: 2 255 0 0  | 9 at 11  | in the assigned expression
+        11: 2 256 0 0  | accepted | ordinary, in the assigned expression; 3 before P2
+        11: 2 1023 0 0 | accepted | ordinary, in the assigned expression
+         7: 2 128 0 0  | accepted | in the invariant
+         9: 2 128 0 0  | accepted | in the variant
+         1: 2 128 0 0  | accepted | in the precondition
+        16: 2 255 0 0  | accepted | in the postcondition
         ",
     );
     expect_edits(
@@ -288,6 +305,13 @@ fn frozen_names_that_are_read() {
         53: 2 128 0 0 | 9 at 53  | in an expression assigned after the loop
         ",
     );
+    for row in [1, 7, 9, 16] {
+        for variable in [127, 128, 255, 256, 1_023] {
+            let rows = edited(&EXAMPLE_A, row, [2, variable, 0, 0]);
+            let name = format!("{variable} in the annotation at row {row}");
+            expect(&name, &rows, ACCEPTED);
+        }
+    }
     let in_a_guard = [
         [16, 0, 0, 0],
         [2, 128, 0, 0],

@@ -4,6 +4,7 @@
 
 pub mod limits;
 pub mod lists;
+pub mod numbers;
 pub mod tables;
 
 /// A source of numbers that are the same for ever (SplitMix64).

@@ -114,6 +114,41 @@ pub const EVERY_KIND: [Row; 62] = [
     [48, 0, 57, 60], // 61: the script
 ];
 
+/// The ordinary variables: 0 to 127 and, since P2, 256 to 1,023.
+pub fn ordinary_variables() -> impl Iterator<Item = i32> {
+    (0..128).chain(256..1_024)
+}
+
+/// v1023 := v0 + (v1 + (.. + v1023)), the sum of all ordinary variables, before
+/// 0 at most v1023. Its list has the sum in place of v1023.
+pub fn sum_of_all_variables() -> Vec<Row> {
+    let mut rows: Vec<Row> = ordinary_variables().map(|v| [2, v, 0, 0]).collect();
+    let last = rows.len() as i32 - 1;
+    let mut sum = last;
+    for row in (0..last).rev() {
+        rows.push([3, row, sum, 0]);
+        sum = rows.len() as i32 - 1;
+    }
+    rows.extend([[33, 1_023, sum, 0], [16, 0, 0, 0], [1, 0, 0, 0]]);
+    rows.extend([[2, 1_023, 0, 0], [19, sum + 3, sum + 4, 0]]);
+    rows.push([48, sum + 2, sum + 1, sum + 5]);
+    rows
+}
+
+/// The list of [`sum_of_all_variables`].
+pub fn sum_of_all_variables_list() -> Vec<i32> {
+    let mut list = vec![25, 16, 19, 1, 0];
+    for variable in ordinary_variables() {
+        list.extend([3, 2, variable]);
+    }
+    // The last variable is a part alone.
+    list.remove(list.len() - 3);
+    let length = list.len() as i32;
+    let script = sum_of_all_variables().len() as i32 - 1;
+    list.extend([4, script, length, 1]);
+    list
+}
+
 /// The rows with one of them put anew.
 pub fn edited(rows: &[Row], row: usize, put: Row) -> Vec<Row> {
     let mut rows = rows.to_vec();
