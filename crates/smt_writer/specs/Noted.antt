@@ -1,11 +1,13 @@
 -- Which names occur, noted in a run of bytes, a byte for each name: variables first, then marks. In this order: the place of a
--- name, a run in which names are noted, the declarations of the names that are; then that these are the declarations of a
--- script (`declared-noted`). Assumes nothing.
+-- name, a run in which names are noted, the places past the last ones noted, the declarations of the names that are; then that
+-- these are the declarations of a script (`declared-noted`): one law for a kind of name, cited for variables and marks. Assumes
+-- nothing.
 use Prim.Native.Nat.{ℕ, zero, suc, _+_, _-_, _≤_, _<_}
 use mathlib.Core.Path.{_≡_, refl, sym, ap, _∙_}
 use mathlib.Core.Bool.{Bool, true, false, cond, _||_}
-use mathlib.Core.List.{List, [], _∷_, _++_, map, append-assoc, append-nil, map-append, List·Memᴰ·head, List·Memᴰ·tail}
-use native.Mathlib.Nat.{add-zero, add-suc, zero-add, add-sub-cancel-left}
+use mathlib.Core.Option.{Option, none, some}
+use mathlib.Core.List.{List, [], _∷_, _++_, map, append-nil, map-append, List·Memᴰ, List·Memᴰ·head, List·Memᴰ·tail, List·Memᴰ·cases-cons, List·Memᴰ·not-nil}
+use native.Mathlib.Nat.{add-zero, add-suc, zero-add}
 use native.Mathlib.Omega.{arith as linear}
 use borrow.Author.Tests.{lt-ltb, le-ltb, eq-eqb, ne-eqb, eqb-true, eqb-false, ltb-true, ltb-false}
 use lib.Dec.{eqb, ltb}
@@ -14,6 +16,9 @@ use lib.Seq.{getD-set-same, getD-set-other}
 use Rattle.script.specs.Rows.{variables}
 use Rattle.script.specs.Listing.{row-limit}
 use Rattle.smt.specs.Translate.{Reference, variable, mark, same-reference, refers, occurring, declared-references}
+use Rattle.theorems.specs.Options.{none-is-not, some-inj}
+use Rattle.smt.specs.Symbols.{either}
+use Rattle.smt.specs.Occurring.{refers-in}
 use Rattle.smt.specs.Declared.{Ranged, All-ranged}
 use Rattle.smt.specs.Pieces.{declaration-text, declarations-text, declarations-append}
 
@@ -39,22 +44,48 @@ unfolding noted
 noted-length [] l = refl
 noted-length (r ∷ rs) l = noted-length rs (set l (place-of r) 1) ∙ length-set l (place-of r) 1
 
--- the place past the last one noted
+-- the place of a variable, and of a mark
+abbrev pub variable-place : Reference → Option ℕ
+variable-place (variable v) = some v
+variable-place (mark m) = none
+
+abbrev pub mark-place : Reference → Option ℕ
+mark-place (variable v) = none
+mark-place (mark m) = some (variables + m)
+
+-- the place past a place and past the last one before
 abbrev pub past : ℕ → ℕ → ℕ
 past k top = cond (ltb k top) top (k + 1)
 
-unfoldable pub top-of : List Reference → ℕ → ℕ
-top-of [] top = top
-top-of (r ∷ rs) top = top-of rs (past (place-of r) top)
+abbrev pub past-place : Option ℕ → ℕ → ℕ
+past-place none top = top
+past-place (some k) top = past k top
 
--- ---- the declarations of the names noted below a place
+-- the place past the last variable, or mark, of rs
+unfoldable pub top-of : (Reference → Option ℕ) → List Reference → ℕ → ℕ
+top-of place [] top = top
+top-of place (r ∷ rs) top = top-of place rs (past-place (place r) top)
+
+-- ---- the declarations of the names noted at n places from a first one on
 
 abbrev pub declared-if : Bool → ℕ → List ℕ
 declared-if b k = cond b [] (declaration-text (reference-at k))
 
-unfoldable pub declared-below : List ℕ → ℕ → List ℕ
-declared-below l zero = []
-declared-below l (suc k) = declared-below l k ++ declared-if (eqb (getD l k 0) 0) k
+unfoldable pub declared-from : List ℕ → ℕ → ℕ → List ℕ
+declared-from l first zero = []
+declared-from l first (suc n) = declared-from l first n ++ declared-if (eqb (getD l (first + n) 0) 0) (first + n)
+
+pub declared-none : (l : List ℕ) (first : ℕ) → declared-from l first (first - first) ≡ []
+unfolding declared-from
+declared-none l first = let none : first - first ≡ 0 = omega linear in rw none
+
+pub declared-more : (l : List ℕ) (first k : ℕ) → first ≤ k
+    → declared-from l first (k + 1 - first) ≡ declared-from l first (k - first) ++ declared-if (eqb (getD l k 0) 0) k
+unfolding declared-from
+declared-more l first k h =
+    let one : k + 1 - first ≡ suc (k - first) = omega linear in
+    let here : first + (k - first) ≡ k = omega linear in
+    rw one (ap (λ n. declared-from l first (k - first) ++ declared-if (eqb (getD l n 0) 0) n) here)
 
 -- ---- what is noted is what occurs
 
@@ -131,83 +162,123 @@ module _ (k top : ℕ) where
       by-test true = g
       by-test false = omega linear
 
-top-grows : (rs : List Reference) (top : ℕ) → top ≤ top-of rs top
-unfolding top-of
-top-grows [] top = omega linear
-top-grows (r ∷ rs) top = let n = top-grows rs (past (place-of r) top) in let m = past-grows (place-of r) top in omega linear
+module _ (place : Reference → Option ℕ) where
+  place-grows : (o : Option ℕ) (top : ℕ) → top ≤ past-place o top
+  place-grows none top = omega linear
+  place-grows (some k) top = past-grows k top .0
 
-pub top-low : (rs : List Reference) (top : ℕ) → All-ranged rs → top ≤ names → top-of rs top ≤ names
-unfolding top-of
-top-low [] top h n = n
-top-low (r ∷ rs) top h n =
-    top-low rs (past (place-of r) top) (λ q m. h q (List·Memᴰ·tail m)) (past-low (place-of r) top names (place-low r (h r (List·Memᴰ·head refl))) n)
+  top-grows : (rs : List Reference) (top : ℕ) → top ≤ top-of place rs top
+  unfolding top-of
+  top-grows [] top = omega linear
+  top-grows (r ∷ rs) top = let n = top-grows rs (past-place (place r) top) in let m = place-grows (place r) top in omega linear
 
-none-past : (rs : List Reference) (top k : ℕ) → All-ranged rs → top-of rs top ≤ k → refers (reference-at k) rs ≡ false
-unfolding top-of
-none-past [] top k h n = refl
-none-past (r ∷ rs) top k h n =
-    let g = past-grows (place-of r) top in
-    let m = top-grows rs (past (place-of r) top) in
-    let other = ne-eqb k (place-of r) (λ e. omega linear) in
-    rw (same-place k r (h r (List·Memᴰ·head refl)) ∙ other) (none-past rs (past (place-of r) top) k (λ q i. h q (List·Memᴰ·tail i)) n)
+  top-above : (rs : List Reference) (top : ℕ) (r : Reference) (k : ℕ) → List·Memᴰ r rs → place r ≡ some k → k < top-of place rs top
+  unfolding top-of
+  top-above [] top r k m e = absurd (List·Memᴰ·not-nil m)
+  top-above (q ∷ rs) top r k m e =
+      either (List·Memᴰ·cases-cons m) (λ d. first (place q) (ap place (sym d) ∙ e)) (λ l. top-above rs (past-place (place q) top) r k l e)
+    where
+      first : (o : Option ℕ) → o ≡ some k → k < top-of place rs (past-place o top)
+      first none d = none-is-not d
+      first (some n) d =
+          let g = past-grows n top .1 in let m = top-grows rs (past n top) in let s = some-inj d in omega linear
 
-none-declared : (l : List ℕ) (top n : ℕ) → ((k : ℕ) → top ≤ k → getD l k 0 ≡ 0) → declared-below l (top + n) ≡ declared-below l top
-unfolding declared-below
-none-declared l top zero h = rw add-zero
-none-declared l top (suc n) h = rw (add-suc, h (top + n) (omega linear), append-nil) (none-declared l top n h)
+  top-low : (rs : List Reference) (top n : ℕ) → ((r : Reference) (k : ℕ) → List·Memᴰ r rs → place r ≡ some k → k < n) → top ≤ n
+      → top-of place rs top ≤ n
+  unfolding top-of
+  top-low [] top n h g = g
+  top-low (r ∷ rs) top n h g =
+      top-low rs (past-place (place r) top) n (λ q k m. h q k (List·Memᴰ·tail m)) (first (place r) (λ k. h r k (List·Memᴰ·head refl)))
+    where
+      first : (o : Option ℕ) → ((k : ℕ) → o ≡ some k → k < n) → past-place o top ≤ n
+      first none f = g
+      first (some k) f = past-low k top n (f k refl) g
 
--- ---- the declarations in order: variables, then marks
+-- ---- the declarations: of the variables, and of the marks
 
-module _ (rs : List Reference) where
-  -- the names below a place that occur
-  unfoldable below : ℕ → List Reference
-  below zero = []
-  below (suc k) = below k ++ cond (refers (reference-at k) rs) (reference-at k ∷ []) []
+none-declared : (l : List ℕ) (first n j : ℕ) → ((i : ℕ) → n ≤ i → i < n + j → getD l (first + i) 0 ≡ 0)
+    → declared-from l first (n + j) ≡ declared-from l first n
+unfolding declared-from
+none-declared l first n zero h = rw add-zero
+none-declared l first n (suc j) h =
+    rw (add-suc, h (n + j) (omega linear) (omega linear), append-nil) (none-declared l first n j (λ i a b. h i a (omega linear)))
 
-  abbrev one-of : Bool → Reference → List Reference
-  one-of b r = cond b (r ∷ []) []
+module _ (rs : List Reference) (ranged : All-ranged rs) where
+  -- the kind of name that stands at the places from `first` on, limit of them, and the place of a name of this kind
+  module _ (kind : ℕ → Reference) (place : Reference → Option ℕ) (first limit : ℕ)
+      (here : (n : ℕ) → n < limit → reference-at (first + n) ≡ kind n) (placed : (n : ℕ) → place (kind n) ≡ some (first + n))
+      (low : (r : Reference) (k : ℕ) → Ranged r → place r ≡ some k → k < first + limit) where
+    one : (b : Bool) (n : ℕ) → declared-if (eqb (cond b 1 0) 0) n ≡ declarations-text (cond b (reference-at n ∷ []) [])
+    one true n = sym (append-nil (declaration-text (reference-at n)))
+    one false n = refl
 
-  map-one : (kind : ℕ → Reference) (b : Bool) (k : ℕ) → map kind (cond b (k ∷ []) []) ≡ one-of b (kind k)
-  map-one kind true k = refl
-  map-one kind false k = refl
+    map-one : (b : Bool) (n : ℕ) → map kind (cond b (n ∷ []) []) ≡ cond b (kind n ∷ []) []
+    map-one true n = refl
+    map-one false n = refl
 
-  variables-below : (k : ℕ) → k ≤ variables → below k ≡ map variable (occurring variable k rs)
-  unfolding occurring below
-  variables-below zero h = refl
-  variables-below (suc k) h =
-      rw (lt-ltb k variables (omega linear), map-append variable (occurring variable k rs) (cond (refers (variable k) rs) (k ∷ []) []), map-one variable (refers (variable k) rs) k)
-      (ap (λ (l : List Reference). l ++ one-of (refers (variable k) rs) (variable k)) (variables-below k (omega linear)))
+    all-declared : (n : ℕ) → n ≤ limit → declared-from (all-noted rs) first n ≡ declarations-text (map kind (occurring kind n rs))
+    unfolding declared-from occurring
+    all-declared zero h = refl
+    all-declared (suc n) h =
+        rw (
+          flag-at rs (first + n) ranged,
+          one (refers (reference-at (first + n)) rs) (first + n),
+          here n (omega linear),
+          map-append kind (occurring kind n rs) (cond (refers (kind n) rs) (n ∷ []) []),
+          map-one (refers (kind n) rs) n,
+          declarations-append (map kind (occurring kind n rs)) (cond (refers (kind n) rs) (kind n ∷ []) []),
+        )
+        (ap (λ (l : List ℕ). l ++ declarations-text (cond (refers (kind n) rs) (kind n ∷ []) [])) (all-declared n (omega linear)))
 
-  mark-place : (m : ℕ) → reference-at (variables + m) ≡ mark m
-  mark-place m = rw (le-ltb (variables + m) variables (omega linear)) (ap mark (omega linear))
+    top-within : top-of place rs 0 ≤ first + limit
+    top-within = top-low place rs 0 (first + limit) (λ r k m e. low r k (ranged r m) e) (omega linear)
 
-  marks-below : (m : ℕ) → below (variables + m) ≡ map variable (occurring variable variables rs) ++ map mark (occurring mark m rs)
-  unfolding occurring below
-  marks-below zero = variables-below variables (omega linear) ∙ sym (append-nil (map variable (occurring variable variables rs)))
-  marks-below (suc m) =
-      rw (add-suc, mark-place m, map-append mark (occurring mark m rs) (cond (refers (mark m) rs) (m ∷ []) []), map-one mark (refers (mark m) rs) m)
-      (ap (λ (l : List Reference). l ++ one-of (refers (mark m) rs) (mark m)) (marks-below m)
-      ∙ append-assoc (map variable (occurring variable variables rs)) (map mark (occurring mark m rs)) (one-of (refers (mark m) rs) (mark m)))
+    -- no name of this kind is noted at the top or past it
+    none-past : (n : ℕ) → n < limit → top-of place rs 0 ≤ first + n → getD (all-noted rs) (first + n) 0 ≡ 0
+    none-past n l h = flag-at rs (first + n) ranged ∙ by-test (refers (reference-at (first + n)) rs) refl
+      where
+        by-test : (b : Bool) → refers (reference-at (first + n)) rs ≡ b → _≡_ {A = ℕ} (cond b 1 0) 0
+        by-test true e =
+            let m = refers-in (kind n) rs (ap (λ r. refers r rs) (sym (here n l)) ∙ e) in
+            let above = top-above place rs 0 (kind n) (first + n) m (placed n) in
+            absurd (omega linear)
+        by-test false e = refl
 
-  module _ (ranged : All-ranged rs) where
-    text-one : (b : Bool) (k : ℕ) → declared-if (eqb (cond b 1 0) 0) k ≡ declarations-text (one-of b (reference-at k))
-    text-one true k = sym (append-nil (declaration-text (reference-at k)))
-    text-one false k = refl
+    declared-kind : declared-from (all-noted rs) first (top-of place rs 0 - first) ≡ declarations-text (map kind (occurring kind limit rs))
+    declared-kind =
+        let n = top-of place rs 0 - first in
+        let top = top-within in
+        let all : n + (limit - n) ≡ limit = omega linear in
+        sym (none-declared (all-noted rs) first n (limit - n) (λ i a b. none-past i (omega linear) (omega linear)))
+        ∙ ap (declared-from (all-noted rs) first) all ∙ all-declared limit (omega linear)
 
-    texts-below : (k : ℕ) → declared-below (all-noted rs) k ≡ declarations-text (below k)
-    unfolding declared-below below
-    texts-below zero = refl
-    texts-below (suc k) =
-        rw (flag-at rs k ranged, text-one (refers (reference-at k) rs) k, declarations-append (below k) (one-of (refers (reference-at k) rs) (reference-at k)))
-        (ap (λ (l : List ℕ). l ++ declarations-text (one-of (refers (reference-at k) rs) (reference-at k))) (texts-below k))
+  variable-here : (n : ℕ) → n < variables → reference-at (0 + n) ≡ variable n
+  variable-here n h = rw (zero-add, lt-ltb n variables h)
 
-    -- the declarations of the names noted below the top are those of the script
-    pub declared-noted : declared-below (all-noted rs) (top-of rs 0) ≡ declarations-text (declared-references rs)
-    declared-noted =
-        let top = top-of rs 0 in
-        let low = top-low rs 0 ranged (omega linear) in
-        let all : top + (names - top) ≡ names = omega linear in
-        sym (none-declared (all-noted rs) top (names - top) (λ k h. flag-at rs k ranged ∙ ap (λ b. cond b 1 0) (none-past rs 0 k ranged h)))
-        ∙ ap (declared-below (all-noted rs)) all
-        ∙ texts-below names
-        ∙ ap declarations-text (marks-below row-limit)
+  mark-here : (n : ℕ) → n < row-limit → reference-at (variables + n) ≡ mark n
+  mark-here n h = rw (le-ltb (variables + n) variables (omega linear)) (ap mark (omega linear))
+
+  variable-low : (r : Reference) (k : ℕ) → Ranged r → variable-place r ≡ some k → k < 0 + variables
+  variable-low (variable v) k h e = let s = some-inj e in omega linear
+  variable-low (mark m) k h e = none-is-not e
+
+  mark-low : (r : Reference) (k : ℕ) → Ranged r → mark-place r ≡ some k → k < variables + row-limit
+  mark-low (variable v) k h e = none-is-not e
+  mark-low (mark m) k h e = let s = some-inj e in omega linear
+
+  pub variables-within : top-of variable-place rs 0 ≤ names
+  variables-within =
+      let h = top-within variable variable-place 0 variables variable-here (λ n. ap some (sym (zero-add n))) variable-low in omega linear
+
+  pub marks-within : top-of mark-place rs 0 ≤ names
+  marks-within = top-within mark mark-place variables row-limit mark-here (λ n. refl) mark-low
+
+  -- those noted below the two tops are the declarations of the script
+  pub declared-noted : declared-from (all-noted rs) 0 (top-of variable-place rs 0 - 0) ++ declared-from (all-noted rs) variables (top-of mark-place rs 0 - variables)
+      ≡ declarations-text (declared-references rs)
+  declared-noted =
+      rw (
+        declared-kind variable variable-place 0 variables variable-here (λ n. ap some (sym (zero-add n))) variable-low,
+        declared-kind mark mark-place variables row-limit mark-here (λ n. refl) mark-low,
+      )
+      (sym (declarations-append (map variable (occurring variable variables rs)) (map mark (occurring mark row-limit rs))))

@@ -24,7 +24,7 @@ use Rattle.script.specs.WellFormed.{In-range, In-rangeᶠ}
 use Rattle.smt.specs.Translate.{Reference, variable, mark, expr-references, references}
 use Rattle.smt_writer.specs.Standing.{first-inside, first-word, after-first}
 use Rattle.smt_writer.specs.Nodes.{Spells}
-use Rattle.smt_writer.specs.Noted.{place-of, noted, past as past-top, top-of}
+use Rattle.smt_writer.specs.Noted.{place-of, variable-place, mark-place, noted, past-place, top-of}
 
 -- no number stands after this kind word
 pub record Numberless (k : ℕ) : Type 0 where
@@ -167,37 +167,50 @@ at-other n (past-kind _ m t) = t
 
 -- ---- what is noted
 
--- the names from the place i on are left to be noted
-pub record Left (ws : List ℤ) (rs : List Reference) (flags₀ flags : List ℕ) (i top : ℕ) : Type 0 where
+-- the names from the place i on are left to be noted; the last variable noted stands before the place `variables`, the last mark
+-- before the place `marks`
+pub record Left (ws : List ℤ) (rs : List Reference) (flags₀ flags : List ℕ) (i variables marks : ℕ) : Type 0 where
   pub left : List Reference
   pub scans : Scans (drop i ws) left
   pub flagged : noted left flags ≡ noted rs flags₀
-  pub topped : top-of left top ≡ top-of rs 0
+  pub variables-topped : top-of variable-place left variables ≡ top-of variable-place rs 0
+  pub marks-topped : top-of mark-place left marks ≡ top-of mark-place rs 0
 
-pub all-left : {ws : List ℤ} {f : Formula} {flags : List ℕ} → Spells ws f → Left ws (references f) flags flags 0 0
-all-left {f = f} s = record { left = references f; scans = spelled-scans s; flagged = refl; topped = refl }
+pub all-left : {ws : List ℤ} {f : Formula} {flags : List ℕ} → Spells ws f → Left ws (references f) flags flags 0 0 0
+all-left {f = f} s = record { left = references f; scans = spelled-scans s; flagged = refl; variables-topped = refl; marks-topped = refl }
 
-module _ {ws : List ℤ} {rs : List Reference} {flags₀ flags : List ℕ} {i top : ℕ} (g : Left ws rs flags₀ flags i top) where
-  pub none-left : length ws ≤ i → (flags ≡ noted rs flags₀) × (top ≡ top-of rs 0)
+module _ {ws : List ℤ} {rs : List Reference} {flags₀ flags : List ℕ} {i v m : ℕ} (g : Left ws rs flags₀ flags i v m) where
+  pub none-left : length ws ≤ i → (flags ≡ noted rs flags₀) × (v ≡ top-of variable-place rs 0) × (m ≡ top-of mark-place rs 0)
   unfolding noted top-of
-  none-left h = at-end (g .left) (rw (drop-of-length-le ws h) at (g .scans)) (g .flagged) (g .topped)
+  none-left h = at-end (g .left) (rw (drop-of-length-le ws h) at (g .scans)) (g .flagged) (g .variables-topped) (g .marks-topped)
     where
-      at-end : (l : List Reference) → Scans [] l → noted l flags ≡ noted rs flags₀ → top-of l top ≡ top-of rs 0
-          → (flags ≡ noted rs flags₀) × (top ≡ top-of rs 0)
-      at-end [] done e n = (e, n)
+      at-end : (l : List Reference) → Scans [] l → noted l flags ≡ noted rs flags₀ → top-of variable-place l v ≡ top-of variable-place rs 0
+          → top-of mark-place l m ≡ top-of mark-place rs 0
+          → (flags ≡ noted rs flags₀) × (v ≡ top-of variable-place rs 0) × (m ≡ top-of mark-place rs 0)
+      at-end [] done e n o = (e, n, o)
 
   module _ (inside : i < length ws) {k : ℕ} (read : k ≡ field-number (getD ws i (pos 0))) where
     here : Next ws i (g .left) k
     here = rw read (met ws i refl (g .scans) inside)
 
+    -- no name is noted
+    passed : (n : ℕ) → Scans (drop (i + n) ws) (g .left) → Left ws rs flags₀ flags (i + n) v m
+    passed n s = record {
+      left = g .left;
+      scans = s;
+      flagged = g .flagged;
+      variables-topped = g .variables-topped;
+      marks-topped = g .marks-topped;
+    }
+
     pub constant-inside : k ≡ 1 → i + 1 < length ws
     constant-inside e = at-constant (rw e at here) .0
 
-    pub constant-left : k ≡ 1 → Left ws rs flags₀ flags (i + 2) top
-    constant-left e = record { left = g .left; scans = at-constant (rw e at here) .1; flagged = g .flagged; topped = g .topped }
+    pub constant-left : k ≡ 1 → Left ws rs flags₀ flags (i + 2) v m
+    constant-left e = passed 2 (at-constant (rw e at here) .1)
 
-    pub other-left : Numberless k → Left ws rs flags₀ flags (i + 1) top
-    other-left n = record { left = g .left; scans = at-other n here; flagged = g .flagged; topped = g .topped }
+    pub other-left : Numberless k → Left ws rs flags₀ flags (i + 1) v m
+    other-left n = passed 1 (at-other n here)
 
     pub variable-here : k ≡ 2 → Named variable variables ws i (g .left)
     variable-here e = at-variable (rw e at here)
@@ -206,14 +219,17 @@ module _ {ws : List ℤ} {rs : List Reference} {flags₀ flags : List ℕ} {i to
     mark-here e = at-mark (rw e at here)
 
   -- a name is noted at its place
-  pub name-left : (kind : ℕ → Reference) {limit : ℕ} (v : Named kind limit ws i (g .left)) {k top′ : ℕ} {flags′ : List ℕ}
-      → k ≡ place-of (kind (v .number)) → flags′ ≡ set flags k 1 → top′ ≡ past-top k top → Left ws rs flags₀ flags′ (i + 2) top′
+  pub name-left : (kind : ℕ → Reference) {limit : ℕ} (w : Named kind limit ws i (g .left)) {k v′ m′ : ℕ} {flags′ : List ℕ}
+      → k ≡ place-of (kind (w .number)) → flags′ ≡ set flags k 1
+      → v′ ≡ past-place (variable-place (kind (w .number))) v → m′ ≡ past-place (mark-place (kind (w .number))) m
+      → Left ws rs flags₀ flags′ (i + 2) v′ m′
   unfolding noted top-of
-  name-left kind v e d t = record {
-    left = v .others;
-    scans = v .after;
-    flagged = rw (d, e) (ap (λ (l : List Reference). noted l flags) (sym (v .is)) ∙ g .flagged);
-    topped = rw (t, e) (ap (λ (l : List Reference). top-of l top) (sym (v .is)) ∙ g .topped);
+  name-left kind w e d t u = record {
+    left = w .others;
+    scans = w .after;
+    flagged = rw (d, e) (ap (λ (l : List Reference). noted l flags) (sym (w .is)) ∙ g .flagged);
+    variables-topped = rw t (ap (λ (l : List Reference). top-of variable-place l v) (sym (w .is)) ∙ g .variables-topped);
+    marks-topped = rw u (ap (λ (l : List Reference). top-of mark-place l m) (sym (w .is)) ∙ g .marks-topped);
   }
 
 pub number-told : {kind : ℕ → Reference} {limit i n : ℕ} {ws : List ℤ} {rs : List Reference} (v : Named kind limit ws i rs)

@@ -10,7 +10,7 @@ use text::push_byte;
 use text::push_number;
 use text::push_text;
 ghost use mathlib.Core.Path.{_≡_};
-ghost use Prim.Native.Nat.{_≤_, _<_};
+ghost use Prim.Native.Nat.{_-_, _≤_, _<_};
 ghost use lib.Dec.{eqb};
 ghost use lib.ListN.{length, set};
 ghost use Rattle.script.specs.Syntax.{Formula};
@@ -18,7 +18,7 @@ ghost use Rattle.theorems.specs.Writing.{Wrote};
 ghost use Rattle.smt.specs.Translate.{variable, mark, letter, name, references, declared-references};
 ghost use Rattle.smt.specs.Pieces.{declaration-text, declarations-text};
 ghost use Rattle.smt_writer.specs.Nodes.{Spells, Spelled};
-ghost use Rattle.smt_writer.specs.Noted.{names, reference-at, noted, past, top-of, declared-if, declared-below};
+ghost use Rattle.smt_writer.specs.Noted.{names, reference-at, variable-place, mark-place, noted, past, top-of, declared-if, declared-from};
 
 // How many names: variables and marks.
 const NAMES: usize = VARIABLES + 2048;
@@ -43,6 +43,12 @@ pub fn write_mark(text: &mut [u8], at: usize, r: RowNumber) -> usize
     push_number(text, p, r.0)
 }
 
+// The places past the last variable and past the last mark that are noted.
+pub struct Tops {
+    pub variables: usize,
+    pub marks: usize,
+}
+
 // Notes the name at a place; gives the place past the last one noted.
 fn note(flags: &mut [u8], k: usize, top: usize) -> usize
     requires { ⌜ k < length (now flags) ⌝ }
@@ -53,31 +59,33 @@ fn note(flags: &mut [u8], k: usize, top: usize) -> usize
     if k < top { top } else { k + 1 }
 }
 
-// Notes the names that occur in a formula; gives the place past the last one noted.
-fn note_names(formula: &[i32], flags: &mut [u8]) -> usize
+// Notes the names that occur in a formula; gives the places past the last ones noted.
+fn note_names(formula: &[i32], flags: &mut [u8]) -> Tops
     requires { ⌜ Spelled (now formula) ⌝ }
     requires { ⌜ length (now flags) ≡ names ⌝ }
     ensures flags { λ r. ⌜ ((f : Formula) → Spells (now (formula .entry)) f → now (flags .exit) ≡ noted (references f) (now (flags .entry))) ⌝ }
-    ensures top { λ r. ⌜ ((f : Formula) → Spells (now (formula .entry)) f → r ≡ top-of (references f) 0) ⌝ }
+    ensures variables { λ r. ⌜ ((f : Formula) → Spells (now (formula .entry)) f → r .variables ≡ top-of variable-place (references f) 0) ⌝ }
+    ensures marks { λ r. ⌜ ((f : Formula) → Spells (now (formula .entry)) f → r .marks ≡ top-of mark-place (references f) 0) ⌝ }
 {
     let mut i = 0;
-    let mut top: usize = 0;
+    let mut variables: usize = 0;
+    let mut marks: usize = 0;
     while i < formula.len() {
         let kind = field_number(formula[i]);
         match kind {
             kinds::CONSTANT => i += 2,
             kinds::VARIABLE => {
-                top = note(flags, field_number(formula[i + 1]), top);
+                variables = note(flags, field_number(formula[i + 1]), variables);
                 i += 2;
             }
             kinds::MARK => {
-                top = note(flags, VARIABLES + field_number(formula[i + 1]), top);
+                marks = note(flags, VARIABLES + field_number(formula[i + 1]), marks);
                 i += 2;
             }
             _ => i += 1,
         }
     }
-    top
+    Tops { variables, marks }
 }
 
 // Writes the name at a place of the run.
@@ -109,13 +117,13 @@ fn declare_noted(text: &mut [u8], at: usize, k: usize, flag: u8) -> usize
     write_declaration(text, at, k)
 }
 
-// Writes the declarations of the names that are noted below a place.
-fn declare_names(flags: &[u8], top: usize, text: &mut [u8], at: usize) -> usize
+// Writes the declarations of the names that are noted from a place to a top.
+fn declare_names(flags: &[u8], first: usize, top: usize, text: &mut [u8], at: usize) -> usize
     requires { ⌜ top ≤ length (now flags) ⌝ }
-    ensures { λ p. ⌜ Wrote (now (text .entry)) at (declared-below (now (flags .entry)) top) p (now (text .exit)) ⌝ }
+    ensures { λ p. ⌜ Wrote (now (text .entry)) at (declared-from (now (flags .entry)) first (top - first)) p (now (text .exit)) ⌝ }
 {
     let mut p = at;
-    let mut k = 0;
+    let mut k = first;
     while k < top {
         p = declare_noted(text, p, k, flags[k]);
         k += 1;
@@ -130,6 +138,7 @@ pub fn write_declarations(formula: &[i32], text: &mut [u8], at: usize) -> usize
         → Wrote (now (text .entry)) at (declarations-text (declared-references (references f))) p (now (text .exit))) ⌝ }
 {
     let mut flags = [0u8; NAMES];
-    let top = note_names(formula, &mut flags);
-    declare_names(&flags, top, text, at)
+    let tops = note_names(formula, &mut flags);
+    let p = declare_names(&flags, 0, tops.variables, text, at);
+    declare_names(&flags, VARIABLES, tops.marks, text, p)
 }

@@ -12,17 +12,17 @@ use Rattle.script.specs.Laws.{back}
 use Rattle.script.specs.Listing.{row-limit}
 use Rattle.smt.specs.Translate.{variable, mark, references}
 use Rattle.smt_writer.specs.Nodes.{Spells}
-use Rattle.smt_writer.specs.Noted.{names}
+use Rattle.smt_writer.specs.Noted.{names, past}
 use Rattle.smt_writer.specs.Scans.{Numberless, Named, Left, all-left, none-left, constant-inside, constant-left, other-left, variable-here, mark-here, name-left, number-told}
 use Rattle.smt_writer.proofs.names.note_names.Statement.{statement}
 use Rattle.smt_writer.proofs.names.note_names.Tie as tie
 
 abbrev Inv-loop : tie.InvT-loop
-Inv-loop formula flags₀ i₀ top₀ flags i top =
-    (length flags ≡ names) × ((f : Formula) → Spells formula f → Left formula (references f) flags₀ flags i top)
+Inv-loop formula flags₀ i₀ variables₀ marks₀ flags i variables marks =
+    (length flags ≡ names) × ((f : Formula) → Spells formula f → Left formula (references f) flags₀ flags i variables marks)
 
 abbrev μ-loop : tie.MeasureT-loop
-μ-loop formula flags₀ i₀ top₀ flags i top = length formula - i
+μ-loop formula flags₀ i₀ variables₀ marks₀ flags i variables marks = length formula - i
 
 -- ---- at a kind word
 
@@ -40,7 +40,7 @@ module _ (c : tie.After-field-number Inv-loop μ-loop) where
 
   -- what is left, of the formula that the words spell
   left : Left (Words .before .before .args .formula .now) (references (Words .before .before .pre .0 .claim))
-      (Words .before .before .args .flags .now) (Words .loop .flags) (Words .loop .i) (Words .loop .top)
+      (Words .before .before .args .flags .now) (Words .loop .flags) (Words .loop .i) (Words .loop .variables) (Words .loop .marks)
   left = Words .loop .inv .1 (Words .before .before .pre .0 .claim) (Words .before .before .pre .0 .spells)
 
 -- ---- a constant
@@ -85,7 +85,9 @@ loop-again-2 c =
       λ f s.
           let g = inv .1 f s in
           let v = variable-here g (inside (arm .before)) (read (arm .before)) (arm .match .keys2) in
-          name-left g variable v (number-told v (variable-read (noted .before))) (noted .note .ensures .0) (noted .note .ensures .1),
+          let told = number-told v (variable-read (noted .before)) in
+          name-left g variable v told (noted .note .ensures .0)
+          (noted .note .ensures .1 ∙ ap (λ n. past n (Words (arm .before) .loop .variables)) told) refl,
     )
 
 -- ---- a mark
@@ -118,7 +120,9 @@ loop-again-3 c =
       λ f s.
           let g = inv .1 f s in
           let v = mark-here g (inside (arm .before)) (read (arm .before)) (arm .match .keys3) in
-          name-left g mark v (ap (λ n. variables + n) (number-told v (mark-read (noted .before)))) (noted .note2 .ensures .0) (noted .note2 .ensures .1),
+          let told = ap (λ n. variables + n) (number-told v (mark-read (noted .before))) in
+          name-left g mark v told (noted .note2 .ensures .0) refl
+          (noted .note2 .ensures .1 ∙ ap (λ n. past n (Words (arm .before) .loop .marks)) told),
     )
 
 -- ---- every other kind
@@ -133,7 +137,8 @@ loop-again-4 c =
 returns : tie.Need-returns Inv-loop μ-loop
 returns c =
     let inv = c .before .loop .inv in
-    (λ f s. none-left (inv .1 f s) (c .loop-test .left) .0, λ f s. none-left (inv .1 f s) (c .loop-test .left) .1)
+    let over = c .loop-test .left in
+    (λ f s. none-left (inv .1 f s) over .0, (λ f s. none-left (inv .1 f s) over .1, λ f s. none-left (inv .1 f s) over .2))
 
 pub note-names-spec : {M : Type 1} → statement M
 note-names-spec =
