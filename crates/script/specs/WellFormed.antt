@@ -1,7 +1,7 @@
 -- 01, "Reading a finished list", once more as it is worded: "A well-formed list has a count of 1 or more, at most 16,384
 -- words, that many trailers, each with a kind 1 to 4, a row from 0 to 2,047 and the true length of one whole formula;
--- variables 0 to 255, marks 0 to 2,047; nothing left at the front." So it is the words of one or more conditions whose
--- numbers are in range. Assumes nothing.
+-- variables 0 to 255, marks 0 to 2,047; nothing left at the front." With 02, P2, variables are 0 to 1,023. So it is the words
+-- of one or more conditions whose numbers are in range. Assumes nothing.
 use Prim.Native.Nat.{ℕ, _≤_, _<_}
 use mathlib.Core.Path.{_≡_}
 use mathlib.Core.List.{List, [], _∷_}

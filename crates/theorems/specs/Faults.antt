@@ -42,7 +42,7 @@ zeros-iff (z ∷ zs) = Iff·trans (and-false (is-zero z) (all-zero zs)) (either 
 -- ---- the words of 01
 
 module _ (ws : List ℤ) where
-  -- "variable number not 0 to 255, a mark's row not in the table"
+  -- "variable number not 0 to 255, a mark's row not in the table"; with 02, P2, not 0 to 1,023
   abbrev pub Beyond : Field → Type 0
   Beyond value = ⊥
   Beyond (variable v) = variables ≤ v
@@ -71,7 +71,7 @@ module _ (ws : List ℤ) where
   abbrev pub Unlisted : ℕ → Type 0
   Unlisted r = sort-of (row ws r) ≡ Unknown
 
-  -- 3: "variable number not 0 to 255, a mark's row not in the table, or an unused field not 0"
+  -- 3: "variable number not 0 to 255, a mark's row not in the table, or an unused field not 0"; with 02, P2, not 0 to 1,023
   abbrev pub Out-of-range : ℕ → Type 0
   Out-of-range r = Some Beyond (fields (row ws r)) ⊎
       Some (λ z. z ≢ pos 0) (drop (length (fields (row ws r))) (word ws r 1 ∷ word ws r 2 ∷ word ws r 3 ∷ []))
