@@ -2,6 +2,8 @@
 
 use std::collections::BTreeMap;
 
+use leqwarti::VARIABLES;
+
 /// The names that a file gives, by variable number.
 #[derive(Clone, Debug, Default, PartialEq, Eq)]
 pub struct Names {
@@ -22,8 +24,9 @@ impl Names {
         };
         let no_variable = || {
             format!(
-                "`{}` is no variable: v0 to v{LAST_VARIABLE}, with no zero in front",
-                variable.escape_debug()
+                "`{}` is no variable: v0 to v{}, with no zero in front",
+                variable.escape_debug(),
+                VARIABLES - 1
             )
         };
         let number = variable_number(variable).ok_or_else(no_variable)?;
@@ -58,12 +61,10 @@ impl Names {
     }
 }
 
-const LAST_VARIABLE: usize = 1_023;
-
 /// The number of `v0` to `v1023`, in the one form that formulas have it in.
 fn variable_number(text: &str) -> Option<usize> {
     let number = text.strip_prefix('v')?.parse().ok()?;
-    (number <= LAST_VARIABLE && text == format!("v{number}")).then_some(number)
+    (number < VARIABLES && text == format!("v{number}")).then_some(number)
 }
 
 /// Names have no digits, so none of them looks like a number, a variable or a mark.

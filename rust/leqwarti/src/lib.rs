@@ -63,6 +63,9 @@ pub use formula::Formula;
 pub use refusal::{Reason, Refusal};
 pub use smt::{smt, LONGEST_TEXT};
 
+/// How many variables there are; 128 to 255 of them are frozen.
+pub const VARIABLES: usize = 1_024;
+
 /// The most words that a list has.
 pub const LONGEST_LIST: usize = 16_384;
 
