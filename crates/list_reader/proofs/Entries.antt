@@ -13,7 +13,7 @@ use lib.ListN.{length, getD, getElem?}
 use borrow.Author.Tests.{eqb-true, eqb-false, ltb-true, lt-ltb, le-leb, lt-leb}
 use Rattle.script.specs.declared.Line.{Line}
 use Rattle.script.specs.Rows.{field-number}
-use Rattle.script.specs.Listing.{_>>=_, guarded, natural, Found, lines-before, lines, lines-within, line, line-at, no-line, first-place, malformed-place, condition-count}
+use Rattle.script.specs.Listing.{_>>=_, guarded, natural, Found, lines-before, lines, lines-within, line, line-at, line-at-within, no-line, first-place, first-place-within, malformed-place, condition-count, condition-count-within}
 use Rattle.list_reader.specs.Lines.{is-some, line-among, or-zero, claimed, Claimed}
 use Rattle.list_reader.proofs.Walking.{lines-length}
 
@@ -96,11 +96,11 @@ index-read (some fs) (negsuc n) h = ap or-21 (past-last fs 4294967295 (h fs refl
 
 module _ (ws : List ℤ) {n : ℕ} (c : Claimed ws n) where
   pub no-line-at : n ≡ 0 → (i : ℤ) → no-line 20 ≡ line-at ws i
-  unfolding line-at
-  no-line-at h i = rw (no-lines ws c h, line-at)
+  unfolding line-at-within
+  no-line-at h i = rw (no-lines ws c h, line-at-within)
 
   pub line-at-is : (n ≡ 0 → ⊥) → (i : ℤ) → line-among (lines-before ws n (length ws - 1)) (pos (field-number i)) ≡ line-at ws i
-  unfolding line-at
+  unfolding line-at-within
   line-at-is h i =
       index-read (lines-before ws n (length ws - 1)) i (λ fs q. omega (linear, c .small, lines-length ws n (length ws - 1) fs q))
       ∙ ap (λ (o : Option (List Found)). line-among o i) (sym (some-lines ws c h))
@@ -108,7 +108,7 @@ module _ (ws : List ℤ) {n : ℕ} (c : Claimed ws n) where
 -- ---- what the line at index -1 tells
 
 pub list-test : (ws : List ℤ) {l : Line} → l ≡ line-at ws (negsuc 0) → eqb (l .number) 21 ≡ is-some (lines ws)
-unfolding line-at
+unfolding line-at-within
 list-test ws q = ap (λ (l : Line). eqb (l .number) 21) q ∙ go (lines ws)
   where
     go : (o : Option (List Found)) → eqb (line-among o (negsuc 0) .number) 21 ≡ is-some o
@@ -142,7 +142,7 @@ module _ (ws : List ℤ) {b : Bool} (test : b ≡ is-some (lines ws)) where
   list-nonempty h = empty-is-no-list ws (listed h .0) (listed h .1)
 
   pub count-is : b ≡ true → {n : ℕ} → Claimed ws n → n ≡ condition-count ws
-  unfolding condition-count
+  unfolding condition-count-within
   count-is h {n} c = go (eqb n 0) refl
     where
       go : (t : Bool) → eqb n 0 ≡ t → n ≡ condition-count ws
@@ -152,13 +152,13 @@ module _ (ws : List ℤ) {b : Bool} (test : b ≡ is-some (lines ws)) where
           sym (lines-length ws n (length ws - 1) (l .0) (sym (some-lines ws c (eqb-false n 0 z)) ∙ l .1)) ∙ sym (ap count-of (l .1))
 
   pub no-count : b ≡ false → 0 ≡ condition-count ws
-  unfolding condition-count
-  no-count h = rw (unlisted h, condition-count)
+  unfolding condition-count-within
+  no-count h = rw (unlisted h, condition-count-within)
 
   pub place-is : b ≡ true → length ws - 1 ≡ first-place ws
-  unfolding first-place
-  place-is h = rw (listed h .1, first-place)
+  unfolding first-place-within
+  place-is h = rw (listed h .1, first-place-within)
 
   pub no-place : b ≡ false → malformed-place ≡ first-place ws
-  unfolding first-place
-  no-place h = rw (unlisted h, first-place)
+  unfolding first-place-within
+  no-place h = rw (unlisted h, first-place-within)

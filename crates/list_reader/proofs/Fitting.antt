@@ -10,7 +10,7 @@ use lib.Dec.{eqb, ltb}
 use lib.ListN.{length, getD}
 use borrow.Author.Tests.{ltb-true, ltb-false}
 use Rattle.script.specs.declared.Line.{Line}
-use Rattle.script.specs.Listing.{guarded, Found, found, line-before, lines-before, line, line-at, no-line}
+use Rattle.script.specs.Listing.{guarded, Found, found, line-before, lines-before, line, line-at, line-at-within, no-line}
 use Rattle.list_reader.specs.Lines.{is-line, answer, line-among, claimed}
 use Rattle.list_reader.proofs.Trailers.{told, found-answer}
 use Rattle.list_reader.proofs.Stepping.{line-inside, line-short, line-long}
@@ -80,6 +80,6 @@ when-fits ws true n e i = among-fits ws n e i
 when-fits ws false n e i = empty ws 20
 
 pub line-at-fits : (ws : List ℤ) (i : ℤ) {l : Line} → l ≡ line-at ws i → Fits ws l
-unfolding line-at
+unfolding line-at-within
 line-at-fits ws i q =
-    rw (q, line-at, lines-are) (when-fits ws (ltb 0 (claimed ws)) (claimed ws) (length ws - 1) i)
+    rw (q, line-at-within, lines-are) (when-fits ws (ltb 0 (claimed ws)) (claimed ws) (length ws - 1) i)

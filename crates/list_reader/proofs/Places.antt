@@ -6,7 +6,7 @@ use mathlib.Core.Option.{Option, none, some}
 use mathlib.Core.List.{List}
 use lib.IntN.{ℤ}
 use Rattle.script.specs.declared.Line.{Line}
-use Rattle.script.specs.Listing.{Found, line-before, step-back, next-place}
+use Rattle.script.specs.Listing.{Found, line-before, step-back, step-back-within, next-place, next-place-within}
 use Rattle.list_reader.specs.Lines.{answer, place-after}
 use Rattle.list_reader.proofs.Stepping.{line-short}
 
@@ -18,7 +18,7 @@ stepped none e = refl
 stepped (some f) e = refl
 
 next-is : (ws : List ℤ) (e : ℕ) → place-after (step-back ws e) e ≡ next-place ws e
-unfolding step-back next-place
+unfolding step-back-within next-place-within
 next-is ws zero = sym (ap (λ (o : Option Found). from o zero) (line-short ws zero (omega linear)))
 next-is ws (suc e) = stepped (line-before ws (suc e)) (suc e)
 

@@ -8,11 +8,11 @@ use mathlib.Core.Bool.{Bool, true, false, _&&_}
 use lib.IntN.{ℤ, pos}
 use lib.ListN.{length, getD}
 use borrow.Author.Tests.{le-leb, lt-leb}
-use Rattle.script.specs.Listing.{found, line-before, line-before-within, step-back, no-line}
+use Rattle.script.specs.Listing.{found, line-before, line-before-within, step-back, step-back-within, no-line}
 use Rattle.list_reader.specs.Lines.{answer, start-of}
 
 pub step-answer : (ws : List ℤ) (e : ℕ) → (e ≡ 0 → ⊥) → step-back ws e ≡ answer (line-before ws e)
-unfolding step-back
+unfolding step-back-within
 step-answer ws zero h = absurd (h refl)
 step-answer ws (suc e) h = refl
 
@@ -35,7 +35,7 @@ module _ (ws : List ℤ) (e : ℕ) where
   line-long h = rw (lt-leb e (length ws) h, and-false)
 
   pub step-front : e ≡ 0 → no-line 21 ≡ step-back ws e
-  unfolding step-back
+  unfolding step-back-within
   step-front h = rw h
 
   pub step-none : (e ≡ 0 → ⊥) → line-before ws e ≡ none → no-line 20 ≡ step-back ws e

@@ -14,7 +14,7 @@ use denote.Ref.{RefT, now}
 use borrow.Author.Tests.{leb-true}
 use Rattle.script.specs.declared.Line.{Line}
 use Rattle.script.specs.Rows.{field-number}
-use Rattle.script.specs.Listing.{Found, below, row-limit, rule-of, spelled, found, found-within, line-before, line-before-within, line, no-line, step-back}
+use Rattle.script.specs.Listing.{Found, below, row-limit, rule-of, spelled, found, found-within, line-before, line-before-within, line, no-line, step-back, step-back-within}
 use Rattle.theorems.specs.Options.{some-inj, went-on, held}
 use Rattle.list_walker.specs.Steps.{Part}
 
@@ -47,7 +47,7 @@ line-stands ws e f q =
     found-stands ws (e - 3) _ _ _ f (omega (linear, inside)) (t .1)
 
 pub step-stands : (ws : List ℤ) (e : ℕ) → Stands ws (step-back ws e)
-unfolding step-back
+unfolding step-back-within
 step-stands ws zero = nowhere ws 21
 step-stands ws (suc e) = go (line-before ws (suc e)) refl
   where

@@ -10,7 +10,7 @@ use native.Mathlib.Omega.{arith as linear}
 use lib.IntN.{ℤ, pos}
 use lib.ListN.{length, getD, take, drop, length-append, length-drop}
 use lib.Seq.{getD-drop, drop-drop, take-append-seam}
-use Rattle.script.specs.Rows.{field-number}
+use Rattle.script.specs.Rows.{field-number, variables}
 use Rattle.script.specs.Conditions.{Condition}
 use Rattle.script.specs.Words.{formula-words, rule-number, trailer, line-words, all-lines, list-words}
 use Rattle.script.specs.WellFormed.{All-in-range, In-rangeᶠ}
@@ -41,7 +41,7 @@ all-ahead ws l =
 after-back : (f : Formula) → In-rangeᶠ f → (n : ℕ) (rest : List ℤ) → length (formula-words f) ≤ n
     → after-formula n (formula-words f ++ rest) ≡ some rest
 unfolding after-formula
-after-back f h n rest l = ap rest-of (formula-back f n h l rest)
+after-back f h n rest l = ap rest-of (formula-back variables f n h l rest)
 
 -- ws from i on is the words of a formula and a tail
 module _ (ws tail : List ℤ) (i e : ℕ) (f : Formula) (range : In-rangeᶠ f) (words : drop i ws ≡ formula-words f ++ tail)

@@ -1,6 +1,6 @@
 -- 01, "Trial rows": the starred ones, and those of the others that computation reaches, as rows of a single statement that
 -- the prover settles by computing the definitions. 02, P2, moves one of them, "the case with target 256 becomes planned": within
--- 256 variables it is what 01 says. With it the rows at the new limit. Assumes nothing.
+-- 256 variables it is what 01 says. Beside it stand rows at both limits. Assumes nothing.
 use Prim.Native.Nat.{ℕ, zero, suc, _+_, _*_}
 use mathlib.Core.Path.{_≡_, refl}
 use mathlib.Core.Bool.{Bool, true, false}
@@ -22,7 +22,7 @@ use Rattle.script.specs.Rows.{row, row-of}
 use Rattle.script.specs.Trees.{expr, formula, stmt, expr-at, formula-at, stmt-at, tree, nesting}
 use Rattle.script.specs.Refusals.{Verdict, accepted, refused, bad-length, lowest, row-fault-within, linked, misread, misreads, length-test, row-test-within, script-test, unlinked-test, target-test, reading-test, nesting-test, verdict, verdict-within}
 use Rattle.script.specs.Generated.{zeros, outcome-for, outcome, outcome-within, refusal}
-use Rattle.script.specs.Listing.{read-expr-within, read-formula-within, spelled-within, found-within, line-before-within, lines-before-within, lines-within, line-at, no-line}
+use Rattle.script.specs.Listing.{read-expr-within, read-formula-within, spelled-within, found-within, line-before-within, lines-before-within, lines-within, line-at, line-at-within, no-line}
 
 -- ---- tables
 
@@ -108,6 +108,8 @@ data Trial : Type 0 where
   divides : ℤ → ℤ → ℤ → ℤ → Trial
   -- words, index, line
   reads : List ℤ → ℤ → Line → Trial
+  -- how many variables there are, words, index, line
+  reads-within : ℕ → List ℤ → ℤ → Line → Trial
 
 data Observed : Type 0 where
   answer : Answer → Observed
@@ -124,10 +126,11 @@ observed : Trial → Observed
 observed (generates t l s a) = answer (outcome t l s .answer)
 observed (lists t ws) = words (take (outcome t 512 5120 .answer .words) (outcome t 512 5120 .list))
 observed (judges t v) = verdict-is (verdict t)
-observed (judges-within n t v) = verdict-is (verdict-within t n)
+observed (judges-within n t v) = verdict-is (verdict-within n t)
 observed (measures n b) = test (bad-length n)
 observed (divides n d q r) = division (divZ n d) (modZ n d)
 observed (reads ws i l) = line (line-at ws i)
+observed (reads-within n ws i l) = line (line-at-within n ws i)
 
 expected : Trial → Observed
 expected (generates t l s a) = answer a
@@ -137,6 +140,7 @@ expected (judges-within n t v) = verdict-is v
 expected (measures n b) = test b
 expected (divides n d q r) = division q r
 expected (reads ws i l) = line l
+expected (reads-within n ws i l) = line l
 
 trials : List Trial
 trials =
@@ -159,6 +163,12 @@ trials =
     ∷ divides (pos 5) (pos 0) (pos 0) (pos 5)
     ∷ generates (example (2, 0, 0, 0) (4, 11, 12, 0) (33, 128, 13, 0)) 512 5120 (refusal 8 14)
     ∷ judges-within 256 (example (2, 0, 0, 0) (4, 11, 12, 0) (33, 256, 13, 0)) (refused 3 14)
+    ∷ judges-within 256 (names-in 127 127 255) accepted
+    ∷ judges-within 256 (names-in 255 0 0) (refused 9 3)
+    ∷ judges-within 256 (names-in 0 255 0) (refused 8 7)
+    ∷ judges-within 256 (names-in 256 0 0) (refused 3 3)
+    ∷ judges-within 256 (names-in 0 256 0) (refused 3 7)
+    ∷ judges-within 256 (names-in 0 0 256) (refused 3 0)
     ∷ generates (example (2, 0, 0, 0) (4, 11, 12, 0) (33, 256, 13, 0)) 512 5120 (planned 4 88)
     ∷ generates (example (2, 0, 0, 0) (4, 11, 12, 0) (33, 255, 13, 0)) 512 5120 (refusal 8 14)
     ∷ generates (example (2, 0, 0, 0) (4, 11, 12, 0) (33, 1024, 13, 0)) 512 5120 (refusal 3 14)
@@ -216,10 +226,12 @@ trials =
     ∷ reads [] (pos 0) (no-line 20)
     ∷ reads (one-variable 1023) (pos 0) (record { number = 0; kind = 4; row = 0; start = 0; end = 5 })
     ∷ reads (one-variable 1024) (pos 0) (no-line 20)
+    ∷ reads-within 256 (one-variable 255) (pos 0) (record { number = 0; kind = 4; row = 0; start = 0; end = 5 })
+    ∷ reads-within 256 (one-variable 256) (pos 0) (no-line 20)
     ∷ []
 
 trials-hold : map observed trials ≡ map expected trials
-unfolding trials observed expected names-in one-variable numbers example example-a four-rows loops-in-branches loops-in-sequence loop-in-loop branches nested _⨾_ outcome-within outcome-for verdict-within length-test row-test-within script-test unlinked-test target-test reading-test nesting-test lowest row-fault-within linked misread misreads row row-of expr formula stmt expr-at formula-at stmt-at tree nesting conditions walk wp subst-expr subst-formula list-words all-lines line-words expr-words formula-words read-expr-within read-formula-within spelled-within found-within line-before-within lines-before-within lines-within line-at
+unfolding trials observed expected names-in one-variable numbers example example-a four-rows loops-in-branches loops-in-sequence loop-in-loop branches nested _⨾_ outcome-within outcome-for verdict-within length-test row-test-within script-test unlinked-test target-test reading-test nesting-test lowest row-fault-within linked misread misreads row row-of expr formula stmt expr-at formula-at stmt-at tree nesting conditions walk wp subst-expr subst-formula list-words all-lines line-words expr-words formula-words read-expr-within read-formula-within spelled-within found-within line-before-within lines-before-within lines-within line-at-within
 trials-hold = refl
 
 -- ---- "With guard 0 ≤ x, variant x and body x := x − 1, a start at 0 makes one pass."

@@ -1,5 +1,5 @@
 -- 01, "Room and scratch": what the generator answers and leaves in both buffers, for every table, list length and scratch
--- length. Assumes nothing.
+-- length; at the end with a limit in place of the number of variables. Assumes nothing.
 use Prim.Native.Nat.{ℕ, _+_, _*_, _-_, min}
 use mathlib.Core.List.{List, _++_}
 use mathlib.Core.Bool.{cond}
@@ -56,7 +56,7 @@ outcome-for t list scratch =
 -- where the variables are those below a limit
 unfoldable pub outcome-within : ℕ → List ℤ → ℕ → ℕ → Outcome
 outcome-within limit table list scratch =
-    elim (verdict-within table limit) [
+    elim (verdict-within limit table) [
       | refused n r ↦ refuse n r list scratch
       | accepted ↦ outcome-for (tree table) list scratch
     ]

@@ -1,5 +1,6 @@
 -- 01, "Reading a finished list". In this order: a formula read from its first word, the condition that ends at a place, a
--- whole list, the line at an index, the count, the reader that walks back. Assumes nothing.
+-- whole list, the line at an index, the count, the reader that walks back; these with a limit in place of the number of variables
+-- (`-within`), and at the end with that number. Assumes nothing.
 use Prim.Native.Nat.{ℕ, zero, suc, _-_}
 use mathlib.Core.Option.{Option, none, some}
 use mathlib.Core.List.{List, [], _∷_, _++_, map}
@@ -59,7 +60,7 @@ row-limit = 2048
 abbrev pub all-read : {A : Type 0} → Read A → Option A
 all-read r = elim (r .rest) [ [] ↦ some (r .got) | w ∷ ws ↦ none ]
 
--- "variables 0 to 255": the variables are those below a limit, which 02, P2, moves
+-- "variables 0 to 255": those below a limit, which 02, P2, moves
 module _ (limit : ℕ) where
   unfoldable mutual
     pub read-expr-within : ℕ → Row → List ℤ → Option (Read Expr)
@@ -169,6 +170,52 @@ module _ (limit : ℕ) where
       guarded (leb (length ws) 16384)
       (natural (getD ws (length ws - 1) (pos 0)) >>= λ count. guarded (ltb 0 count) (lines-before-within ws count (length ws - 1)))
 
+-- ---- the line at an index
+
+-- "refused, kind and row are 0 with the empty part at the front"
+abbrev pub no-line : ℕ → Line
+no-line n = record { number = n; kind = 0; row = 0; start = 0; end = 0 }
+
+-- "it gives number 0, kind, row and the formula as the part of the caller's words where it stands"
+abbrev pub line : Found → Line
+line f = record { number = 0; kind = rule-number (f .condition .rule); row = f .condition .row; start = f .start; end = f .end }
+
+-- 21: "index negative or not below the count"
+abbrev pub line-of : List Found → ℤ → Line
+line-of fs (pos i) = elim (getElem? fs i) [ some f ↦ line f | none ↦ no-line 21 ]
+line-of fs (negsuc i) = no-line 21
+
+module _ (limit : ℕ) (ws : List ℤ) where
+  -- 20: "the words are not a list, all read"
+  unfoldable pub line-at-within : ℤ → Line
+  line-at-within i = elim (lines-within limit ws) [ some fs ↦ line-of fs i | none ↦ no-line 20 ]
+
+  abbrev pub part-at-within : ℤ → List ℤ
+  part-at-within i = slice (line-at-within i .start) (line-at-within i .end) ws
+
+  -- how many conditions a list has; 0 where the words are no list
+  unfoldable pub condition-count-within : ℕ
+  condition-count-within = elim (lines-within limit ws) [ some fs ↦ length fs | none ↦ 0 ]
+
+-- ---- "A reader over a finished list keeps the words and its place, and walks back one condition at a time." Its place is
+-- where the conditions not yet read end.
+
+-- no condition ends at 1: the place of a reader over words that are no list, which 01 calls torn
+abbrev pub malformed-place : ℕ
+malformed-place = 1
+
+module _ (limit : ℕ) (ws : List ℤ) where
+  unfoldable pub first-place-within : ℕ
+  first-place-within = elim (lines-within limit ws) [ some fs ↦ length ws - 1 | none ↦ malformed-place ]
+
+  -- "On a torn list each of its steps answers 20; once the first condition is passed, 21."
+  unfoldable pub step-back-within : ℕ → Line
+  step-back-within zero = no-line 21
+  step-back-within (suc e) = elim (line-before-within limit ws (suc e)) [ some f ↦ line f | none ↦ no-line 20 ]
+
+  unfoldable pub next-place-within : ℕ → ℕ
+  next-place-within e = elim (line-before-within limit ws e) [ some f ↦ f .start | none ↦ e ]
+
 -- ---- with as many variables as there are
 
 abbrev pub read-expr : ℕ → Row → List ℤ → Option (Read Expr)
@@ -198,46 +245,20 @@ read-list ws = do
   found ← lines ws
   some (map (λ (f : Found). f .condition) found)
 
--- ---- the line at an index
-
--- "refused, kind and row are 0 with the empty part at the front"
-abbrev pub no-line : ℕ → Line
-no-line n = record { number = n; kind = 0; row = 0; start = 0; end = 0 }
-
--- "it gives number 0, kind, row and the formula as the part of the caller's words where it stands"
-abbrev pub line : Found → Line
-line f = record { number = 0; kind = rule-number (f .condition .rule); row = f .condition .row; start = f .start; end = f .end }
-
--- 21: "index negative or not below the count"
-abbrev pub line-of : List Found → ℤ → Line
-line-of fs (pos i) = elim (getElem? fs i) [ some f ↦ line f | none ↦ no-line 21 ]
-line-of fs (negsuc i) = no-line 21
-
--- 20: "the words are not a list, all read"
-unfoldable pub line-at : List ℤ → ℤ → Line
-line-at ws i = elim (lines ws) [ some fs ↦ line-of fs i | none ↦ no-line 20 ]
+abbrev pub line-at : List ℤ → ℤ → Line
+line-at = line-at-within variables
 
 abbrev pub part-at : List ℤ → ℤ → List ℤ
-part-at ws i = slice (line-at ws i .start) (line-at ws i .end) ws
+part-at = part-at-within variables
 
--- how many conditions a list has; 0 where the words are no list
-unfoldable pub condition-count : List ℤ → ℕ
-condition-count ws = elim (lines ws) [ some fs ↦ length fs | none ↦ 0 ]
+abbrev pub condition-count : List ℤ → ℕ
+condition-count = condition-count-within variables
 
--- ---- "A reader over a finished list keeps the words and its place, and walks back one condition at a time." Its place is
--- where the conditions not yet read end.
+abbrev pub first-place : List ℤ → ℕ
+first-place = first-place-within variables
 
--- no condition ends at 1: the place of a reader over words that are no list, which 01 calls torn
-abbrev pub malformed-place : ℕ
-malformed-place = 1
+abbrev pub step-back : List ℤ → ℕ → Line
+step-back = step-back-within variables
 
-unfoldable pub first-place : List ℤ → ℕ
-first-place ws = elim (lines ws) [ some fs ↦ length ws - 1 | none ↦ malformed-place ]
-
--- "On a torn list each of its steps answers 20; once the first condition is passed, 21."
-unfoldable pub step-back : List ℤ → ℕ → Line
-step-back ws zero = no-line 21
-step-back ws (suc e) = elim (line-before ws (suc e)) [ some f ↦ line f | none ↦ no-line 20 ]
-
-unfoldable pub next-place : List ℤ → ℕ → ℕ
-next-place ws e = elim (line-before ws e) [ some f ↦ f .start | none ↦ e ]
+abbrev pub next-place : List ℤ → ℕ → ℕ
+next-place = next-place-within variables

@@ -70,19 +70,17 @@ abbrev pub all-zero : List ℤ → Bool
 all-zero [] = true
 all-zero (z ∷ zs) = is-zero z && all-zero zs
 
-module _ (ws : List ℤ) where
+module _ (limit : ℕ) (ws : List ℤ) where
   -- 3: "variable number not 0 to 255, a mark's row not in the table", with a limit in place of 256
-  abbrev pub in-range-within : ℕ → List Field → Bool
-  in-range-within limit [] = true
-  in-range-within limit (value ∷ fs) = in-range-within limit fs
-  in-range-within limit (variable v ∷ fs) = ltb v limit && in-range-within limit fs
-  in-range-within limit (target v ∷ fs) = ltb v limit && in-range-within limit fs
-  in-range-within limit (loop m ∷ fs) = ltb m (rows ws) && in-range-within limit fs
-  in-range-within limit (link s r ∷ fs) = in-range-within limit fs
+  abbrev pub in-range-within : List Field → Bool
+  in-range-within [] = true
+  in-range-within (value ∷ fs) = in-range-within fs
+  in-range-within (variable v ∷ fs) = ltb v limit && in-range-within fs
+  in-range-within (target v ∷ fs) = ltb v limit && in-range-within fs
+  in-range-within (loop m ∷ fs) = ltb m (rows ws) && in-range-within fs
+  in-range-within (link s r ∷ fs) = in-range-within fs
 
-  abbrev pub in-range : List Field → Bool
-  in-range = in-range-within variables
-
+module _ (ws : List ℤ) where
   -- 3: "or an unused field not 0"
   abbrev pub unused-zero : ℕ → ℕ → Bool
   unused-zero r used = all-zero (drop used (word ws r 1 ∷ word ws r 2 ∷ word ws r 3 ∷ []))
@@ -111,24 +109,23 @@ module _ (ws : List ℤ) where
   all-new seen [] = true
   all-new seen (p ∷ ps) = not (member (p .at) seen) && all-new (p .at ∷ seen) ps
 
+module _ (limit : ℕ) (ws : List ℤ) where
   -- the first fault of row r, or 0
-  unfoldable pub row-fault-within : ℕ → ℕ → ℕ
-  row-fault-within limit r =
+  unfoldable pub row-fault-within : ℕ → ℕ
+  row-fault-within r =
       let w = row ws r in
       cond (same-sort (sort-of w) Unknown) 2
-      (cond (not (in-range-within limit (fields w) && unused-zero r (length (fields w)))) 3
-      (cond (not (all-below r (parts w))) 4
-      (cond (not (well-sorted (parts w))) 5
-      (cond (not (all-new (linked r) (parts w))) 6 0))))
+      (cond (not (in-range-within limit ws (fields w) && unused-zero ws r (length (fields w)))) 3
+      (cond (not (all-below ws r (parts w))) 4
+      (cond (not (well-sorted ws (parts w))) 5
+      (cond (not (all-new ws (linked ws r) (parts w))) 6 0))))
 
-  abbrev pub row-fault : ℕ → ℕ
-  row-fault = row-fault-within variables
-
+module _ (ws : List ℤ) where
   -- ---- 7: "last row is no script (that row); else the lowest row but the last that nothing links to". 01 calls such a row
   -- a loose part.
 
   abbrev pub unlinked-fault : ℕ → ℕ
-  unlinked-fault r = cond (member r (linked (rows ws))) 0 7
+  unlinked-fault r = cond (member r (linked ws (rows ws))) 0 7
 
   -- ---- 8: "an assignment to a frozen name; lowest such row"
 
@@ -192,12 +189,6 @@ module _ (ws : List ℤ) where
   unfoldable pub length-test : Verdict
   length-test = cond (bad-length (length ws)) (refused 1 0) accepted
 
-  unfoldable pub row-test-within : ℕ → Verdict
-  row-test-within limit = lowest (row-fault-within limit) (rows ws) 0
-
-  abbrev pub row-test : Verdict
-  row-test = row-test-within variables
-
   unfoldable pub script-test : Verdict
   script-test = cond (same-sort (sort-of (row ws (rows ws - 1))) Script) accepted (refused 7 (rows ws - 1))
 
@@ -214,15 +205,30 @@ module _ (ws : List ℤ) where
   unfoldable pub nesting-test : Verdict
   nesting-test = cond (leb (nesting (tree ws .body)) 8) accepted (refused 10 0)
 
-  unfoldable pub verdict-within : ℕ → Verdict
-  verdict-within limit =
-      length-test
-      and-then row-test-within limit
-      and-then script-test
-      and-then unlinked-test
-      and-then target-test
-      and-then reading-test
-      and-then nesting-test
+module _ (limit : ℕ) (ws : List ℤ) where
+  unfoldable pub row-test-within : Verdict
+  row-test-within = lowest (row-fault-within limit ws) (rows ws) 0
 
-  abbrev pub verdict : Verdict
-  verdict = verdict-within variables
+  unfoldable pub verdict-within : Verdict
+  verdict-within =
+      length-test ws
+      and-then row-test-within
+      and-then script-test ws
+      and-then unlinked-test ws
+      and-then target-test ws
+      and-then reading-test ws
+      and-then nesting-test ws
+
+-- ---- with as many variables as there are
+
+abbrev pub in-range : List ℤ → List Field → Bool
+in-range = in-range-within variables
+
+abbrev pub row-fault : List ℤ → ℕ → ℕ
+row-fault = row-fault-within variables
+
+abbrev pub row-test : List ℤ → Verdict
+row-test = row-test-within variables
+
+abbrev pub verdict : List ℤ → Verdict
+verdict = verdict-within variables

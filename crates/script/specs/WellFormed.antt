@@ -13,24 +13,34 @@ use Rattle.script.specs.Conditions.{Condition}
 use Rattle.script.specs.Words.{list-words}
 use Rattle.script.specs.Listing.{row-limit}
 
-abbrev mutual
-  pub In-range : Expr → Type 0
-  In-range (const z) = Unit {0}
-  In-range (var v) = v < variables
-  In-range (mark m) = m < row-limit
-  In-range (arith o a b) = In-range a × In-range b
-  In-range (neg a) = In-range a
-  In-range (choose f a b) = In-rangeᶠ f × In-range a × In-range b
+module _ (limit : ℕ) where
+  abbrev mutual
+    pub In-range-within : Expr → Type 0
+    In-range-within (const z) = Unit {0}
+    In-range-within (var v) = v < limit
+    In-range-within (mark m) = m < row-limit
+    In-range-within (arith o a b) = In-range-within a × In-range-within b
+    In-range-within (neg a) = In-range-within a
+    In-range-within (choose f a b) = In-rangeᶠ-within f × In-range-within a × In-range-within b
 
-  pub In-rangeᶠ : Formula → Type 0
-  In-rangeᶠ (truth b) = Unit {0}
-  In-rangeᶠ (cmp r a b) = In-range a × In-range b
-  In-rangeᶠ (not f) = In-rangeᶠ f
-  In-rangeᶠ (join c f g) = In-rangeᶠ f × In-rangeᶠ g
+    pub In-rangeᶠ-within : Formula → Type 0
+    In-rangeᶠ-within (truth b) = Unit {0}
+    In-rangeᶠ-within (cmp r a b) = In-range-within a × In-range-within b
+    In-rangeᶠ-within (not f) = In-rangeᶠ-within f
+    In-rangeᶠ-within (join c f g) = In-rangeᶠ-within f × In-rangeᶠ-within g
+
+  abbrev pub All-in-range-within : List Condition → Type 0
+  All-in-range-within [] = Unit {0}
+  All-in-range-within (c ∷ cs) = (c .row < row-limit) × In-rangeᶠ-within (c .claim) × All-in-range-within cs
+
+abbrev pub In-range : Expr → Type 0
+In-range = In-range-within variables
+
+abbrev pub In-rangeᶠ : Formula → Type 0
+In-rangeᶠ = In-rangeᶠ-within variables
 
 abbrev pub All-in-range : List Condition → Type 0
-All-in-range [] = Unit {0}
-All-in-range (c ∷ cs) = (c .row < row-limit) × In-rangeᶠ (c .claim) × All-in-range cs
+All-in-range = All-in-range-within variables
 
 -- ws is the list of the conditions cs
 pub record Well-formed (ws : List ℤ) (cs : List Condition) : Type 0 where

@@ -122,10 +122,10 @@ pub fn field_number(w: i32) -> usize
 }
 
 // Whether a variable is a frozen name.
-pub fn is_frozen(v: usize) -> bool
-    ensures { λ r. ⌜ r ≡ frozen v ⌝ }
+pub fn is_frozen(v: VariableNumber) -> bool
+    ensures { λ r. ⌜ r ≡ frozen (v .0) ⌝ }
 {
-    if 128 <= v { v <= 255 } else { false }
+    if 128 <= v.0 { v.0 <= 255 } else { false }
 }
 
 // The number in field f of row r of a table; field 0 is the kind.

@@ -1,4 +1,4 @@
--- The figures of 02, P1, as rows of a single statement that the prover settles by computing the definitions: example A's four
+-- The figures of 02, P1 and P2, as rows of a single statement that the prover settles by computing the definitions: example A's four
 -- scripts; constants, operators, names; 20, 21 and 30 in their order. Then answers of a writer that these rule out. Assumes nothing.
 use Prim.Native.Nat.{ℕ}
 use Prim.Native.String.{String}
@@ -17,7 +17,7 @@ use Rattle.text.specs.Ascii.{bytes}
 use Rattle.text.specs.Decimal.{digits, decimal}
 use Rattle.smt.specs.Translate.{term, claim, references, occurring, script-within}
 use Rattle.smt.specs.Text.{sexp-text, term-sexp, command-sexp, script-text}
-use Rattle.smt.specs.Written.{Written, refuse, written}
+use Rattle.smt.specs.Written.{Written, refuse, written, written-within}
 
 -- a list, an index and a room
 abbrev Call : Type 0
@@ -53,7 +53,7 @@ choice = one (pos 22 ∷ pos 25 ∷ pos 16 ∷ pos 20 ∷ pos 10 ∷ pos 17 ∷ 
 sums : List ℤ
 sums = one (pos 24 ∷ pos 18 ∷ pos 3 ∷ pos 2 ∷ pos 0 ∷ pos 2 ∷ pos 0 ∷ pos 5 ∷ pos 2 ∷ pos 0 ∷ pos 9 ∷ pos 2047 ∷ pos 17 ∷ [])
 
--- v1023 + v256 = f255 + (f128 + v127): the last ordinary numbers, the frozen ones' ends, and what stands beside them
+-- v1023 + v256 = f255 + (f128 + v127): the first and the last of 256 to 1,023 and of the frozen names, and 127
 ends : List ℤ
 ends = one (pos 20 ∷ pos 3 ∷ pos 2 ∷ pos 1023 ∷ pos 2 ∷ pos 256 ∷ pos 3 ∷ pos 2 ∷ pos 255 ∷ pos 3 ∷ pos 2 ∷ pos 128 ∷ pos 2 ∷ pos 127 ∷ [])
 
@@ -110,7 +110,7 @@ figures =
     ∷ []
 
 figures-hold : map (λ (f : Call × Written). written (f .0 .0) (f .0 .1) (f .0 .2)) figures ≡ map (λ (f : Call × Written). f .1) figures
-unfolding figures list-a one constants divisions choice sums ends past-ends text example-a example _⨾_ row row-of expr formula stmt expr-at formula-at stmt-at tree conditions walk wp subst-expr subst-formula list-words all-lines line-words expr-words formula-words read-expr-within read-formula-within spelled-within found-within line-before-within lines-before-within lines-within decimal digits term claim references occurring script-within sexp-text term-sexp command-sexp script-text written
+unfolding figures list-a one constants divisions choice sums ends past-ends text example-a example _⨾_ row row-of expr formula stmt expr-at formula-at stmt-at tree conditions walk wp subst-expr subst-formula list-words all-lines line-words expr-words formula-words read-expr-within read-formula-within spelled-within found-within line-before-within lines-before-within lines-within decimal digits term claim references occurring script-within sexp-text term-sexp command-sexp script-text written-within
 figures-hold = refl
 
 -- ---- what a writer cannot do
@@ -118,7 +118,7 @@ figures-hold = refl
 -- example A's first condition and its last, and one past it
 facts : (written list-a (pos 0) 114 .used ≡ 114) × (written list-a (pos 3) 114 .number ≡ 0) × (written list-a (pos 3) 114 .used ≡ 94)
     × (written list-a (pos 4) 114 .number ≡ 21)
-unfolding list-a one example-a example _⨾_ row row-of expr formula stmt expr-at formula-at stmt-at tree conditions walk wp subst-expr subst-formula list-words all-lines line-words expr-words formula-words read-expr-within read-formula-within spelled-within found-within line-before-within lines-before-within lines-within decimal digits term claim references occurring script-within sexp-text term-sexp command-sexp script-text written
+unfolding list-a one example-a example _⨾_ row row-of expr formula stmt expr-at formula-at stmt-at tree conditions walk wp subst-expr subst-formula list-words all-lines line-words expr-words formula-words read-expr-within read-formula-within spelled-within found-within line-before-within lines-before-within lines-within decimal digits term claim references occurring script-within sexp-text term-sexp command-sexp script-text written-within
 facts = (refl, refl, refl, refl)
 
 -- a writer that always answers what is defined

@@ -12,7 +12,7 @@ use Rattle.script.specs.Syntax as Syntax
 use Rattle.script.specs.Rows.{variables}
 use Rattle.script.specs.Refusals.{frozen}
 use Rattle.script.specs.Listing.{row-limit}
-use Rattle.script.specs.WellFormed.{In-range, In-rangeᶠ}
+use Rattle.script.specs.WellFormed.{In-range-within, In-rangeᶠ, In-rangeᶠ-within}
 use Rattle.smt.specs.Smt.{Symbol, assert, check-sat, Script, declared, claim-symbols}
 use Rattle.text.specs.Decimal.{decimal, decimal-tells}
 use Rattle.smt.specs.Translate.{Reference, variable, mark, name, assertion, expr-references, references, occurring, declared-references, declarations, script, script-within}
@@ -22,37 +22,47 @@ use Rattle.smt.specs.Occurring.{refers-in, in-refers, occurring-in, in-o
 
 -- ---- the references of a condition are in range
 
+module _ (limit : ℕ) where
+  abbrev pub Ranged-within : Reference → Type 0
+  Ranged-within (variable v) = v < limit
+  Ranged-within (mark m) = m < row-limit
+
+  abbrev pub All-ranged-within : List Reference → Type 0
+  All-ranged-within rs = (r : Reference) → List·Memᴰ r rs → Ranged-within r
+
+  ranged-append : (rs qs : List Reference) → All-ranged-within rs → All-ranged-within qs → All-ranged-within (rs ++ qs)
+  ranged-append rs qs f g r m = either (List·Memᴰ·append-cases rs m) (f r) (g r)
+
+  ranged-one : (r : Reference) → Ranged-within r → All-ranged-within (r ∷ [])
+  ranged-one r h q m = rw (List·Memᴰ·eq-of-singleton m) h
+
+  mutual
+    unfolding references
+
+    expr-ranged : (e : Expr) → In-range-within limit e → All-ranged-within (expr-references e)
+    expr-ranged (const z) h = λ r m. absurd (List·Memᴰ·not-nil m)
+    expr-ranged (var v) h = ranged-one (variable v) h
+    expr-ranged (Syntax.mark m) h = ranged-one (mark m) h
+    expr-ranged (arith o a b) h = ranged-append (expr-references a) (expr-references b) (expr-ranged a (h .0)) (expr-ranged b (h .1))
+    expr-ranged (neg a) h = expr-ranged a h
+    expr-ranged (choose f a b) h =
+        ranged-append (references f) (expr-references a ++ expr-references b) (ranged-within f (h .0))
+        (ranged-append (expr-references a) (expr-references b) (expr-ranged a (h .1)) (expr-ranged b (h .2)))
+
+    pub ranged-within : (f : Formula) → In-rangeᶠ-within limit f → All-ranged-within (references f)
+    ranged-within (truth b) h = λ r m. absurd (List·Memᴰ·not-nil m)
+    ranged-within (cmp r a b) h = ranged-append (expr-references a) (expr-references b) (expr-ranged a (h .0)) (expr-ranged b (h .1))
+    ranged-within (Syntax.not f) h = ranged-within f h
+    ranged-within (join c f g) h = ranged-append (references f) (references g) (ranged-within f (h .0)) (ranged-within g (h .1))
+
 abbrev pub Ranged : Reference → Type 0
-Ranged (variable v) = v < variables
-Ranged (mark m) = m < row-limit
+Ranged = Ranged-within variables
 
 abbrev pub All-ranged : List Reference → Type 0
-All-ranged rs = (r : Reference) → List·Memᴰ r rs → Ranged r
+All-ranged = All-ranged-within variables
 
-ranged-append : (rs qs : List Reference) → All-ranged rs → All-ranged qs → All-ranged (rs ++ qs)
-ranged-append rs qs f g r m = either (List·Memᴰ·append-cases rs m) (f r) (g r)
-
-ranged-one : (r : Reference) → Ranged r → All-ranged (r ∷ [])
-ranged-one r h q m = rw (List·Memᴰ·eq-of-singleton m) h
-
-mutual
-  unfolding references
-
-  expr-ranged : (e : Expr) → In-range e → All-ranged (expr-references e)
-  expr-ranged (const z) h = λ r m. absurd (List·Memᴰ·not-nil m)
-  expr-ranged (var v) h = ranged-one (variable v) h
-  expr-ranged (Syntax.mark m) h = ranged-one (mark m) h
-  expr-ranged (arith o a b) h = ranged-append (expr-references a) (expr-references b) (expr-ranged a (h .0)) (expr-ranged b (h .1))
-  expr-ranged (neg a) h = expr-ranged a h
-  expr-ranged (choose f a b) h =
-      ranged-append (references f) (expr-references a ++ expr-references b) (ranged f (h .0))
-      (ranged-append (expr-references a) (expr-references b) (expr-ranged a (h .1)) (expr-ranged b (h .2)))
-
-  pub ranged : (f : Formula) → In-rangeᶠ f → All-ranged (references f)
-  ranged (truth b) h = λ r m. absurd (List·Memᴰ·not-nil m)
-  ranged (cmp r a b) h = ranged-append (expr-references a) (expr-references b) (expr-ranged a (h .0)) (expr-ranged b (h .1))
-  ranged (Syntax.not f) h = ranged f h
-  ranged (join c f g) h = ranged-append (references f) (references g) (ranged f (h .0)) (ranged g (h .1))
+pub ranged : (f : Formula) → In-rangeᶠ f → All-ranged (references f)
+ranged = ranged-within variables
 
 -- ---- the declared references are those that occur
 

@@ -38,6 +38,12 @@ names-text : script-text (script (join Implies (truth true) (cmp Less (arith Mod
 unfolding script-text script-within references occurring term claim command-sexp term-sexp sexp-text decimal digits
 names-text = refl
 
+-- with as many variables as 01 has, v256 is none of them
+names-before-text : script-text (script-within 256 (cmp Less (var 255) (var 256)))
+    ≡ bytes "(set-logic QF_NIA)\n(declare-const f255 Int)\n(assert (not (< f255 v256)))\n(check-sat)\n"
+unfolding script-text script-within references occurring term claim command-sexp term-sexp sexp-text decimal digits
+names-before-text = refl
+
 -- other white space
 spaced-text : read-script (bytes
     "\t( set-logic\r\n QF_NIA )(declare-const f128 Int)(declare-const m3 Int)\n\n(assert(not(not(<(ite(=(- 5)0)0(div f128(- 5)))m3))))\n(check-sat)")

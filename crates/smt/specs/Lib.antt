@@ -5,7 +5,6 @@ pub mod Symbols
 pub mod Once
 pub mod Occurring
 pub mod Declared
-pub mod StoredScripts
 pub mod Sexp
 pub mod Lexicon
 pub mod Reader
@@ -17,6 +16,7 @@ pub mod TermBack
 pub mod ReadBack
 pub mod Verdicts
 pub mod Written
+pub mod StoredScripts
 pub mod Refutations
 pub mod Pieces
 pub mod Examples

@@ -1,75 +1,84 @@
--- 02, P2, of scripts: where the limit of the variables' numbers rises, a condition in which no new number occurs has the script
--- that it had (`same-script`), and so the text. Argument: what is declared are the numbers below the limit that occur, and none
--- occurs between the two limits. Assumes nothing.
+-- 02, P2, of scripts: where the limit of the variables' numbers rises from a to b, a condition in the range of a has the script
+-- that it had (`same-script`), and a list whose conditions are has the answers that it had, 20, 21 and 30 among them, with every
+-- byte (`same-written`). Argument: what is declared are the numbers below the limit that occur, and none occurs from a on; the
+-- lines are the same (`StoredLists`). Assumes nothing.
 use Prim.Native.Nat.{ℕ, zero, suc, _+_, _-_, _≤_}
 use native.Mathlib.Omega.{arith as linear}
 use native.Mathlib.Nat.{add-zero, add-suc}
-use mathlib.Core.Path.{_≡_, refl, sym, ap, _∙_}
-use mathlib.Core.Logic.{inl, inr}
+use mathlib.Core.Path.{_≡_, refl, sym, ap, _∙_, subst}
+use mathlib.Core.Option.{Option, none, some}
 use mathlib.Core.Bool.{Bool, true, false, cond}
-use mathlib.Core.List.{List, [], _∷_, _++_, map, append-nil, List·Memᴰ, List·Memᴰ·not-nil, List·Memᴰ·append-cases, List·Memᴰ·eq-of-singleton}
+use mathlib.Core.List.{List, [], _∷_, _++_, map, append-nil}
+use lib.IntN.{ℤ, pos, negsuc}
+use lib.ListN.{getElem?}
 use Rattle.text.specs.Ascii.{bytes}
 use Rattle.script.specs.Rows.{variables}
-use Rattle.script.specs.Syntax as Syntax
-use Rattle.script.specs.Syntax.{Expr, const, var, arith, neg, choose, Formula, truth, cmp, join}
-use Rattle.script.specs.Listing.{row-limit}
+use Rattle.script.specs.Syntax.{Formula}
+use Rattle.script.specs.WellFormed.{In-rangeᶠ-within}
+use Rattle.script.specs.Listing.{row-limit, Found, lines-within}
+use Rattle.theorems.specs.Options.{none-is-not, some-inj}
 use Rattle.theorems.specs.StoredTables.{variables-before}
-use Rattle.theorems.specs.StoredLists.{Occurs, Occursᶠ, No-new}
+use Rattle.theorems.specs.StoredLists.{Each, All-old, same-answers}
 use Rattle.smt.specs.Smt.{set-logic, assert, check-sat}
-use Rattle.smt.specs.Translate.{Reference, variable, mark, expr-references, references, refers, occurring, declarations, assertion, script-within, script}
-use Rattle.smt.specs.Symbols.{either}
+use Rattle.smt.specs.Translate.{variable, mark, references, refers, occurring, declarations, assertion, script-within, script}
+use Rattle.smt.specs.Text.{script-text}
 use Rattle.smt.specs.Occurring.{refers-in}
-
--- ---- what is referred to occurs
-
-mutual
-  unfolding expr-references references
-
-  expr-occurs : (e : Expr) (v : ℕ) → List·Memᴰ (variable v) (expr-references e) → Occurs e v
-  expr-occurs (const z) v m = absurd (List·Memᴰ·not-nil m)
-  expr-occurs (var w) v m = let e = List·Memᴰ·eq-of-singleton m in cc
-  expr-occurs (Syntax.mark k) v m = let e = List·Memᴰ·eq-of-singleton m in absurd (let z : _≡_ {A = ℕ} 0 1 = cc in omega linear)
-  expr-occurs (arith o a b) v m =
-      either (List·Memᴰ·append-cases (expr-references a) m) (λ l. inl (expr-occurs a v l)) (λ l. inr (expr-occurs b v l))
-  expr-occurs (neg a) v m = expr-occurs a v m
-  expr-occurs (choose f a b) v m =
-      either (List·Memᴰ·append-cases (references f) m) (λ l. inl (occurs f v l)) (λ l. inr
-      (either (List·Memᴰ·append-cases (expr-references a) l) (λ k. inl (expr-occurs a v k)) (λ k. inr (expr-occurs b v k))))
-
-  occurs : (f : Formula) (v : ℕ) → List·Memᴰ (variable v) (references f) → Occursᶠ f v
-  occurs (truth b) v m = absurd (List·Memᴰ·not-nil m)
-  occurs (cmp r a b) v m =
-      either (List·Memᴰ·append-cases (expr-references a) m) (λ l. inl (expr-occurs a v l)) (λ l. inr (expr-occurs b v l))
-  occurs (Syntax.not f) v m = occurs f v m
-  occurs (join c f g) v m =
-      either (List·Memᴰ·append-cases (references f) m) (λ l. inl (occurs f v l)) (λ l. inr (occurs g v l))
+use Rattle.smt.specs.Declared.{ranged-within}
+use Rattle.smt.specs.Written.{fit, found-at, fit-found-within, fit-lines-within, written-within, written}
 
 -- ---- the script
 
-module _ (a b : ℕ) (f : Formula) (free : No-new a b (Occursᶠ f)) where
-  same-numbers : (k : ℕ) → a + k ≤ b → occurring variable (a + k) (references f) ≡ occurring variable a (references f)
+module _ (a b : ℕ) (rises : a ≤ b) (f : Formula) (old : In-rangeᶠ-within a f) where
+  same-numbers : (k : ℕ) → occurring variable (a + k) (references f) ≡ occurring variable a (references f)
   unfolding occurring
-  same-numbers zero l = rw (add-zero a)
-  same-numbers (suc k) l = rw add-suc (go (refers (variable (a + k)) (references f)) refl (same-numbers k (omega linear)))
+  same-numbers zero = rw (add-zero a)
+  same-numbers (suc k) = rw add-suc (go (refers (variable (a + k)) (references f)) refl (same-numbers k))
     where
       go : (t : Bool) → refers (variable (a + k)) (references f) ≡ t
           → occurring variable (a + k) (references f) ≡ occurring variable a (references f)
           → occurring variable (a + k) (references f) ++ cond t ((a + k) ∷ []) [] ≡ occurring variable a (references f)
       go true e same =
-          let beyond = free (a + k) (occurs f (a + k) (refers-in (variable (a + k)) (references f) e)) (omega linear) in
+          let low = ranged-within a f old (variable (a + k)) (refers-in (variable (a + k)) (references f) e) in
           absurd (omega linear)
       go false e same = append-nil _ ∙ same
 
-  pub same-script : a ≤ b → script-within a f ≡ script-within b f
+  pub same-script : script-within a f ≡ script-within b f
   unfolding script-within
-  same-script rises =
+  same-script =
       let end : a + (b - a) ≡ b = omega linear in
-      let same : occurring variable b (references f) ≡ occurring variable a (references f) = rw end at (same-numbers (b - a) (omega linear)) in
+      let same : occurring variable b (references f) ≡ occurring variable a (references f) = rw end at (same-numbers (b - a)) in
       ap (λ (ns : List ℕ). set-logic (bytes "QF_NIA")
       ∷ (declarations (map variable ns ++ map mark (occurring mark row-limit (references f))) ++ (assert (assertion f) ∷ check-sat ∷ [])))
       (sym same)
 
+-- ---- the answer of the writer
+
+each-at : (P : Formula → Type 0) (fs : List Found) (i : ℤ) (f : Found) → Each P fs → found-at fs i ≡ some f → P (f .condition .claim)
+each-at P fs (negsuc k) f h e = none-is-not e
+each-at P [] (pos k) f h e = none-is-not e
+each-at P (g ∷ fs) (pos zero) f h e = subst (λ (x : Found). P (x .condition .claim)) (some-inj e) (h .0)
+each-at P (g ∷ fs) (pos (suc k)) f h e = each-at P fs (pos k) f (h .1) e
+
+module _ (a b : ℕ) (rises : a ≤ b) (small : b ≤ 4294967295) (ws : List ℤ) (old : All-old a b ws) (i : ℤ) (room : ℕ) where
+  of-found : (fs : List Found) → Each (In-rangeᶠ-within a) fs → (o : Option Found) → found-at fs i ≡ o
+      → fit-found-within a o room ≡ fit-found-within b o room
+  of-found fs h none q = refl
+  of-found fs h (some f) q = ap (λ s. fit (script-text s) room) (same-script a b rises (f .condition .claim) (each-at _ fs i f h q))
+
+  of-lines : (o : Option (List Found)) → lines-within b ws ≡ o → fit-lines-within a o i room ≡ fit-lines-within b o i room
+  of-lines none e = refl
+  of-lines (some fs) e = of-found fs (old fs e) (found-at fs i) refl
+
+  pub same-written : written-within a ws i room ≡ written-within b ws i room
+  unfolding written-within
+  same-written =
+      ap (λ (o : Option (List Found)). fit-lines-within a o i room) (same-answers a b rises small ws old .lines) ∙ of-lines (lines-within b ws) refl
+
 -- ---- from 01 to P2
 
-pub stored-script : (f : Formula) → No-new variables-before variables (Occursᶠ f) → script-within variables-before f ≡ script f
-stored-script f free = same-script variables-before variables f free (omega linear)
+pub stored-script : (f : Formula) → In-rangeᶠ-within variables-before f → script-within variables-before f ≡ script f
+stored-script f old = same-script variables-before variables (omega linear) f old
+
+pub stored-written : (ws : List ℤ) → All-old variables-before variables ws → (i : ℤ) (room : ℕ)
+    → written-within variables-before ws i room ≡ written ws i room
+stored-written ws old i room = same-written variables-before variables (omega linear) (omega linear) ws old i room

@@ -24,7 +24,7 @@ use Rattle.text.specs.Ascii.{bytes}
 use Rattle.text.specs.Decimal.{digits, decimal}
 use Rattle.smt.specs.Translate.{term, claim, references, occurring, script, script-within}
 use Rattle.smt.specs.Text.{sexp-text, term-sexp, command-sexp, script-text}
-use Rattle.smt.specs.Written.{written}
+use Rattle.smt.specs.Written.{written, written-within}
 use Rattle.smt.specs.Verdicts.{Unsatisfiable-text, text-valid-iff}
 use Rattle.smt.specs.Refutations.{Refuted, verdicts-to-runs}
 
@@ -48,11 +48,11 @@ text : List ℕ
 text = bytes "(set-logic QF_NIA)\n(assert (not (=> true true)))\n(check-sat)\n"
 
 wrote : (written words (pos 0) 61 .number ≡ 0) × (take (written words (pos 0) 61 .used) (written words (pos 0) 61 .buffer) ≡ text)
-unfolding words text row-of expr-words read-expr-within read-formula-within spelled-within found-within line-before-within lines-before-within lines-within decimal digits term claim references occurring script-within sexp-text term-sexp command-sexp script-text written
+unfolding words text row-of expr-words read-expr-within read-formula-within spelled-within found-within line-before-within lines-before-within lines-within decimal digits term claim references occurring script-within sexp-text term-sexp command-sexp script-text written-within
 wrote = (refl, refl)
 
 meant : script-text (script main) ≡ text
-unfolding main text row-of expr-words read-expr-within read-formula-within spelled-within found-within line-before-within lines-before-within lines-within decimal digits term claim references occurring script-within sexp-text term-sexp command-sexp script-text written
+unfolding main text row-of expr-words read-expr-within read-formula-within spelled-within found-within line-before-within lines-before-within lines-within decimal digits term claim references occurring script-within sexp-text term-sexp command-sexp script-text written-within
 meant = refl
 
 refuted : (i : ℕ) → i < 1 → Refuted words i

@@ -13,7 +13,8 @@ use lib.Dec.{ltb}
 use lib.ListN.{length, replicate, getElem?, take, length-append, length-replicate}
 use borrow.Author.Tests.{ltb-false}
 use lib.Seq.{take-append-seam}
-use Rattle.script.specs.Listing.{Found, lines, read-list}
+use Rattle.script.specs.Rows.{variables}
+use Rattle.script.specs.Listing.{Found, lines, lines-within, read-list}
 use Rattle.script.specs.WellFormed.{In-rangeᶠ}
 use Rattle.theorems.specs.Options.{none-is-not}
 use Rattle.theorems.specs.ReadBack.{conditions-of, written-read as well-formed}
@@ -21,7 +22,7 @@ use Rattle.theorems.specs.Lookup.{condition-of, range-at}
 use Rattle.smt.specs.Smt.{Symbol, declared, claim-symbols}
 use Rattle.smt.specs.Declared.{declared-iff, declared-once}
 use Rattle.smt.specs.Once.{Once}
-use Rattle.smt.specs.Translate.{assertion, script}
+use Rattle.smt.specs.Translate.{assertion, script, script-within}
 use Rattle.smt.specs.Reader.{read-script}
 use Rattle.smt.specs.Text.{script-text}
 use Rattle.smt.specs.ReadBack.{script-read}
@@ -41,30 +42,43 @@ fit text room =
     cond (ltb room (length text)) (refuse 30 room)
     (record { number = 0; used = length text; buffer = text ++ replicate (room - length text) 0 })
 
-abbrev pub condition-text : Found → List ℕ
-condition-text f = script-text (script (f .condition .claim))
+abbrev pub condition-text-within : ℕ → Found → List ℕ
+condition-text-within limit f = script-text (script-within limit (f .condition .claim))
 
 -- 21: "index negative or not below the count"
 abbrev pub found-at : List Found → ℤ → Option Found
 found-at fs (pos i) = getElem? fs i
 found-at fs (negsuc i) = none
 
-abbrev pub fit-found : Option Found → ℕ → Written
-fit-found none room = refuse 21 room
-fit-found (some f) room = fit (condition-text f) room
+abbrev pub fit-found-within : ℕ → Option Found → ℕ → Written
+fit-found-within limit none room = refuse 21 room
+fit-found-within limit (some f) room = fit (condition-text-within limit f) room
 
 -- 20: "the words are not a list, all read"
-abbrev pub fit-lines : Option (List Found) → ℤ → ℕ → Written
-fit-lines none i room = refuse 20 room
-fit-lines (some fs) i room = fit-found (found-at fs i) room
+abbrev pub fit-lines-within : ℕ → Option (List Found) → ℤ → ℕ → Written
+fit-lines-within limit none i room = refuse 20 room
+fit-lines-within limit (some fs) i room = fit-found-within limit (found-at fs i) room
 
-unfoldable pub written : List ℤ → ℤ → ℕ → Written
-written ws i room = fit-lines (lines ws) i room
+-- where the variables are those below a limit
+unfoldable pub written-within : ℕ → List ℤ → ℤ → ℕ → Written
+written-within limit ws i room = fit-lines-within limit (lines-within limit ws) i room
+
+abbrev pub condition-text : Found → List ℕ
+condition-text = condition-text-within variables
+
+abbrev pub fit-found : Option Found → ℕ → Written
+fit-found = fit-found-within variables
+
+abbrev pub fit-lines : Option (List Found) → ℤ → ℕ → Written
+fit-lines = fit-lines-within variables
+
+abbrev pub written : List ℤ → ℤ → ℕ → Written
+written = written-within variables
 
 -- ---- the buffer's length
 
 pub written-length : (ws : List ℤ) (i : ℤ) (room : ℕ) → length (written ws i room .buffer) ≡ room
-unfolding written
+unfolding written-within
 written-length ws i room = of-lines (lines ws)
   where
     of-room : (text : List ℕ) (b : Bool) → ltb room (length text) ≡ b
@@ -101,7 +115,7 @@ range-found ws fs (pos k) p f q =
 range-found ws fs (negsuc k) p f q = none-is-not q
 
 pub written-read : (ws : List ℤ) (i : ℤ) (room : ℕ) → written ws i room .number ≡ 0 → Text-of ws i (written ws i room)
-unfolding written
+unfolding written-within
 written-read ws i room e = of-lines (lines ws) refl e
   where
     refused : {A : Type 0} (n : ℕ) → n ≢ 0 → n ≡ 0 → A

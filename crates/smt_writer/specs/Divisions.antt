@@ -6,6 +6,7 @@ use mathlib.Core.List.{List, [], _∷_, _++_}
 use native.Mathlib.Omega.{arith as linear}
 use lib.IntN.{ℤ, pos}
 use lib.ListN.{length}
+use Rattle.script.specs.Rows.{variables}
 use Rattle.script.specs.Syntax.{Expr}
 use Rattle.script.specs.Words.{expr-words}
 use Rattle.script.specs.WellFormed.{In-range}
@@ -58,7 +59,7 @@ module _ {ws : List ℤ} {at k : ℕ} {n d : Expr} (s : Division-at ws at k n d)
   pub divisor-place : {e : ℕ} → Expression-ends ws (at + 1) e → e ≡ at + 1 + length (expr-words n)
   unfolding after-expression
   divisor-place ends =
-      ends-past after-expression (expr-words n) (λ m rest l. ap rest-of (expr-back n m (s .ranges .0) l rest)) (dividend-at .words .rest) (dividend-at .words .is) (ends .reads)
+      ends-past after-expression (expr-words n) (λ m rest l. ap rest-of (expr-back variables n m (s .ranges .0) l rest)) (dividend-at .words .rest) (dividend-at .words .is) (ends .reads)
 
   pub divisor-stands : {e : ℕ} → Expression-ends ws (at + 1) e → Node-at ws e (expression d)
   divisor-stands ends = at-place (divisor-place ends) divisor-at

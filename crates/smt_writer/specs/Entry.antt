@@ -13,13 +13,13 @@ use lib.Seq.{sets-eq}
 use borrow.Author.Tests.{lt-ltb, le-ltb}
 use Rattle.script.specs.declared.Line.{Line}
 use Rattle.script.specs.Syntax.{Formula}
-use Rattle.script.specs.Listing.{Found, lines, read-list, no-line, line-of, line-at, part-at}
+use Rattle.script.specs.Listing.{Found, lines, read-list, no-line, line-of, line-at, line-at-within, part-at}
 use Rattle.theorems.specs.ReadBack.{conditions-of, written-read}
 use Rattle.theorems.specs.Lookup.{part-at-index, condition-of, range-at}
 use Rattle.theorems.specs.Writing.{Wrote, wrote-whole, wrote-short}
 use Rattle.smt.specs.Translate.{script}
 use Rattle.smt.specs.Text.{script-text}
-use Rattle.smt.specs.Written.{Written, refuse, fit, fit-found, written}
+use Rattle.smt.specs.Written.{Written, refuse, fit, fit-found, written, written-within}
 use Rattle.smt_writer.specs.Nodes.{Spells, Spelled}
 use Rattle.smt_writer.specs.declared.TextAnswer.{TextAnswer}
 
@@ -42,19 +42,19 @@ module _ (ws : List ℤ) where
       }
 
   pub located : (i : ℤ) → Located ws i
-  unfolding line-at written
+  unfolding line-at-within written-within
   located i = by-lines (lines ws) refl i
     where
       by-found : (fs : List Found) → lines ws ≡ some fs → (k : ℕ) (o : Option Found) → getElem? fs k ≡ o → Located ws (pos k)
       by-found fs p k none q =
-          refused 21 (λ e. omega linear) (rw (p, line-at) (rw (q, line-of))) (λ room. rw (p, written) (ap (λ o. fit-found o room) q))
+          refused 21 (λ e. omega linear) (rw (p, line-at-within) (rw (q, line-of))) (λ room. rw (p, written-within) (ap (λ o. fit-found o room) q))
       by-found fs p k (some f) q =
-          found (f .condition .claim) (rw (p, line-at) (rw (q, line-of))) (spelled fs p k f q) (λ room. rw (p, written) (ap (λ o. fit-found o room) q))
+          found (f .condition .claim) (rw (p, line-at-within) (rw (q, line-of))) (spelled fs p k f q) (λ room. rw (p, written-within) (ap (λ o. fit-found o room) q))
 
       by-lines : (o : Option (List Found)) → lines ws ≡ o → (i : ℤ) → Located ws i
-      by-lines none p i = refused 20 (λ e. omega linear) (rw (p, line-at)) (λ room. rw (p, written))
+      by-lines none p i = refused 20 (λ e. omega linear) (rw (p, line-at-within)) (λ room. rw (p, written-within))
       by-lines (some fs) p (pos k) = by-found fs p k (getElem? fs k) refl
-      by-lines (some fs) p (negsuc k) = refused 21 (λ e. omega linear) (rw (p, line-at)) (λ room. rw (p, written))
+      by-lines (some fs) p (negsuc k) = refused 21 (λ e. omega linear) (rw (p, line-at-within)) (λ room. rw (p, written-within))
 
 -- ---- what is answered, and left in the text
 

@@ -26,7 +26,7 @@ const NAMES: usize = VARIABLES + 2048;
 fn letter_of(v: VariableNumber) -> u8
     ensures { λ r. ⌜ r ≡ letter (variable (v .0)) ⌝ }
 {
-    if script::is_frozen(v.0) { b'f' } else { b'v' }
+    if script::is_frozen(v) { b'f' } else { b'v' }
 }
 
 pub fn write_variable(text: &mut [u8], at: usize, v: VariableNumber) -> usize

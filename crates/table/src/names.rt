@@ -107,7 +107,7 @@ fn lowest_misread(
     let next = reads(code, script::row_at(table, r));
     match next {
         Reads::Nothing => low,
-        Reads::Variable(v) => lower(r, tests::both(code, script::is_frozen(v.0)), low),
+        Reads::Variable(v) => lower(r, tests::both(code, script::is_frozen(v)), low),
         Reads::Mark(m) => lower(r, mark_misplaced(code, around, m), low),
         Reads::One(c, a) => lowest_misread(table, a, c, around, low),
         Reads::Two(c, a, b) => {

@@ -2,6 +2,7 @@
 
 use crate::Verdict;
 use script::RowNumber;
+use script::VariableNumber;
 use script::kinds;
 ghost use mathlib.Core.Path.{_≡_};
 ghost use mathlib.Core.Bool.{Bool, _&&_, _||_};
@@ -92,7 +93,7 @@ fn is_named(kind: usize, a: usize) -> bool
 {
     let frozen = both(
         either(kind == kinds::VARIABLE, kind == kinds::ASSIGN),
-        script::is_frozen(a),
+        script::is_frozen(VariableNumber(a)),
     );
     either(kind == kinds::MARK, frozen)
 }
@@ -118,7 +119,7 @@ fn assigns_frozen(kind: usize, a: usize) -> bool
     ensures { λ r. ⌜ r ≡ kind-assigns kind a ⌝ }
 {
     if kind == kinds::ASSIGN {
-        script::is_frozen(a)
+        script::is_frozen(VariableNumber(a))
     } else {
         false
     }

@@ -15,7 +15,7 @@ use lib.Seq.{slice, take-append-add, take-append-seam, drop-append-seam, getD-ap
 use borrow.Author.Tests.{eqb-true, lt-ltb, ltb-true, le-leb, leb-true}
 use Rattle.script.specs.declared.Rule.{Rule}
 use Rattle.script.specs.declared.Rule.the-variants.{Exit, Floor, Step, Main}
-use Rattle.script.specs.Rows.{field-number}
+use Rattle.script.specs.Rows.{field-number, variables}
 use Rattle.script.specs.Conditions.{Condition}
 use Rattle.script.specs.Words.{formula-words, rule-number, trailer, line-words}
 use Rattle.script.specs.WellFormed.{In-rangeᶠ}
@@ -49,7 +49,7 @@ found-back front tail c h r n e =
     let start : length front + n - n ≡ length front = omega linear in
     let low = lt-ltb (c .row) row-limit h in
     let fits = lt-ltb n (suc (length front + n)) (omega linear) in
-    rw (rule-back (c .rule), low, fits, start, e, slice-part front (formula-words (c .claim)) tail, spelled-words (c .claim) r)
+    rw (rule-back (c .rule), low, fits, start, e, slice-part front (formula-words (c .claim)) tail, spelled-words variables (c .claim) r)
 
 -- the trailer is the three words before the end
 line-before-is : (ws : List ℤ) (m : ℕ) → m + 3 ≤ length ws
@@ -129,7 +129,7 @@ found-only ws e k r n f l q =
     let claim = went-on (spelled (slice (e - size .0) e ws)) _ (size .2) in
     let s = size-only (suc e) n (size .0) (size .1) in
     let t = size-only row-limit r (row .0) (row .1) in
-    let c = spelled-only (slice (e - size .0) e ws) (claim .0) (claim .1) in
+    let c = spelled-only variables (omega linear) (slice (e - size .0) e ws) (claim .0) (claim .1) in
     let len : length (formula-words (claim .0)) ≡ size .0 = ap length (c .0) ∙ length-slice (e - size .0) e ws l ∙ omega linear in
     subst (λ x. Read-from ws e k r n x) (some-inj (claim .2))
     (record {

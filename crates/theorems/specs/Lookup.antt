@@ -14,8 +14,8 @@ use Rattle.script.specs.declared.Line.{Line}
 use Rattle.script.specs.Conditions.{Condition}
 use Rattle.script.specs.Words.{formula-words, trailer, line-words, all-lines, list-words}
 use Rattle.script.specs.WellFormed.{In-rangeᶠ, All-in-range, Well-formed}
-use Rattle.script.specs.Listing.{Found, line-before, line-before-within, lines-before, lines-before-within, lines, read-list}
-use Rattle.script.specs.Listing.{no-line, line, line-of, line-at, part-at, malformed-place, first-place, step-back, next-place}
+use Rattle.script.specs.Listing.{Found, line-before, line-before-within, lines-before, lines-before-within, lines, read-list, line-at-within, first-place-within, step-back-within, next-place-within}
+use Rattle.script.specs.Listing.{no-line, line, line-of, line-at, line-at-within, part-at, malformed-place, first-place, first-place-within, step-back, step-back-within, next-place, next-place-within}
 use Rattle.theorems.specs.Options.{none-is-not, some-inj, went-on, stopped}
 use Rattle.theorems.specs.Line.{place, slice-part}
 use Rattle.theorems.specs.ReadBack.{places, conditions-of, lines-written, tested}
@@ -56,8 +56,8 @@ none-past (c ∷ cs) s zero h = absurd (omega linear)
 none-past (c ∷ cs) s (suc i) h = none-past cs (s + length (line-words c)) i (omega linear)
 
 read-at : (ws : List ℤ) (cs : List Condition) → Well-formed ws cs → (i : ℤ) → line-at ws i ≡ line-of (places 0 cs) i
-unfolding line-at
-read-at ws cs w i = rw (lines-written ws cs w, line-at)
+unfolding line-at-within
+read-at ws cs w i = rw (lines-written ws cs w, line-at-within)
 
 -- "For index i from the front it gives number 0, kind, row and the formula as the part of the caller's words where it
 -- stands": c is the condition at index i, and its formula begins where the lines of the conditions before it end
@@ -77,8 +77,8 @@ line-at-negative ws cs w i = read-at ws cs w (negsuc i)
 
 -- 20: "the words are not a list, all read"
 pub line-at-malformed : (ws : List ℤ) → read-list ws ≡ none → (i : ℤ) → line-at ws i ≡ no-line 20
-unfolding line-at read-list
-line-at-malformed ws q i = rw (stopped (lines ws) conditions-of q, line-at)
+unfolding line-at-within read-list
+line-at-malformed ws q i = rw (stopped (lines ws) conditions-of q, line-at-within)
 
 -- the line of the condition at index i stands after the lines of those before it
 split-lines : (cs : List Condition) (i : ℕ) (c : Condition) → getElem? cs i ≡ some c
@@ -116,20 +116,20 @@ unfolding line-before-within
 none-at-front ws = refl
 
 stays-at-front : (ws : List ℤ) (n : ℕ) → walk-back ws n 0 ≡ replicate n (no-line 21)
-unfolding walk-back step-back next-place line-before-within
+unfolding walk-back step-back-within next-place-within line-before-within
 stays-at-front ws zero = refl
 stays-at-front ws (suc n) = ap (λ l. no-line 21 ∷ l) (stays-at-front ws n)
 
 stays-malformed : (ws : List ℤ) (n : ℕ) → walk-back ws n malformed-place ≡ replicate n (no-line 20)
-unfolding walk-back step-back next-place line-before-within
+unfolding walk-back step-back-within next-place-within line-before-within
 stays-malformed ws zero = refl
 stays-malformed ws (suc n) = ap (λ l. no-line 20 ∷ l) (stays-malformed ws n)
 
 one-step : (ws : List ℤ) (n e : ℕ) (f : Found) → line-before ws e ≡ some f
     → walk-back ws (suc n) e ≡ line f ∷ walk-back ws n (f .start)
-unfolding walk-back step-back next-place
+unfolding walk-back step-back-within next-place-within
 one-step ws n zero f q = none-is-not (sym (none-at-front ws) ∙ q)
-one-step ws n (suc e) f q = rw (q, step-back, next-place)
+one-step ws n (suc e) f q = rw (q, step-back-within, next-place-within)
 
 -- from e on, the first steps give the lines of fs, last one first, and the n others go on from the front
 abbrev Walked : List ℤ → ℕ → ℕ → List Found → Type 0
@@ -153,8 +153,8 @@ walked ws (suc m) n e fs q =
     subst (λ x. Walked ws n e x) (some-inj (front .2)) (one-back ws n e (last .0) (front .0) (last .1) before)
 
 first-is : (ws : List ℤ) (fs : List Found) → lines ws ≡ some fs → first-place ws ≡ length ws - 1
-unfolding first-place
-first-is ws fs q = rw (q, first-place)
+unfolding first-place-within
+first-is ws fs q = rw (q, first-place-within)
 
 pub walk-back-list : (ws : List ℤ) (fs : List Found) (n : ℕ) → lines ws ≡ some fs
     → walk-back ws (length fs + n) (first-place ws) ≡ reverse (map line fs) ++ replicate n (no-line 21)
@@ -163,5 +163,5 @@ walk-back-list ws fs n q =
     rw (first-is ws fs q, walked ws (t .count) n (length ws - 1) fs (t .read), stays-at-front ws n)
 
 pub walk-back-malformed : (ws : List ℤ) (n : ℕ) → lines ws ≡ none → walk-back ws n (first-place ws) ≡ replicate n (no-line 20)
-unfolding first-place
-walk-back-malformed ws n q = rw (q, first-place) (stays-malformed ws n)
+unfolding first-place-within
+walk-back-malformed ws n q = rw (q, first-place-within) (stays-malformed ws n)

@@ -18,7 +18,7 @@ use Rattle.script.specs.Conditions.{Condition, condition}
 use Rattle.script.specs.Words.{rule-number, formula-words}
 use Rattle.script.specs.WellFormed.{Well-formed}
 use Rattle.script.specs.Rows.{row-of}
-use Rattle.script.specs.Listing.{Found, no-line, line, read-expr-within, read-formula-within, spelled-within, found-within, line-before-within, lines-before-within, lines, lines-within, read-list, line-at, part-at, condition-count, first-place, step-back, next-place}
+use Rattle.script.specs.Listing.{Found, no-line, line, read-expr-within, read-formula-within, spelled-within, found-within, line-before-within, lines-before-within, lines, lines-within, read-list, line-at, line-at-within, part-at, condition-count, condition-count-within, first-place, first-place-within, step-back, step-back-within, next-place, next-place-within}
 use Rattle.script.specs.Computed.{numbers}
 use Rattle.theorems.specs.ReadBack.{written-read, lines-written, places}
 use Rattle.theorems.specs.Lookup.{line-at-index, part-at-index, walk-back, walk-back-list, walk-back-malformed}
@@ -56,7 +56,7 @@ record Facts : Type 0 where
   torn-step : step-back torn 1 .number ≡ 20
 
 facts : Facts
-unfolding two two-conditions torn numbers row-of read-expr-within read-formula-within spelled-within found-within line-before-within lines-before-within lines-within read-list line-at condition-count first-place step-back next-place
+unfolding two two-conditions torn numbers row-of read-expr-within read-formula-within spelled-within found-within line-before-within lines-before-within lines-within read-list line-at-within condition-count-within first-place-within step-back-within next-place-within
 facts = record {
   read = refl;
   first = refl;
@@ -167,8 +167,8 @@ module _ (n : List ℤ → ℕ) (meets : (ws : List ℤ) → n ws ≡ condition-
       omega (linear, meets torn, facts .uncounted)
 
   pub invents-count : (ws : List ℤ) (cs : List Condition) → Well-formed ws cs → n ws ≢ length cs → ⊥
-  unfolding condition-count
-  invents-count ws cs w h = h (meets ws ∙ rw (lines-written ws cs w, condition-count) (as-many 0 cs))
+  unfolding condition-count-within
+  invents-count ws cs w h = h (meets ws ∙ rw (lines-written ws cs w, condition-count-within) (as-many 0 cs))
     where
       as-many : (s : ℕ) (cs : List Condition) → length (places s cs) ≡ length cs
       as-many s [] = refl

@@ -1,7 +1,8 @@
 -- 02, P2: "so that no stored table changes meaning". Where the limit of the variables' numbers rises from a to b, a table gets
--- the outcome that it got, answer and every word, or it was refused with number 3 at a row with a number from a to b - 1
--- (`outcome-stays`). So a table without such numbers gets the outcome that it got (`without-new`), and so does one whose number
--- was not 3, planned tables among them (`not-refused-3`). At the end both for 01's 256 and the number of variables there is now.
+-- the verdict and the outcome that it got, answer and every word, or it was refused with number 3 at a row with a variable's
+-- number from a to b - 1 (`verdict-stays`, `outcome-stays`). So a table without such numbers gets the outcome that it got
+-- (`without-new`), and so does one whose number was not 3, planned tables among them (`not-refused-3`). At the end both for 01's
+-- 256 and the number of variables there is now.
 -- Argument: the tests read the limit only in a row's fields, and where the two limits tell the fields of a row apart, the first
 -- one refuses that row with 3. Assumes nothing.
 use Prim.Native.Nat.{ℕ, zero, suc, _+_, _≤_, _<_}
@@ -20,7 +21,7 @@ use Rattle.script.specs.declared.Answer.{Answer}
 use Rattle.script.specs.declared.Sort.the-variants.{Unknown}
 use Rattle.script.specs.Rows.{Field, value, variable, target, loop, link, fields, sort-of, parts, rows, row, variables}
 use Rattle.script.specs.Trees.{tree}
-use Rattle.script.specs.Refusals.{Verdict, accepted, refused, _and-then_, lowest, same-sort, in-range-within, unused-zero, all-below, well-sorted, all-new, linked, row-fault-within, length-test, row-test-within, script-test, unlinked-test, target-test, reading-test, nesting-test, verdict-within}
+use Rattle.script.specs.Refusals.{Verdict, accepted, refused, _and-then_, lowest, same-sort, in-range-within, unused-zero, all-below, well-sorted, all-new, linked, row-fault-within, length-test, row-test-within, script-test, unlinked-test, target-test, reading-test, nesting-test, verdict-within, verdict}
 use Rattle.script.specs.Generated.{Outcome, refuse, outcome-for, outcome-within, outcome}
 use Rattle.theorems.specs.Faults.{Some}
 use Rattle.theorems.specs.Lowest.{passed, stopped}
@@ -36,10 +37,19 @@ module _ (a b : ℕ) where
   New (loop m) = ⊥
   New (link s r) = ⊥
 
+module _ (a b : ℕ) (ws : List ℤ) where
+  -- row r has such a number
+  abbrev pub New-at : ℕ → Type 0
+  New-at r = Some (New a b) (fields (row ws r))
+
+  -- the second verdict is the first, or the first was 3 at a row below n with a new number
+  abbrev pub Stays : ℕ → Verdict → Verdict → Type 0
+  Stays n v w = (v ≡ w) ⊎ ((r : ℕ) × (r < n) × (v ≡ refused 3 r) × New-at r)
+
 module _ (a b : ℕ) (rises : a ≤ b) (ws : List ℤ) where
   -- the tests of fields agree, or the first one fails and a number is new
   abbrev Agree : List Field → Type 0
-  Agree fs = (in-range-within ws a fs ≡ in-range-within ws b fs) ⊎ ((in-range-within ws a fs ≡ false) × Some (New a b) fs)
+  Agree fs = (in-range-within a ws fs ≡ in-range-within b ws fs) ⊎ ((in-range-within a ws fs ≡ false) × Some (New a b) fs)
 
   and-both : (t p q : Bool) {P : Type 0} → (p ≡ q) ⊎ ((p ≡ false) × P) → ((t && p) ≡ (t && q)) ⊎ (((t && p) ≡ false) × P)
   and-both true p q h = h
@@ -51,13 +61,13 @@ module _ (a b : ℕ) (rises : a ≤ b) (ws : List ℤ) where
 
   -- a variable's number before fields that agree
   numbered : (f : Field) (v : ℕ) (fs : List Field) → ((a ≤ v) × (v < b) → New a b f) → Agree fs
-      → ((ltb v a && in-range-within ws a fs) ≡ (ltb v b && in-range-within ws b fs))
-      ⊎ (((ltb v a && in-range-within ws a fs) ≡ false) × Some (New a b) (f ∷ fs))
+      → ((ltb v a && in-range-within a ws fs) ≡ (ltb v b && in-range-within b ws fs))
+      ⊎ (((ltb v a && in-range-within a ws fs) ≡ false) × Some (New a b) (f ∷ fs))
   numbered f v fs new h = go (decLt v a) (decLt v b)
     where
       go : Dec (v < a) → Dec (v < b)
-          → ((ltb v a && in-range-within ws a fs) ≡ (ltb v b && in-range-within ws b fs))
-          ⊎ (((ltb v a && in-range-within ws a fs) ≡ false) × Some (New a b) (f ∷ fs))
+          → ((ltb v a && in-range-within a ws fs) ≡ (ltb v b && in-range-within b ws fs))
+          ⊎ (((ltb v a && in-range-within a ws fs) ≡ false) × Some (New a b) (f ∷ fs))
       go (yes l) m = rw (lt-ltb v a l, lt-ltb v b (omega linear)) (later inr h)
       go (no l) (yes m) = rw (le-ltb v a (omega linear)) (inr (refl, inl (new (omega linear, m))))
       go (no l) (no m) = rw (le-ltb v a (omega linear), le-ltb v b (omega linear)) (inl refl)
@@ -72,57 +82,49 @@ module _ (a b : ℕ) (rises : a ≤ b) (ws : List ℤ) where
 
   -- ---- the rows
 
-  -- row r has a variable's number that is new
-  abbrev pub New-at : ℕ → Type 0
-  New-at r = Some (New a b) (fields (row ws r))
-
-  faults-agree : (r : ℕ) → (row-fault-within ws a r ≡ row-fault-within ws b r) ⊎ ((row-fault-within ws a r ≡ 3) × New-at r)
+  faults-agree : (r : ℕ) → (row-fault-within a ws r ≡ row-fault-within b ws r) ⊎ ((row-fault-within a ws r ≡ 3) × New-at a b ws r)
   unfolding row-fault-within
   faults-agree r = go (same-sort (sort-of (row ws r)) Unknown) _ _ _ _ (fields-agree (fields (row ws r)))
     where
-      go : (unknown p q unused : Bool) (x : ℕ) → (p ≡ q) ⊎ ((p ≡ false) × New-at r)
+      go : (unknown p q unused : Bool) (x : ℕ) → (p ≡ q) ⊎ ((p ≡ false) × New-at a b ws r)
           → (cond unknown 2 (cond (not (p && unused)) 3 x) ≡ cond unknown 2 (cond (not (q && unused)) 3 x))
-          ⊎ ((cond unknown 2 (cond (not (p && unused)) 3 x) ≡ 3) × New-at r)
+          ⊎ ((cond unknown 2 (cond (not (p && unused)) 3 x) ≡ 3) × New-at a b ws r)
       go true p q unused x h = inl refl
       go false p q unused x (inl e) = inl (ap (λ t. cond (not (t && unused)) 3 x) e)
       go false p q unused x (inr h) = inr (rw (h .0), h .1)
 
-  -- the second verdict is the first, or the first was 3 at a row below n with a new number
-  abbrev Stays : ℕ → Verdict → Verdict → Type 0
-  Stays n v w = (v ≡ w) ⊎ ((r : ℕ) × (r < n) × (v ≡ refused 3 r) × New-at r)
-
-  lowest-stays : (f g : ℕ → ℕ) → ((k : ℕ) → (f k ≡ g k) ⊎ ((f k ≡ 3) × New-at k)) → (n r : ℕ)
-      → Stays (r + n) (lowest f n r) (lowest g n r)
+  lowest-stays : (f g : ℕ → ℕ) → ((k : ℕ) → (f k ≡ g k) ⊎ ((f k ≡ 3) × New-at a b ws k)) → (n r : ℕ)
+      → Stays a b ws (r + n) (lowest f n r) (lowest g n r)
   unfolding lowest
   lowest-stays f g h zero r = inl refl
   lowest-stays f g h (suc n) r = go (h r) (ℕ-discrete (f r) 0) (lowest-stays f g h n (suc r))
     where
-      further : {v w : Verdict} → Stays (suc r + n) v w → Stays (r + suc n) v w
+      further : {v w : Verdict} → Stays a b ws (suc r + n) v w → Stays a b ws (r + suc n) v w
       further (inl e) = inl e
       further (inr k) = inr (k .0, omega (linear, k .1), k .2, k .3)
 
-      go : (f r ≡ g r) ⊎ ((f r ≡ 3) × New-at r) → Dec (f r ≡ 0) → Stays (suc r + n) (lowest f n (suc r)) (lowest g n (suc r))
-          → Stays (r + suc n) (lowest f (suc n) r) (lowest g (suc n) r)
+      go : (f r ≡ g r) ⊎ ((f r ≡ 3) × New-at a b ws r) → Dec (f r ≡ 0) → Stays a b ws (suc r + n) (lowest f n (suc r)) (lowest g n (suc r))
+          → Stays a b ws (r + suc n) (lowest f (suc n) r) (lowest g (suc n) r)
       go (inl e) (yes z) above = rw (passed f n r z, passed g n r (sym e ∙ z)) (further above)
       go (inl e) (no d) above = inl (stopped f n r d ∙ ap (λ x. refused x r) e ∙ sym (stopped g n r (λ z. d (e ∙ z))))
       go (inr k) z above = inr (r, omega linear, stopped f n r (λ y. omega (linear, k .0)) ∙ ap (λ x. refused x r) (k .0), k .1)
 
-  then-stays : (l v w rest : Verdict) {n : ℕ} → Stays n v w → Stays n (l and-then (v and-then rest)) (l and-then (w and-then rest))
+  then-stays : (l v w rest : Verdict) {n : ℕ} → Stays a b ws n v w → Stays a b ws n (l and-then (v and-then rest)) (l and-then (w and-then rest))
   then-stays accepted v w rest (inl e) = inl (ap (λ x. x and-then rest) e)
   then-stays accepted v w rest (inr h) = inr (h .0, h .1, rw (h .2), h .3)
   then-stays (refused k r) v w rest h = inl refl
 
-  pub verdict-stays : Stays (rows ws) (verdict-within ws a) (verdict-within ws b)
+  pub verdict-stays : Stays a b ws (rows ws) (verdict-within a ws) (verdict-within b ws)
   unfolding verdict-within row-test-within
   verdict-stays =
-      let rows-stay = lowest-stays (row-fault-within ws a) (row-fault-within ws b) faults-agree (rows ws) 0 in
+      let rows-stay = lowest-stays (row-fault-within a ws) (row-fault-within b ws) faults-agree (rows ws) 0 in
       then-stays (length-test ws) _ _ _ (rw zero-add at rows-stay)
 
   -- ---- the outcome
 
   module _ (list scratch : ℕ) where
     pub outcome-stays : (outcome-within a ws list scratch ≡ outcome-within b ws list scratch)
-        ⊎ ((r : ℕ) × (r < rows ws) × (outcome-within a ws list scratch ≡ refuse 3 r list scratch) × New-at r)
+        ⊎ ((r : ℕ) × (r < rows ws) × (outcome-within a ws list scratch ≡ refuse 3 r list scratch) × New-at a b ws r)
     unfolding outcome-within
     outcome-stays = ⊎-elim (λ e. inl (ap answered e)) (λ h. inr (h .0, h .1, ap answered (h .2), h .3)) verdict-stays
       where
@@ -130,7 +132,7 @@ module _ (a b : ℕ) (rises : a ≤ b) (ws : List ℤ) where
         answered (refused n r) = refuse n r list scratch
         answered accepted = outcome-for (tree ws) list scratch
 
-    pub without-new : ((r : ℕ) → r < rows ws → ¬ New-at r) → outcome-within a ws list scratch ≡ outcome-within b ws list scratch
+    pub without-new : ((r : ℕ) → r < rows ws → ¬ New-at a b ws r) → outcome-within a ws list scratch ≡ outcome-within b ws list scratch
     without-new none = ⊎-elim (λ e. e) (λ h. absurd (none (h .0) (h .1) (h .3))) outcome-stays
 
     pub not-refused-3 : outcome-within a ws list scratch .answer .number ≢ 3
@@ -144,13 +146,17 @@ module _ (a b : ℕ) (rises : a ≤ b) (ws : List ℤ) where
 abbrev pub variables-before : ℕ
 variables-before = 256
 
-module _ (table : List ℤ) (list scratch : ℕ) where
-  abbrev before : Outcome
-  before = outcome-within variables-before table list scratch
+module _ (table : List ℤ) where
+  -- the table has no variable's number from 256 to 1,023
+  abbrev pub Without-new : Type 0
+  Without-new = (r : ℕ) → r < rows table → ¬ New-at variables-before variables table r
 
-  pub stored-table : ((r : ℕ) → r < rows table → ¬ Some (New variables-before variables) (fields (row table r)))
-      → before ≡ outcome table list scratch
-  stored-table = without-new variables-before variables (omega linear) table list scratch
+  pub stored-verdict : Without-new → verdict-within variables-before table ≡ verdict table
+  stored-verdict free = ⊎-elim (λ e. e) (λ h. absurd (free (h .0) (h .1) (h .3))) (verdict-stays variables-before variables (omega linear) table)
 
-  pub answered-table : before .answer .number ≢ 3 → before ≡ outcome table list scratch
-  answered-table = not-refused-3 variables-before variables (omega linear) table list scratch
+  pub stored-table : Without-new → (list scratch : ℕ) → outcome-within variables-before table list scratch ≡ outcome table list scratch
+  stored-table free list scratch = without-new variables-before variables (omega linear) table list scratch free
+
+  pub answered-table : (list scratch : ℕ) → outcome-within variables-before table list scratch .answer .number ≢ 3
+      → outcome-within variables-before table list scratch ≡ outcome table list scratch
+  answered-table = not-refused-3 variables-before variables (omega linear) table

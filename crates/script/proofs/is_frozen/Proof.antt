@@ -4,7 +4,7 @@ use Rattle.script.proofs.is_frozen.Statement.{statement}
 use Rattle.script.proofs.is_frozen.Tie as tie
 
 returns : tie.Need-returns
-returns c = rw (le-leb 128 _ (c .if1 .taken))
+returns c = rw (le-leb 128 _ (c .before .if1 .taken))
 
 returns-2 : tie.Need-returns-2
 returns-2 c = rw (lt-leb 128 _ (c .if1 .left))
