@@ -24,7 +24,7 @@ impl Names {
         };
         let no_variable = || {
             format!(
-                "`{}` is no variable: v0 to v{}, with no zero in front",
+                "`{}` is no variable: v0 to v{}",
                 variable.escape_debug(),
                 VARIABLES - 1
             )
@@ -61,10 +61,10 @@ impl Names {
     }
 }
 
-/// The number of `v0` to `v1023`, in the one form that formulas have it in.
+/// The number of `v0` to `v1023`.
 fn variable_number(text: &str) -> Option<usize> {
     let number = text.strip_prefix('v')?.parse().ok()?;
-    (number < VARIABLES && text == format!("v{number}")).then_some(number)
+    (number < VARIABLES).then_some(number)
 }
 
 /// Names have no digits, so none of them looks like a number, a variable or a mark.
@@ -108,6 +108,15 @@ mod tests {
     }
 
     #[test]
+    fn zeros_or_a_plus_in_front_name_the_same_variable() {
+        for same in ["v7", "v007", "v+7", "v+07", "v00000000000000000000007"] {
+            let mut names = names(&[&format!("{same} is x")]);
+            assert_eq!(names.put_into("v7 < v70"), "x < v70", "{same}");
+            assert!(names.add("v7 is y").is_err(), "{same}");
+        }
+    }
+
+    #[test]
     fn lines_that_name_nothing_are_told() {
         let form = "a line that names a variable is like `v0 is x`";
         for line in ["v0", "v0 is", "v0 = x", "v0 is two words", "v 0 is x"] {
@@ -123,15 +132,14 @@ mod tests {
             "v1024",
             "v65536",
             "v99999999999999999999",
-            "v01",
-            "v00",
-            "v+1",
+            "v01024",
             "v-1",
+            "v++1",
             "v1x",
             "v1.0",
             "variable",
         ] {
-            let told = format!("`{wrong}` is no variable: v0 to v1023, with no zero in front");
+            let told = format!("`{wrong}` is no variable: v0 to v1023");
             let line = format!("{wrong} is x");
             assert_eq!(Names::default().add(&line), Err(told));
         }

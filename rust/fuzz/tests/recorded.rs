@@ -14,11 +14,13 @@
 //! splits a group so that the rest of it stays, and says so.
 //!
 //! P2 made the variable numbers 256 to 1,023 ordinary, and may have changed the
-//! answers only of inputs that hold one of them. It split every group: inputs
-//! are drawn until so many that hold none are there as the group wants, and
-//! the digest of these was recorded with the library from before P2. The others
-//! that were drawn have a digest of their own, and so have 5,000 inputs
-//! beside the 210,000 that hold such numbers in plenty.
+//! answers only of inputs that hold one of them. It changed some in groups 3 and
+//! 9, and these are split: inputs are drawn until so many that hold none are there
+//! as the group wants, and the others have a digest of their own. That one was
+//! recorded with P2, and so was the digest of group 11: 5,000 inputs beside the
+//! 210,000 that hold such numbers in plenty. Every other constant is of the
+//! library from before P2, also that of group 5, where some inputs hold such
+//! numbers and are refused as they were.
 
 mod frozen;
 
@@ -26,7 +28,7 @@ use std::collections::BTreeMap;
 
 use frozen::limits::script_at_a_limit;
 use frozen::lists::{few_words, list, tear};
-use frozen::numbers::{put_at_edges, renumbered_script};
+use frozen::numbers::{list_has_new_number, put_at_edges, renumbered_script, table_has_new_number};
 use frozen::tables::{altered_script, faulty_script, random_rows, script, Script};
 use frozen::Chance;
 use fuzz::tell;
@@ -40,13 +42,10 @@ struct Digest {
     numbers: BTreeMap<usize, u64>,
 }
 
-/// The digest of no inputs.
-const NO_INPUTS: u64 = 0xCBF2_9CE4_8422_2325;
-
 impl Digest {
     fn new() -> Digest {
         Digest {
-            hash: NO_INPUTS,
+            hash: 0xCBF2_9CE4_8422_2325,
             inputs: 0,
             numbers: BTreeMap::new(),
         }
@@ -84,32 +83,16 @@ impl Digest {
     }
 }
 
-/// The digests of a group: of the inputs that hold none of the variable numbers
-/// that P2 made ordinary, and of the others.
+/// The digests of a split group: of the inputs that hold none of the variable
+/// numbers that P2 made ordinary, and of the others.
 struct Digests {
     from_before_p2: Digest,
     since_p2: Digest,
 }
 
 impl Digests {
-    /// The digest that a table belongs to.
-    fn of_table(&mut self, words: &[i32]) -> &mut Digest {
-        let (rows, _) = words.as_chunks();
-        let holds_one = |row: &[i32; 4]| matches!(row, [2 | 33, 256..=1_023, ..]);
-        self.of_input(rows.iter().any(holds_one))
-    }
-
-    /// The digest that a list belongs to. Torn words do not say which of them
-    /// are kinds, so that every word 2 is taken for the kind of a variable: some
-    /// lists are parted with the others though they hold none, and no list stays
-    /// that holds one.
-    fn of_list(&mut self, words: &[i32]) -> &mut Digest {
-        let holds_one = |pair: &[i32]| matches!(pair, [2, 256..=1_023]);
-        self.of_input(words.windows(2).any(holds_one))
-    }
-
-    fn of_input(&mut self, holds_new_numbers: bool) -> &mut Digest {
-        let digest = if holds_new_numbers {
+    fn of_input(&mut self, has_new_number: bool) -> &mut Digest {
+        let digest = if has_new_number {
             &mut self.since_p2
         } else {
             &mut self.from_before_p2
@@ -119,10 +102,20 @@ impl Digests {
     }
 }
 
+/// Runs the inputs of a group and compares the digest with the one recorded.
+fn compare(group: u64, inputs: u64, recorded: u64, run: fn(&mut Chance, &mut Digest)) {
+    let mut digest = Digest::new();
+    for input in 0..inputs {
+        run(&mut Chance::of_input(group, input), &mut digest);
+        digest.inputs += 1;
+    }
+    expect(&format!("group {group}"), recorded, digest);
+}
+
 /// Runs inputs of a group until so many hold none of the numbers that P2 made
 /// ordinary, and compares the two digests with those recorded: with the library
 /// from before P2, and since.
-fn compare(group: u64, inputs: u64, recorded: [u64; 2], run: fn(&mut Chance, &mut Digests)) {
+fn compare_split(group: u64, inputs: u64, recorded: [u64; 2], run: fn(&mut Chance, &mut Digests)) {
     let mut digests = Digests {
         from_before_p2: Digest::new(),
         since_p2: Digest::new(),
@@ -300,64 +293,56 @@ fn digest_text(words: &[i32], chance: &mut Chance, digest: &mut Digest) {
 
 #[test]
 fn tables_accepted() {
-    const RECORDED: [u64; 2] = [0x124F_E570_025F_2DF1, NO_INPUTS];
-    compare(1, 50_000, RECORDED, |chance, digests| {
-        let script = script(chance);
-        digest_at_the_need(&script, digests.of_table(&script.words));
+    compare(1, 50_000, 0x124F_E570_025F_2DF1, |chance, digest| {
+        digest_at_the_need(&script(chance), digest);
     });
 }
 
 #[test]
 fn tables_with_rooms_around_the_need() {
-    const RECORDED: [u64; 2] = [0x4C99_CDAB_660F_850B, NO_INPUTS];
-    compare(2, 30_000, RECORDED, |chance, digests| {
+    compare(2, 30_000, 0x4C99_CDAB_660F_850B, |chance, digest| {
         let script = script(chance);
-        digest_around_the_need(&script, chance, digests.of_table(&script.words));
+        digest_around_the_need(&script, chance, digest);
     });
 }
 
 #[test]
 fn tables_altered() {
     const RECORDED: [u64; 2] = [0xF5D9_0313_BFD6_D064, 0xFC51_7DA0_B842_25EC];
-    compare(3, 50_000, RECORDED, |chance, digests| {
+    compare_split(3, 50_000, RECORDED, |chance, digests| {
         let script = altered_script(chance);
-        digest_at_the_need(&script, digests.of_table(&script.words));
+        let digest = digests.of_input(table_has_new_number(&script.words));
+        digest_at_the_need(&script, digest);
     });
 }
 
 #[test]
 fn tables_with_names_or_nesting_out_of_place() {
-    const RECORDED: [u64; 2] = [0xCAB0_F20F_45DE_48A9, NO_INPUTS];
-    compare(4, 20_000, RECORDED, |chance, digests| {
+    compare(4, 20_000, 0xCAB0_F20F_45DE_48A9, |chance, digest| {
         let script = faulty_script(chance);
-        digest_around_the_need(&script, chance, digests.of_table(&script.words));
+        digest_around_the_need(&script, chance, digest);
     });
 }
 
 #[test]
 fn tables_of_random_rows() {
-    const RECORDED: [u64; 2] = [0xDB19_1B0F_5BA3_EB63, 0x2117_DFF6_0D53_0D55];
-    compare(5, 20_000, RECORDED, |chance, digests| {
-        let words = random_rows(chance);
-        digest_table(&words, 40, 100, digests.of_table(&words));
+    compare(5, 20_000, 0xF447_B34F_3C4E_6348, |chance, digest| {
+        digest_table(&random_rows(chance), 40, 100, digest);
     });
 }
 
 #[test]
 fn tables_at_limits() {
-    const RECORDED: [u64; 2] = [0x32DB_0B42_6C90_41C0, NO_INPUTS];
-    compare(6, 1_000, RECORDED, |chance, digests| {
+    compare(6, 1_000, 0x32DB_0B42_6C90_41C0, |chance, digest| {
         let script = script_at_a_limit(chance);
-        digest_around_the_need(&script, chance, digests.of_table(&script.words));
+        digest_around_the_need(&script, chance, digest);
     });
 }
 
 #[test]
 fn lists_of_the_generator() {
-    const RECORDED: [u64; 2] = [0x83B1_8392_8125_007E, NO_INPUTS];
-    compare(7, 9_000, RECORDED, |chance, digests| {
+    compare(7, 9_000, 0x83B1_8392_8125_007E, |chance, digest| {
         let script = script(chance);
-        let digest = digests.of_table(&script.words);
         if let Ok(plan) = leqwarti::plan(&script.words) {
             digest_list(plan.words(), chance, digest);
         }
@@ -366,17 +351,16 @@ fn lists_of_the_generator() {
 
 #[test]
 fn lists_made_up() {
-    const RECORDED: [u64; 2] = [0x6448_93D4_70F5_9375, 0x10EA_3B94_782B_AE55];
-    compare(8, 10_000, RECORDED, |chance, digests| {
+    compare(8, 10_000, 0x8E69_B353_6BF2_564B, |chance, digest| {
         let words = list(chance);
-        digest_list(&words, chance, digests.of_list(&words));
+        digest_list(&words, chance, digest);
     });
 }
 
 #[test]
 fn lists_torn() {
-    const RECORDED: [u64; 2] = [0xE10A_8C80_9764_43C6, 0x7932_EFF6_C853_6778];
-    compare(9, 10_000, RECORDED, |chance, digests| {
+    const RECORDED: [u64; 2] = [0x3607_6BC7_344F_9735, 0xCF06_00FB_E110_A018];
+    compare_split(9, 10_000, RECORDED, |chance, digests| {
         let mut words = match chance.below(4) {
             0 => few_words(chance),
             _ => list(chance),
@@ -384,19 +368,19 @@ fn lists_torn() {
         for _ in 0..1 + chance.below(2) {
             tear(&mut words, chance);
         }
-        digest_list(&words, chance, digests.of_list(&words));
+        let digest = digests.of_input(list_has_new_number(&words));
+        digest_list(&words, chance, digest);
     });
 }
 
 #[test]
 fn texts_for_solvers() {
-    const RECORDED: [u64; 2] = [0x52E5_6E1C_A12D_6886, 0xDCF5_D9AE_A27D_FC6A];
-    compare(10, 10_000, RECORDED, |chance, digests| {
+    compare(10, 10_000, 0xA3B6_A87F_CF78_1FCB, |chance, digest| {
         let mut words = list(chance);
         if chance.once_in(8) {
             tear(&mut words, chance);
         }
-        digest_text(&words, chance, digests.of_list(&words));
+        digest_text(&words, chance, digest);
     });
 }
 
@@ -404,24 +388,46 @@ fn texts_for_solvers() {
 /// one in four has numbers at the edges of the ranges too.
 #[test]
 fn numbers_that_p2_made_ordinary() {
-    const RECORDED: u64 = 0x3867_D288_33CA_E5E2;
-    let mut digest = Digest::new();
-    for input in 0..5_000 {
-        let chance = &mut Chance::of_input(11, input);
+    compare(11, 5_000, 0x3867_D288_33CA_E5E2, |chance, digest| {
         let mut script = renumbered_script(chance);
         if chance.once_in(4) {
             put_at_edges(&mut script.words, 4, &[2, 33], chance);
         }
-        digest_at_the_need(&script, &mut digest);
+        digest_at_the_need(&script, digest);
         if let Ok(plan) = leqwarti::plan(&script.words) {
             let mut words = plan.words().to_vec();
             if chance.once_in(4) {
                 put_at_edges(&mut words, 1, &[2], chance);
             }
-            digest_list(&words, chance, &mut digest);
-            digest_text(&words, chance, &mut digest);
+            digest_list(&words, chance, digest);
+            digest_text(&words, chance, digest);
         }
-        digest.inputs += 1;
+    });
+}
+
+#[test]
+fn a_number_is_new_in_a_whole_formula_with_its_trailer() {
+    for words in [
+        &[20, 2, 256, 1, 0, 4, 0, 5, 1][..],
+        &[22, 18, 8, 2, 1_023, 10, 17, 9, 0, 2, 0, 1, 2_047, 11],
+        &[20, 2, 300, 1, 0, 4, 0, 5, 16, 4, 0, 9],
+    ] {
+        assert!(list_has_new_number(words), "{words:?}");
     }
-    expect("group 11", RECORDED, digest);
+    for words in [
+        &[][..],
+        &[2, 300, 0],
+        &[16, 2, 300, 1, 1],
+        &[20, 1, 2, 9, 300, 4, 0, 5, 1],
+        &[20, 2, 255, 1, 300, 4, 0, 5, 1],
+        &[20, 2, 300, 2, 1_024, 4, 0, 5, 1],
+        &[20, 2, 300, 9, 2_048, 4, 0, 5, 1],
+        &[20, 2, 300, 1, 0, 5, 0, 5, 1],
+        &[20, 2, 300, 1, 0, 4, 2_048, 5, 1],
+        &[20, 2, 300, 1, 0, 4, 0, 4, 1],
+        &[20, 2, 300, 1, 0, 4, 0, 6, 1],
+        &[20, 2, 300, 16, 4, 0, 4, 1],
+    ] {
+        assert!(!list_has_new_number(words), "{words:?}");
+    }
 }

@@ -2,6 +2,7 @@
 //! every digest, so new inputs go to a group of their own. Nothing here is used
 //! by another test, and nothing is taken from one.
 
+pub mod formulas;
 pub mod limits;
 pub mod lists;
 pub mod numbers;

@@ -1,7 +1,26 @@
 //! Variable numbers from 256 to 1,023, and those at the edges of the ranges.
 
+use super::formulas::variables_of_last_line;
 use super::tables::{script, Script};
 use super::Chance;
+
+/// Whether a row of the table has a number from 256 to 1,023 for a variable.
+pub fn table_has_new_number(words: &[i32]) -> bool {
+    let (rows, _) = words.as_chunks();
+    let has_one = |row: &[i32; 4]| matches!(row, [2 | 33, 256..=1_023, ..]);
+    rows.iter().any(has_one)
+}
+
+/// Whether a line has a number from 256 to 1,023 for a variable. Every place
+/// where a line may end counts, since a reader may stand there.
+pub fn list_has_new_number(words: &[i32]) -> bool {
+    let is_new = |number| matches!(number, 256..=1_023);
+    let variables_before = |place| variables_of_last_line(&words[..place]);
+    (0..=words.len())
+        .filter_map(variables_before)
+        .flatten()
+        .any(is_new)
+}
 
 /// A script whose ordinary variables have numbers from 256 to 1,023, or those of
 /// them that had an odd number.
