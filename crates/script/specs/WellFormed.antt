@@ -13,6 +13,7 @@ use Rattle.script.specs.Conditions.{Condition}
 use Rattle.script.specs.Words.{list-words}
 use Rattle.script.specs.Listing.{row-limit}
 
+-- where the variables are those below a limit
 module _ (limit : ℕ) where
   abbrev mutual
     pub In-range-within : Expr → Type 0
@@ -29,10 +30,6 @@ module _ (limit : ℕ) where
     In-rangeᶠ-within (not f) = In-rangeᶠ-within f
     In-rangeᶠ-within (join c f g) = In-rangeᶠ-within f × In-rangeᶠ-within g
 
-  abbrev pub All-in-range-within : List Condition → Type 0
-  All-in-range-within [] = Unit {0}
-  All-in-range-within (c ∷ cs) = (c .row < row-limit) × In-rangeᶠ-within (c .claim) × All-in-range-within cs
-
 abbrev pub In-range : Expr → Type 0
 In-range = In-range-within variables
 
@@ -40,7 +37,8 @@ abbrev pub In-rangeᶠ : Formula → Type 0
 In-rangeᶠ = In-rangeᶠ-within variables
 
 abbrev pub All-in-range : List Condition → Type 0
-All-in-range = All-in-range-within variables
+All-in-range [] = Unit {0}
+All-in-range (c ∷ cs) = (c .row < row-limit) × In-rangeᶠ (c .claim) × All-in-range cs
 
 -- ws is the list of the conditions cs
 pub record Well-formed (ws : List ℤ) (cs : List Condition) : Type 0 where
