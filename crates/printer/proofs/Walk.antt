@@ -3,7 +3,7 @@
 -- trailer, and past that the conditions but the first are left (`turn`). Assumes nothing.
 use Prim.Native.Nat.{ℕ, _+_, _*_, _-_, _≤_, _<_}
 use mathlib.Core.Path.{_≡_, refl, sym, ap, _∙_}
-use mathlib.Core.Option.{Option, some}
+use mathlib.Core.Option.{some}
 use mathlib.Core.List.{List, [], _∷_, _++_, append-assoc}
 use native.Mathlib.Nat.{add-zero}
 use native.Mathlib.Omega.{arith as linear}
@@ -16,7 +16,6 @@ use Rattle.script.specs.Words.{formula-words, rule-number, trailer, line-words,
 use Rattle.script.specs.WellFormed.{All-in-range, In-rangeᶠ}
 use Rattle.script.specs.Syntax.{Formula}
 use Rattle.theorems.specs.Writing.{Wrote, Left, wrote-nothing, then}
-use Rattle.theorems.specs.Options.{none-is-not, some-inj}
 use Rattle.theorems.specs.Reading.{formula-back}
 use Rattle.list_reader.specs.Ends.{rest-of, after-formula, Formula-ends, left-after, ends-past}
 use Rattle.printer.specs.Text.{line, name-of, lines, conditions-in, Listed}

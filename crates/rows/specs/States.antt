@@ -3,7 +3,7 @@
 use Prim.Native.Nat.{ℕ, suc, _+_, _*_, _≤_, _<_}
 use mathlib.Core.Path.{_≡_, refl, sym, ap, _∙_}
 use mathlib.Core.Logic.{_≢_}
-use mathlib.Core.Bool.{Bool, true, false, cond, not, _&&_, _||_}
+use mathlib.Core.Bool.{Bool, true, false, cond, _&&_, _||_}
 use mathlib.Core.List.{List, [], _∷_}
 use native.Mathlib.Omega.{arith as linear}
 use native.Mathlib.Decide.{ℕ-discrete}
@@ -18,7 +18,7 @@ use Rattle.script.specs.Laws.{row-is}
 use Rattle.script.specs.Rows.{field-number, fields, row-of, sort-of, rows, row, word}
 use Rattle.script.specs.Refusals.{linked, member, row-fault, row-fault-within, same-sort}
 use Rattle.theorems.specs.Accepted.{both}
-use Rattle.rows.specs.Patterns.{Asked, cell, cells, adds, below, blank, by-kind, capital, letter, limited, linking, none-zero, of-cells, of-row, pattern, patterns, proper, same-letter, sort-for, unlisted}
+use Rattle.rows.specs.Patterns.{Asked, cell, cells, adds, blank, by-kind, capital, letter, limited, linking, none-zero, of-cells, of-row, pattern, patterns, proper, same-letter, sort-for, unlisted}
 use Rattle.rows.specs.Faults.{after, afters-are, fault, faults, faults-are, first, first-none}
 
 -- ---- the size of a table

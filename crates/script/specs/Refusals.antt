@@ -18,7 +18,6 @@ use Rattle.script.specs.declared.Sort.{Sort}
 use Rattle.script.specs.declared.Sort.the-variants.{Expression, Formula, Statement, Note, Script, Unknown}
 use Rattle.script.specs.Rows.{Field, value, variable, target, loop, link, fields, sort-of, Part, parts, variables, rows, word, row}
 use Rattle.script.specs.Trees.{tree, nesting}
-use Rattle.script.specs.Syntax.{Tree}
 
 pub data Verdict : Type 0 where
   accepted : Verdict

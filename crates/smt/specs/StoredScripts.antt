@@ -10,7 +10,6 @@ use mathlib.Core.Option.{Option, none, some}
 use mathlib.Core.Bool.{Bool, true, false, cond}
 use mathlib.Core.List.{List, [], _∷_, _++_, map, append-nil}
 use lib.IntN.{ℤ, pos, negsuc}
-use lib.ListN.{getElem?}
 use Rattle.text.specs.Ascii.{bytes}
 use Rattle.script.specs.Rows.{variables}
 use Rattle.script.specs.Syntax.{Formula}

@@ -1,25 +1,23 @@
 -- What every later layer may use of an accepted table: each link is lower and of its sort, each row but the last is linked
 -- once, the last is a script, numbers are in range, names stand where they may, and the nesting is at most 8.
 -- `passed` takes the verdict apart, test by test. Assumes nothing.
-use Prim.Native.Nat.{ℕ, zero, suc, _+_, _*_, _/_, _%_, _-_, _≤_, _<_}
+use Prim.Native.Nat.{ℕ, suc, _*_, _/_, _%_, _-_, _≤_, _<_}
 use mathlib.Core.Path.{_≡_, refl}
 use mathlib.Core.Logic.{_≢_}
 use mathlib.Core.Bool.{Bool, true, false, cond, not, _&&_, _||_}
-use mathlib.Core.List.{List, [], _∷_}
+use mathlib.Core.List.{List}
 use native.Mathlib.Omega.{arith as linear}
 use borrow.Author.Tests.{eqb-true, eqb-false, ltb-false, leb-true, not-false}
 use lib.Dec.{T, eqb, ltb, leb}
 use lib.IntN.{ℤ}
 use lib.ListN.{length}
-use Rattle.script.specs.declared.RowNumber.{RowNumber}
-use Rattle.script.specs.declared.Row.{Row}
 use Rattle.script.specs.declared.Row.the-variants as Row
 use Rattle.script.specs.declared.Sort.the-variants.{Script, Unknown}
 use Rattle.script.specs.Rows.{row, rows, fields, parts, sort-of}
 use Rattle.script.specs.Trees.{tree, nesting}
 pub use Rattle.theorems.specs.Truths.{both}
 use Rattle.theorems.specs.Lowest.{lowest-accepts}
-use Rattle.script.specs.Refusals.{Verdict, accepted, refused, _and-then_, lowest, member, bad-length, same-sort, in-range, unused-zero, all-below, well-sorted, all-new, linked, row-fault, row-fault-within, unlinked-fault, assigns-frozen, target-fault, misreads, reading-fault, length-test, row-test, row-test-within, script-test, unlinked-test, target-test, reading-test, nesting-test, verdict, verdict-within}
+use Rattle.script.specs.Refusals.{Verdict, accepted, refused, _and-then_, member, bad-length, same-sort, in-range, unused-zero, all-below, well-sorted, all-new, linked, row-fault, row-fault-within, unlinked-fault, assigns-frozen, target-fault, misreads, reading-fault, length-test, row-test, row-test-within, script-test, unlinked-test, target-test, reading-test, nesting-test, verdict, verdict-within}
 
 pub record Accepted (t : List ℤ) : Type 0 where
   pub filled : 0 < rows t

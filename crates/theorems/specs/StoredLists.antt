@@ -4,9 +4,9 @@
 -- reader that walks back, at any place (`same-step`).
 -- Argument: a formula that is read is the words of itself, in range (`Spelling`), and what is in range of both limits both read.
 -- Assumes nothing.
-use Prim.Native.Nat.{ℕ, zero, suc, _-_, _≤_, _<_}
+use Prim.Native.Nat.{ℕ, zero, suc, _-_, _≤_}
 use native.Mathlib.Omega.{arith as linear}
-use mathlib.Core.Path.{_≡_, refl, sym, ap, _∙_, subst}
+use mathlib.Core.Path.{_≡_, refl, sym, ap, subst}
 use mathlib.Core.Option.{Option, none, some}
 use mathlib.Core.List.{List, [], _∷_, _++_}
 use mathlib.Core.Bool.{_&&_}
@@ -18,7 +18,7 @@ use Rattle.script.specs.declared.Line.{Line}
 use Rattle.script.specs.Rows.{field-number, variables}
 use Rattle.script.specs.Syntax.{Expr, const, var, mark, arith, neg, choose, Formula, truth, cmp, not, join}
 use Rattle.script.specs.WellFormed.{In-range-within, In-rangeᶠ-within}
-use Rattle.script.specs.Listing.{_>>=_, row-limit, natural, below, rule-of, Found, no-line, line, line-of, malformed-place, spelled-within, found-within, line-before-within, lines-before-within, lines-within, lines, line-at-within, part-at-within, condition-count-within, first-place-within, step-back-within, next-place-within}
+use Rattle.script.specs.Listing.{row-limit, natural, below, rule-of, Found, no-line, line, line-of, malformed-place, spelled-within, found-within, line-before-within, lines-before-within, lines-within, lines, line-at-within, part-at-within, condition-count-within, first-place-within, step-back-within, next-place-within}
 use Rattle.theorems.specs.Options.{none-is-not, some-inj, went-on, goes-on, held}
 use Rattle.theorems.specs.Spelling.{spelled-words, spelled-only}
 use Rattle.theorems.specs.StoredTables.{variables-before}

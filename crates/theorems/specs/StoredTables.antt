@@ -15,13 +15,11 @@ use mathlib.Core.List.{List, [], _∷_}
 use mathlib.Core.Bool.{Bool, true, false, cond, not, _&&_}
 use lib.IntN.{ℤ}
 use lib.Dec.{ltb}
-use lib.ListN.{length}
 use borrow.Author.Tests.{lt-ltb, le-ltb}
-use Rattle.script.specs.declared.Answer.{Answer}
 use Rattle.script.specs.declared.Sort.the-variants.{Unknown}
-use Rattle.script.specs.Rows.{Field, value, variable, target, loop, link, fields, sort-of, parts, rows, row, variables}
+use Rattle.script.specs.Rows.{Field, value, variable, target, loop, link, fields, sort-of, rows, row, variables}
 use Rattle.script.specs.Trees.{tree}
-use Rattle.script.specs.Refusals.{Verdict, accepted, refused, _and-then_, lowest, same-sort, in-range-within, unused-zero, all-below, well-sorted, all-new, linked, row-fault-within, length-test, row-test-within, script-test, unlinked-test, target-test, reading-test, nesting-test, verdict-within, verdict}
+use Rattle.script.specs.Refusals.{Verdict, accepted, refused, _and-then_, lowest, same-sort, in-range-within, row-fault-within, length-test, row-test-within, verdict-within, verdict}
 use Rattle.script.specs.Generated.{Outcome, refuse, outcome-for, outcome-within, outcome}
 use Rattle.theorems.specs.Faults.{Some}
 use Rattle.theorems.specs.Lowest.{passed, stopped}

@@ -1,6 +1,6 @@
 -- `smt_writer::names::note_names` meets its contract: of the names in the formula, those from the place i on are left to be
 -- noted. Assumes nothing.
-use Prim.Native.Nat.{ℕ, _+_, _-_, _<_}
+use Prim.Native.Nat.{_+_, _-_, _<_}
 use mathlib.Core.Path.{_≡_, refl, ap, _∙_}
 use native.Mathlib.Omega.{arith}
 use borrow.Author.Needs.{needs}
