@@ -81,7 +81,7 @@ loop-again-2 c =
     let noted = c .before .before in
     let arm = noted .before .before .before .before in
     let inv = Words (arm .before) .loop .inv in (
-      ap length (noted .note .ensures .0) ∙ (length-set (Words (arm .before) .loop .flags) (noted .before .field-number2 .result) 1 ∙ inv .0),
+      ap length (noted .note .ensures .0) ∙ (length-set (Words (arm .before) .loop .flags) _ 1 ∙ inv .0),
       λ f s.
           let g = inv .1 f s in
           let v = variable-here g (inside (arm .before)) (read (arm .before)) (arm .match .keys2) in
@@ -116,7 +116,7 @@ loop-again-3 c =
     let noted = c .before .before in
     let arm = noted .before .before .before .before in
     let inv = Words (arm .before) .loop .inv in (
-      ap length (noted .note2 .ensures .0) ∙ (length-set (Words (arm .before) .loop .flags) (variables + noted .before .field-number3 .result) 1 ∙ inv .0),
+      ap length (noted .note2 .ensures .0) ∙ (length-set (Words (arm .before) .loop .flags) _ 1 ∙ inv .0),
       λ f s.
           let g = inv .1 f s in
           let v = mark-here g (inside (arm .before)) (read (arm .before)) (arm .match .keys3) in
