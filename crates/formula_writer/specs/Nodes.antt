@@ -1,13 +1,13 @@
 -- What the writers of expressions and formulas ask, and what is known of a node from it. The measure of a node at row r under
 -- j assignments is `base j + (r + 1)`. Assumes nothing.
-use Prim.Native.Nat.{ℕ, _*_, _≤_, _<_}
-use mathlib.Core.Path.{_≡_}
+use Prim.Native.Nat.{ℕ, _+_, _*_, _≤_, _<_}
+use mathlib.Core.Path.{_≡_, _∙_}
 use mathlib.Core.Bool.{true}
 use mathlib.Core.List.{List}
 use native.Mathlib.Omega.{arith as linear}
 use lib.Dec.{T, ltb, ltb→lt}
-use lib.IntN.{ℤ}
-use lib.ListN.{length}
+use lib.IntN.{ℤ, pos}
+use lib.ListN.{length, getD}
 use Rattle.script.specs.declared.RowNumber.{RowNumber}
 use Rattle.script.specs.declared.VariableNumber.{VariableNumber}
 use Rattle.script.specs.declared.ExpressionRow.the-variants.{Variable, Mark}
@@ -16,14 +16,16 @@ use Rattle.script.specs.declared.Row.{Row}
 use Rattle.script.specs.declared.Row.the-variants as Row
 use Rattle.script.specs.declared.Sort.{Sort}
 use Rattle.script.specs.Words.{expr-words, formula-words}
-use Rattle.script.specs.Rows.{row, rows, parts, fields, sort-of, variables}
+use Rattle.script.specs.Rows.{field-number, row-no, var-no, word, row, rows, parts, fields, sort-of, variables}
+use Rattle.script.specs.Laws.{row-is}
 use Rattle.script.specs.Trees.{expr-node, formula-node, expr-at, formula-at}
 use Rattle.script.specs.Refusals.{same-sort, in-range}
 use Rattle.theorems.specs.Accepted.{Accepted, both}
+use Rattle.theorems.specs.Kinds.{assigned}
 use Rattle.theorems.specs.RowTrees.{expr-is, formula-is}
 use Rattle.theorems.specs.Writing.{Wrote}
 use Rattle.formula_writer.specs.Links.{Links, links-of}
-use Rattle.formula_writer.specs.Paths.{replaceᵉ, replaceᶠ, row-on, under, expr-under, formula-under}
+use Rattle.formula_writer.specs.Paths.{replaceᵉ, replaceᶠ, entry, row-on, under, expr-under, formula-under}
 
 -- ---- what the writers ask
 
@@ -33,9 +35,14 @@ pub record Assignment (t : List ℤ) (r : ℕ) : Type 0 where
   pub value : RowNumber
   pub is : row t r ≡ Row.Statement (Assign target value)
 
+-- the entry at place i of a path is that of an assignment
+pub record Passed (t path : List ℤ) (i : ℕ) : Type 0 where
+  pub assigns : Assignment t (row-on path i)
+  pub entered : getD path i (pos 0) ≡ entry t (row-on path i)
+
 pub record OnPath (t path : List ℤ) (j : ℕ) : Type 0 where
   pub bound : j ≤ length path
-  pub assigns : (i : ℕ) → i < j → Assignment t (row-on path i)
+  pub passed : (i : ℕ) → i < j → Passed t path i
 
 -- a node of sort s at row r
 pub record Ready (t path : List ℤ) (j r : ℕ) (s : Sort) : Type 0 where
@@ -49,6 +56,29 @@ base j = j * 4096
 
 ranged-as : (t : List ℤ) → Accepted t → (r : ℕ) {w : Row} → r < rows t → row t r ≡ w → T (in-range t (fields w))
 ranged-as t ok r h e = rw e at (ok .ranged r h)
+
+-- ---- an assignment
+
+module _ (t : List ℤ) (ok : Accepted t) {r : ℕ} (a : Assignment t r) where
+  -- its row, by its words
+  pub assignment-is : row t r ≡ Row.Statement (Assign (var-no (word t r 1)) (row-no (word t r 2)))
+  assignment-is =
+      let f = assigned (word t r 0) (word t r 1) (word t r 2) (word t r 3) (row-is t r ∙ a .is) in
+      a .is ∙ rw (f .0, f .1)
+
+  pub target-small : field-number (word t r 1) < variables
+  target-small =
+      ltb→lt (field-number (word t r 1)) variables (both (ltb (field-number (word t r 1)) variables) true (ranged-as t ok r (a .inside) assignment-is) .0)
+
+  -- so its entry fits a word
+  pub entry-fits : {v : ℕ} → v ≡ field-number (word t r 1) → 2048 * v + r < 2097152
+  entry-fits h =
+      let v = target-small in
+      let i = a .inside in
+      let s = ok .short in
+      omega linear
+
+-- ---- a node
 
 module _ {t path : List ℤ} {j r : ℕ} {s : Sort} (g : Ready t path j r s) where
   pub variable-small : {v : VariableNumber} → row t r ≡ Row.Expression (Variable v) → v .0 < variables

@@ -1,7 +1,7 @@
--- What a path of assignments makes of a formula. A path is a run of rows of assignments, the latest last. W of an
--- assignment replaces a variable, and replacing one after another is replacing all at once: `under` says by what, and
--- `assign-passed` that an assignment which is put on the path need not be carried out. Assumes nothing.
-use Prim.Native.Nat.{ℕ, zero, suc}
+-- What a path of assignments makes of a formula. A path is a run with an entry for each assignment that was passed, the
+-- latest last. W of an assignment replaces a variable, and replacing one after another is replacing all at once: `under` says
+-- by what, and `assign-passed` that an assignment which is put on the path need not be carried out. Assumes nothing.
+use Prim.Native.Nat.{ℕ, zero, suc, _+_, _*_, _/_, _%_}
 use mathlib.Core.Path.{_≡_, refl}
 use mathlib.Core.Bool.{Bool, true, false, cond}
 use mathlib.Core.List.{List}
@@ -11,7 +11,7 @@ use lib.ListN.{getD}
 use Rattle.script.specs.Syntax.{Expr, const, var, mark, arith, neg, choose, Formula, truth, cmp, not, join, Stmt, skip, assign, seq, branch, loop, assert}
 use Rattle.script.specs.Conditions.{subst-expr, subst-formula, wp}
 use Rattle.script.specs.Words.{expr-words, formula-words}
-use Rattle.script.specs.Rows.{field-number}
+use Rattle.script.specs.Rows.{field-number, word}
 use Rattle.script.specs.Trees.{expr-at, formula-at, stmt-at}
 
 -- every variable v replaced by τ v, all at once
@@ -40,9 +40,20 @@ passing (branch b x y) τ w = τ w
 passing (loop m b i v x) τ w = τ w
 passing (assert f) τ w = τ w
 
--- the row at place i of a run of rows
+-- the entry of the assignment at row r: the row, and beside it the variable that is assigned
+abbrev pub entry : List ℤ → ℕ → ℤ
+entry t r = pos (2048 * field-number (word t r 1) + r)
+
+-- the entry at place i of a path, and the row and the variable in it
+
+abbrev pub entry-on : List ℤ → ℕ → ℕ
+entry-on path i = field-number (getD path i (pos 0))
+
 abbrev pub row-on : List ℤ → ℕ → ℕ
-row-on path i = field-number (getD path i (pos 0))
+row-on path i = entry-on path i % 2048
+
+abbrev pub target-on : List ℤ → ℕ → ℕ
+target-on path i = entry-on path i / 2048
 
 -- what a variable stands for under the first j assignments of the path
 unfoldable pub under : List ℤ → List ℤ → ℕ → ℕ → Expr

@@ -1,21 +1,24 @@
 -- What holds at each turn of the two writers: whatever writes the node at hand, from the present place on, writes the whole
 -- from the first place on (`words`). There is a law for each kind of row: what is written, or how the next turn goes on with
 -- the last part. Assumes nothing.
-use Prim.Native.Nat.{ℕ, _+_, _-_, _≤_, _<_}
+use Prim.Native.Nat.{ℕ, _+_, _≤_, _<_}
 use mathlib.Core.Path.{_≡_, refl}
 use mathlib.Core.List.{List, [], _∷_}
 use native.Mathlib.Omega.{arith as linear}
 use lib.IntN.{ℤ, pos}
 use lib.ListN.{length}
+use Rattle.script.specs.declared.RowNumber.{RowNumber}
 use Rattle.script.specs.declared.Sort.{Sort}
 use Rattle.script.specs.declared.Sort.the-variants.{Expression, Formula}
 use Rattle.script.specs.Words.{expr-words}
 use Rattle.script.specs.Rows.{field-number, row-of, variables, word}
 use Rattle.theorems.specs.Writing.{Wrote, stopped, then}
+use Rattle.formula_writer.specs.declared.Replacement.{Replacement}
+use Rattle.formula_writer.specs.declared.Replacement.the-variants.{Itself, Value}
 use Rattle.formula_writer.specs.Links.{Linked}
 use Rattle.formula_writer.specs.Nodes.{Ready, base, variable-small, mark-small, links-at, at-expr, at-formula}
 use Rattle.formula_writer.specs.Paths.{replaceᵉ, under, expr-under, formula-under}
-use Rattle.formula_writer.specs.Latest.{value-on, Found, wrote-itself, value-ready, value-falls, wrote-value}
+use Rattle.formula_writer.specs.Replacing.{Stands, Replaced}
 use Rattle.formula_writer.specs.Kinds.{of-kind, Past-expressions, Past-formulas, Operation, operation, operation-small, Compared, comparison, Joined, junction, pair-small}
 
 -- the node of sort s at row r under j assignments, with the words `part`; m is the measure at the start
@@ -66,30 +69,43 @@ module _ {t path whole l₀ l : List ℤ} {m p₀ j r p : ℕ} (g : Turn t path 
   unfolding row-of expr-words replaceᵉ
   constant-written {q} {l′} e w = g .words q l′ (at-expr (g .ready) (of-kind t r k read 1 e) w)
 
-  -- ---- a variable, and the value of the latest assignment to it
+  -- ---- a variable, and the value that stands in its place
 
   module _ (e : k ≡ 2) {v : ℕ} (named : v ≡ field-number (word t r 1)) where
     pub variable-fits : v < variables
     unfolding row-of
     variable-fits = rw named (variable-small (g .ready) (of-kind t r k read 2 e))
 
-    variable-wrote : {q : ℕ} {l′ : List ℤ} → Wrote l p (expr-words (under t path j v)) q l′ → Wrote l p (expr-under t path j r) q l′
+    spelled : {q : ℕ} {l′ : List ℤ} → Wrote l p (expr-words (under t path j v)) q l′ → Wrote l p (expr-under t path j r) q l′
     unfolding row-of replaceᵉ
-    variable-wrote w = at-expr (g .ready) (of-kind t r k read 2 e) (rw named at w)
+    spelled w = at-expr (g .ready) (of-kind t r k read 2 e) (rw named at w)
 
-    module _ {i : ℕ} (found : Found t path v j i) where
-      pub variable-written : {q : ℕ} {l′ : List ℤ} → i ≡ 0 → Wrote l p (pos 2 ∷ pos v ∷ []) q l′ → Wrote l₀ p₀ whole q l′
-      variable-written {q} {l′} z w = g .words q l′ (variable-wrote (wrote-itself (g .ready) found z w))
+    module _ {l′ : List ℤ} {w : Replacement} (replaced : Replaced t path v j l p l′ w) where
+      pub variable-written : {q : ℕ} → w ≡ Itself q → Wrote l₀ p₀ whole q l′
+      variable-written {q} is = g .words q l′ (spelled (replaced .itself q is))
 
-      pub value-turn : {n : ℕ} → (i ≡ 0 → ⊥) → n ≡ value-on t path (i - 1) → Next (i - 1) n p l
-      value-turn some h =
-          let f = value-falls (g .ready) found some h in
-          let b = g .within in
-          record {
-            ready = value-ready (g .ready) found some h;
-            within = omega linear;
-            words = λ q l″ w. g .words q l″ (variable-wrote (wrote-value (g .ready) found some h w));
-          }
+      module _ {n : RowNumber} {i : ℕ} (is : w ≡ Value n i) where
+        replacement : (l′ ≡ l) × Stands t path v j (n .0) i
+        replacement = replaced .value n i is
+
+        pub value-falls : base i + (n .0 + 1) < base j + (r + 1)
+        value-falls =
+            let x = replacement .1 in
+            let earlier = x .earlier in
+            let inside = x .ready .inside in
+            let short = x .ready .table .short in
+            omega linear
+
+        pub value-turn : Next i (n .0) p l′
+        value-turn =
+            let x = replacement .1 in
+            let falls = value-falls in
+            let within = g .within in
+            record {
+              ready = x .ready;
+              within = omega linear;
+              words = λ q l″ w. g .words q l″ (spelled (rw (x .value) (rw (replacement .0) at w)));
+            }
 
   -- ---- a negation
 

@@ -9,17 +9,18 @@ use script::VariableNumber;
 use script::field;
 use script::kinds;
 ghost use mathlib.Core.Path.{_≡_};
+ghost use mathlib.Core.Bool.{false};
 ghost use mathlib.Core.List.{[], _∷_};
-ghost use Prim.Native.Nat.{_+_, _*_, _<_};
+ghost use Prim.Native.Nat.{_+_, _*_, _≤_, _<_};
 ghost use lib.IntN.{pos};
-ghost use lib.ListN.{length};
 ghost use Rattle.script.specs.declared.Sort.the-variants.{Expression, Formula};
-ghost use Rattle.script.specs.Rows.{field-number, word, variables};
+ghost use Rattle.script.specs.Rows.{word, variables};
 ghost use Rattle.theorems.specs.Accepted.{Accepted};
 ghost use Rattle.theorems.specs.Writing.{Wrote};
-ghost use Rattle.formula_writer.specs.Paths.{expr-under, formula-under};
-ghost use Rattle.formula_writer.specs.Nodes.{OnPath, Ready};
-ghost use Rattle.formula_writer.specs.Latest.{Found};
+ghost use Rattle.formula_writer.specs.Paths.{entry, expr-under, formula-under};
+ghost use Rattle.formula_writer.specs.Nodes.{Assignment, OnPath, Ready};
+ghost use Rattle.formula_writer.specs.Search.{Entries, Unassigned, Latest};
+ghost use Rattle.formula_writer.specs.Replacing.{Replaced};
 
 // Writes one word. A place is where the next word goes; past the end of the list it says that there was no room.
 pub fn push(list: &mut [i32], at: usize, word: i32) -> usize
@@ -72,21 +73,92 @@ pub fn push_mark(list: &mut [i32], at: usize, r: RowNumber) -> usize
     push_two(list, at, kinds::MARK as i32, r.0 as i32)
 }
 
-// How many of the first j assignments of the path are left, going back to the latest that assigns v; 0 where none does. A
-// long path is searched for each variable: words are compared as they stand.
-fn latest(table: &[i32], v: VariableNumber, path: &[i32], j: usize) -> usize
-    requires { ⌜ Accepted (now table) × OnPath (now table) (now path) j × (v .0 < variables) ⌝ }
-    ensures { λ k. ⌜ Found (now (table .entry)) (now (path .entry)) (v .0) j k ⌝ }
+// The entry of the assignment at row r on a path: its row, and beside it the variable that it assigns.
+pub fn path_entry(table: &[i32], r: RowNumber) -> i32
+    requires { ⌜ Accepted (now table) × Assignment (now table) (r .0) ⌝ }
+    ensures { λ z. ⌜ z ≡ entry (now (table .entry)) (r .0) ⌝ }
+{
+    let row = r.0;
+    (2048 * field(table, row, 1) + row) as i32
+}
+
+// Whether one of the 16 assignments from place k of the path on is to v. Sixteen are compared whatever the first ones give, so
+// that they are compared at once.
+fn is_in_block(v: u32, path: &[i32], k: usize) -> bool
+    requires { ⌜ Entries (now path) (k + 16) ⌝ }
+    ensures { λ found. ⌜ (found ≡ false → Unassigned (now (path .entry)) v k (k + 16)) ⌝ }
+{
+    let mut found = false;
+    let mut i = 0;
+    while i < 16 {
+        if path[k + i] as u32 / 2048 == v {
+            found = true;
+        }
+        i += 1;
+    }
+    found
+}
+
+// How many of the first j assignments of the path are left, going back by blocks of 16 up to the block of the latest to v.
+fn pass_blocks(v: u32, path: &[i32], j: usize) -> usize
+    requires { ⌜ Entries (now path) j ⌝ }
+    ensures { λ k. ⌜ (k ≤ j) × Unassigned (now (path .entry)) v k j ⌝ }
 {
     let mut k = j;
+    while 16 <= k {
+        if is_in_block(v, path, k - 16) {
+            return k;
+        }
+        k -= 16;
+    }
+    k
+}
+
+// How many of the first j assignments of the path are left, going back to the latest to v; 0 where none is.
+fn latest(v: VariableNumber, path: &[i32], j: usize) -> usize
+    requires { ⌜ Entries (now path) j × (v .0 < variables) ⌝ }
+    ensures { λ k. ⌜ Latest (now (path .entry)) (v .0) j k ⌝ }
+{
+    let target = v.0 as u32;
+    let mut k = pass_blocks(target, path, j);
     while 0 < k {
-        let r = path[k - 1] as usize;
-        if table[4 * r + 1] == v.0 as i32 {
+        if path[k - 1] as u32 / 2048 == target {
             return k;
         }
         k -= 1;
     }
     0
+}
+
+// What stands in the place of a variable.
+enum Replacement {
+    // the variable itself, which was written; the place of the next word
+    Itself(usize),
+    // the value at this row, under so many assignments
+    Value(RowNumber, usize),
+}
+
+// The step for an assignment: where variable v is to be written, under the first j assignments of the path, the value of the
+// latest to it comes in its place. It reads the rows and the path, writes in the list alone, and keeps nothing.
+fn replace_variable(
+    table: &[i32],
+    v: VariableNumber,
+    list: &mut [i32],
+    path: &[i32],
+    j: usize,
+    at: usize,
+) -> Replacement
+    requires { ⌜ Accepted (now table) × OnPath (now table) (now path) j × (v .0 < variables) ⌝ }
+    ensures { λ r. ⌜ Replaced (now (table .entry)) (now (path .entry)) (v .0) j
+        (now (list .entry)) at (now (list .exit)) r ⌝ }
+{
+    let k = latest(v, path, j);
+    if k == 0 {
+        return Replacement::Itself(push_variable(list, at, v));
+    }
+    let i = k - 1;
+    let r = path[i] as usize % 2048;
+    Replacement::Value(RowNumber(field(table, r, 2)), i)
 }
 
 // Writes the expression at row r, under the first j assignments of the path.
@@ -112,13 +184,14 @@ pub fn write_expression(
             kinds::CONSTANT => return push_constant(list, p, table[4 * row + 1]),
             kinds::VARIABLE => {
                 let v = VariableNumber(field(table, row, 1));
-                let k = latest(table, v, path, seen);
-                if k == 0 {
-                    return push_variable(list, p, v);
+                let replacement = replace_variable(table, v, list, path, seen, p);
+                match replacement {
+                    Replacement::Itself(next) => return next,
+                    Replacement::Value(value, before) => {
+                        row = value.0;
+                        seen = before;
+                    }
                 }
-                let i = k - 1;
-                row = field(table, path[i] as usize, 2);
-                seen = i;
             }
             kinds::NEGATE => {
                 p = push_kind(list, p, kinds::NEGATE);

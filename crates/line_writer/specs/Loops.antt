@@ -80,7 +80,7 @@ none : {i : ℕ} → i < 0 → ⊥
 none h = omega linear
 
 pub nothing-passed : (t path : List ℤ) → OnPath t path 0
-nothing-passed t path = record { bound = omega linear; assigns = λ i h. absurd (none h) }
+nothing-passed t path = record { bound = omega linear; passed = λ i h. absurd (none h) }
 
 -- a part, from the row that was read
 pub node-ready : (t path : List ℤ) {a b : ℕ} {s : Sort} → Accepted t → Linked t (rows t) a s → b ≡ a → Ready t path 0 b s

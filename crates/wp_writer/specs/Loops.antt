@@ -6,8 +6,6 @@ use mathlib.Core.List.{List}
 use native.Mathlib.Omega.{arith as linear}
 use lib.IntN.{ℤ, pos}
 use lib.ListN.{length}
-use mir.Val.{SFits}
-use mir.Syntax.{w32}
 use Rattle.script.specs.declared.StatementRow.the-variants.{While}
 use Rattle.script.specs.declared.Row.{Row}
 use Rattle.script.specs.declared.Row.the-variants as Row
@@ -82,9 +80,6 @@ in-table t ok h = let f = ok .fours in omega linear
 
 pub low : (t : List ℤ) {r : ℕ} → Accepted t → r < rows t → r < 2048
 low t ok h = let s = ok .short in omega linear
-
-pub row-fits : (t : List ℤ) (r : ℕ) → Accepted t → r < rows t → SFits w32 (pos r)
-row-fits t r ok h = let s = ok .short in record { sfits = omega linear }
 
 -- a link from a row of the table is one from its end
 pub wider : (t : List ℤ) (r a : ℕ) (s : Sort) → r < rows t → Linked t r a s → Linked t (rows t) a s

@@ -38,4 +38,7 @@ pub along-same : (t : List ℤ) (j : ℕ) {xs ys : List ℤ} → Same j xs ys �
 along-same t j {xs} {ys} s o =
     let b = o .bound in
     let e = s .long in
-    record { bound = omega linear; assigns = λ i h. rw (s .at i h) (o .assigns i h) }
+    record {
+      bound = omega linear;
+      passed = λ i h. let p = o .passed i h in record { assigns = rw (s .at i h) (p .assigns); entered = rw (s .at i h) (p .entered) };
+    }

@@ -1,5 +1,5 @@
 -- The turns of the writer of W at skip, an assignment, a sequence and an assertion, and its end at a loop. Assumes nothing.
-use Prim.Native.Nat.{ℕ, suc, _+_, _*_, _<_}
+use Prim.Native.Nat.{ℕ, _+_, _*_, _<_}
 use mathlib.Core.Path.{_≡_, sym, ap, _∙_}
 use mathlib.Core.Logic.{⊎-elim}
 use mathlib.Core.List.{List, [], _∷_, _++_}
@@ -8,8 +8,6 @@ use native.Mathlib.Numerals.{add-one}
 use lib.IntN.{ℤ, pos}
 use lib.ListN.{length, getD, set, length-set}
 use lib.Seq.{getD-set-same}
-use mir.Val.{SFits}
-use mir.Syntax.{w32}
 use Rattle.script.specs.declared.RowNumber.{RowNumber}
 use Rattle.script.specs.declared.VariableNumber.{VariableNumber}
 use Rattle.script.specs.declared.StatementRow.the-variants.{Skip, Assign, Sequence, Assert}
@@ -24,23 +22,20 @@ use Rattle.script.specs.Rows.{field-number, row, rows, word}
 use Rattle.script.specs.Trees.{stmt-node, expr-at, formula-at, stmt-at}
 use Rattle.theorems.specs.Counting.{eq-or-lt}
 use Rattle.theorems.specs.Writing.{Wrote, then, wrote-as}
-use Rattle.formula_writer.specs.Paths.{replaceᶠ, row-on, formula-under, assign-passed}
+use Rattle.formula_writer.specs.Paths.{replaceᶠ, entry, row-on, formula-under, assign-passed}
 use Rattle.formula_writer.specs.Links.{Linked}
-use Rattle.formula_writer.specs.Nodes.{Assignment, Ready}
+use Rattle.formula_writer.specs.Nodes.{Assignment, Passed, OnPath, Ready}
 use Rattle.following.specs.Course.{left, next, stands, course-at, left-bounded}
 use Rattle.following.specs.Kinds.{number, Past, assert-row}
 use Rattle.following.specs.Parts.{inside, stmt-here, links-here, passed-on, on-from, left-falls, first-course, after-sequence, left-first}
-use Rattle.wp_writer.specs.Loops.{Loop, invariant-row, invariant-linked, loop-is, row-fits}
+use Rattle.wp_writer.specs.Loops.{Loop, invariant-row, invariant-linked, loop-is}
 use Rattle.wp_writer.specs.Ends.{end-formula, words-under, ready-at}
-use Rattle.wp_writer.specs.Same.{same-refl, same-set, under-same}
+use Rattle.wp_writer.specs.Same.{same-refl, same-set, under-same, along-same}
 use Rattle.wp_writer.specs.Walked.{Before, before-end, Step}
 
--- a store at place n: the entries below it are as they were, and there stands the row
-entry-kept : (xs : List ℤ) (n i : ℕ) (z : ℤ) → i < n → row-on (set xs n z) i ≡ row-on xs i
-entry-kept xs n i z h = rw (same-set n xs z .at i h)
-
-entry-stored : (xs : List ℤ) (n s : ℕ) {z : ℤ} → n < length xs → z ≡ pos s → row-on (set xs n z) n ≡ s
-entry-stored xs n s {z} h e = rw (getD-set-same xs n z (pos 0) h, e)
+-- the entry of row s is stored at place n of a path: there stands the row
+entry-stored : (t xs : List ℤ) (n s : ℕ) {z : ℤ} → s < 2048 → n < length xs → z ≡ entry t s → row-on (set xs n z) n ≡ s
+entry-stored t xs n s {z} small h e = rw (getD-set-same xs n z (pos 0) h, e) (omega linear)
 
 module _ (t follow path : List ℤ) (j end s : ℕ) (g : Before t follow path j end s) (more : s ≡ 2048 → ⊥) where
   abbrev spell : Formula → List ℤ
@@ -58,9 +53,6 @@ module _ (t follow path : List ℤ) (j end s : ℕ) (g : Before t follow path j 
 
   pub in-follow : s < length follow
   in-follow = let h = in-rows in let k = g .course .table .short in let e = g .course .followed .long in omega linear
-
-  pub here-fits : SFits w32 (pos s)
-  here-fits = row-fits t s (g .course .table) in-rows
 
   -- the row of an assertion, where the other kinds were passed over
   pub assert-known : {n f : ℕ} → n ≡ field-number (word t s 0) → Past n → f ≡ field-number (word t s 1) → row t s ≡ Row.Statement (Assert (number f))
@@ -137,20 +129,33 @@ module _ (t follow path : List ℤ) (j end s : ℕ) (g : Before t follow path j 
       let u = g .long in
       omega linear
 
-  module _ {z : ℤ} (is : z ≡ pos s) {v : VariableNumber} {x : RowNumber} (r : row t s ≡ Row.Statement (Assign v x)) where
-    on-path : (i : ℕ) → i < suc j → Assignment t (row-on (set path j z) i)
-    on-path i h =
-        ⊎-elim (λ q.
-        let k : row-on (set path j z) i ≡ s = ap (row-on (set path j z)) q ∙ entry-stored path j s assign-room is in
-        rw k (record { inside = in-rows; target = v; value = x; is = r }))
-        (λ q. rw (entry-kept path j i z q) (g .along .assigns i q))
-        (eq-or-lt i j h)
+  pub assignment-here : {v : VariableNumber} {x : RowNumber} → row t s ≡ Row.Statement (Assign v x) → Assignment t s
+  assignment-here {v} {x} r = record { inside = in-rows; target = v; value = x; is = r }
+
+  module _ {z : ℤ} (is : z ≡ entry t s) {v : VariableNumber} {x : RowNumber} (r : row t s ≡ Row.Statement (Assign v x)) where
+    stored : row-on (set path j z) j ≡ s
+    stored = let h = in-rows in let k = g .course .table .short in entry-stored t path j s (omega linear) assign-room is
+
+    passed-here : Passed t (set path j z) j
+    passed-here = record {
+      assigns = rw stored (assignment-here r);
+      entered = rw (stored, getD-set-same path j z (pos 0) assign-room) is;
+    }
+
+    passed-along : OnPath t (set path j z) (j + 1)
+    passed-along =
+        let a = length-set path j z in
+        let h = assign-room in
+        let before = along-same t j (same-set j path z) (g .along) in
+        record {
+          bound = omega linear;
+          passed = λ i k. ⊎-elim (λ e. rw e passed-here) (before .passed i) (eq-or-lt i j (omega linear));
+        }
 
     assign-words : (q : Formula) → spell (wp (stmt-at t s) q) ≡ words-under t (set path j z) (j + 1) q
     assign-words q =
-        let k = entry-stored path j s assign-room is in
-        let c = assign-passed t (set path j z) j q (ap (stmt-at t) k ∙ stmt-here t follow (g .course) more r) in
-        ap formula-words (rw (← under-same t j (same-set j path z), ← k, add-one) c)
+        let c = assign-passed t (set path j z) j q (ap (stmt-at t) stored ∙ stmt-here t follow (g .course) more r) in
+        ap formula-words (rw (← under-same t j (same-set j path z), ← stored, add-one) c)
 
     assign-spelled : spell (before-end t follow s end) ≡ words-under t (set path j z) (j + 1) rest
     assign-spelled = ap spell (stands t follow more (g .course) .after-step (end-formula t end)) ∙ assign-words rest
@@ -160,12 +165,11 @@ module _ (t follow path : List ℤ) (j end s : ℕ) (g : Before t follow path j 
     assign-step hf hz =
         let e = next-is hf hz in
         let a = length-set path j z in
-        let h = assign-room in
         record {
           before = record {
             course = course-at t follow e (passed-on t follow (g .course) more);
             ended = g .ended;
-            along = record { bound = omega linear; assigns = λ i k. on-path i (omega linear) };
+            along = passed-along;
             long = a ∙ g .long;
           };
           longer = omega linear;

@@ -1,58 +1,55 @@
--- `formula_writer::latest` meets its contract: the variable stands for the same under what is left of the path. Assumes nothing.
+-- `formula_writer::latest` meets its contract: no assignment that was passed is to the variable. Assumes nothing.
 use Prim.Native.Nat.{_-_, _≤_}
 use borrow.Author.Needs.{needs}
-use mathlib.Core.Path.{_≡_, refl, sym, ap, _∙_}
+use mathlib.Core.Path.{_≡_, sym, _∙_}
 use native.Mathlib.Omega.{arith}
 use lib.IntN.{pos}
 use lib.ListN.{getD}
-use mir.Facts.{toZ-ofZ}
 use mir.Val.{toZ, ofZ}
 use mir.Syntax.{w32}
 use Rattle.script.specs.Laws.{back}
-use Rattle.formula_writer.specs.Paths.{under}
-use Rattle.formula_writer.specs.Latest.{Placed, placed, target-hit, target-miss, found-none, found-here, same-earlier}
+use Rattle.formula_writer.specs.Search.{Unassigned, Placed, placed, target-read, one, joined}
 use Rattle.formula_writer.proofs.latest.Statement.{statement}
 use Rattle.formula_writer.proofs.latest.Tie as tie
 
 abbrev Inv-loop : tie.InvT-loop
-Inv-loop table v path j k₀ k = (k ≤ j) × (under table path j (v .0) ≡ under table path k (v .0))
+Inv-loop path j target k₀ k = (k ≤ j) × Unassigned path target k j
 
 abbrev μ-loop : tie.MeasureT-loop
-μ-loop table v path j k₀ k = k
+μ-loop path j target k₀ k = k
 
-row : (c : tie.After-r Inv-loop μ-loop)
+loop-holds : tie.Need-loop-holds Inv-loop μ-loop
+loop-holds c = c .pass-blocks .ensures
+
+row : (c : tie.After-if12 Inv-loop μ-loop)
     → let loop = c .before .before in
-    let path = loop .before .args .path .now in
-    Placed (loop .before .args .table .now) path (loop .loop .k - 1) (toZ w32 (ofZ w32 (getD path (loop .loop .k - 1) (pos 0))))
+    let path = loop .before .before .before .args .path .now in
+    Placed path (loop .loop .k - 1) (toZ w32 (ofZ w32 (getD path (loop .loop .k - 1) (pos 0))))
 row c =
     let loop = c .before .before in
-    placed _ _ _ _ (loop .before .pre .0) (loop .before .pre .1) (omega arith) (back (c .r .given))
-
-cast-if1 : tie.Need-cast-if1 Inv-loop μ-loop
-cast-if1 c = search needs
+    placed _ (loop .before .before .before .pre .0) (omega arith) (back (c .if12 .given))
 
 returns : tie.Need-returns Inv-loop μ-loop
 returns c =
-    let target = c .before .before in
-    let turn = target .before .before in
-    let loop = turn .before in
-    let pre = loop .before .pre in
-    let same = sym (back (target .if12 .given)) ∙ (ap (toZ w32) (c .if1 .taken) ∙ toZ-ofZ (cast-if1 (c .before))) in
-    found-here _ (pre .0) _ _ (pre .1) (loop .loop .inv .0) (loop .loop .inv .1) (turn .loop-test .taken) (target-hit (row (target .before)) _ same)
+    let read = c .before in
+    let loop = read .before .before in
+    record {
+      within = loop .loop .inv .0;
+      none-after = loop .loop .inv .1;
+      there = λ i e. let n : i ≡ loop .loop .k - 1 = omega arith in rw n (sym (target-read (row read)) ∙ c .if1 .taken);
+    }
 
 loop-again : tie.Need-loop-again Inv-loop μ-loop
 loop-again c =
-    let target = c .before .before in
-    let turn = target .before .before in
-    let loop = turn .before in
-    let pre = loop .before .pre in
-    let other = target-miss (row (target .before)) _ (pre .2) (λ e. c .if1 .left (ap (ofZ w32) e)) in
-    (omega arith, same-earlier _ (pre .0) _ _ (pre .1) (loop .loop .inv .0) (loop .loop .inv .1) (turn .loop-test .taken) other)
+    let read = c .before in
+    let loop = read .before .before in
+    (omega arith, joined (one _ _ _ _ (omega arith) (λ e. c .if1 .left (target-read (row read) ∙ e))) (loop .loop .inv .1))
 
 returns-2 : tie.Need-returns-2 Inv-loop μ-loop
 returns-2 c =
     let loop = c .before in
-    found-none _ (loop .before .pre .0) _ _ (loop .before .pre .1) (loop .loop .inv .0) (loop .loop .inv .1) (omega arith)
+    let none : loop .loop .k ≡ 0 = omega arith in
+    record { within = omega arith; none-after = rw none at (loop .loop .inv .1); there = λ i e. absurd (omega arith) }
 
 pub latest-spec : {M : Type 1} → statement M
 latest-spec =
@@ -60,16 +57,13 @@ latest-spec =
     (tie.spec
     Inv-loop
     μ-loop
-    (λ c. (omega arith, refl))
+    (λ c. search needs)
+    (λ c κs. c .before .pre .0)
+    loop-holds
     (λ c. search needs)
     (λ c. search needs)
     (λ c. search needs)
     (λ c. (row c .plain, omega (arith, row c)))
-    (λ c. omega (arith, row c))
-    (λ c. omega (arith, row c))
-    (λ c. omega (arith, row c))
-    (λ c. omega (arith, row c))
-    cast-if1
     returns
     (λ c. search needs)
     (λ c. search needs)

@@ -6,8 +6,7 @@ use lib.Dec.{lit≤}
 use native.Mathlib.Omega.{arith}
 use borrow.Fn.Kinds.{In}
 use borrow.Fn.PlainCycle.{Measures, is, falls, and}
-use mathlib.Core.Path.{_≡_, refl}
-use mir.Facts.{toZ-ofZ}
+use mathlib.Core.Path.{_≡_, refl, _∙_}
 use Rattle.script.specs.declared.StatementRow.the-variants.{If, Assert}
 use Rattle.script.specs.declared.Row.the-variants as Row
 use Rattle.script.specs.Rows.{row}
@@ -18,13 +17,14 @@ use Rattle.following.specs.Parts.{left-first, left-else}
 use Rattle.following.specs.Kinds.{number, skip-row, assign-row, sequence-row, if-row}
 use Rattle.wp_writer.specs.Same.{same-refl}
 use Rattle.wp_writer.specs.Walked.{Before, Turned, begun, turned, written, written-full, end-ready, written-end}
-use Rattle.wp_writer.specs.Steps.{next-falls, in-table, in-follow, here-fits, skip-step, assert-known, assert-ready, assert-step}
-use Rattle.wp_writer.specs.Steps.{sequence-step, assign-room, assign-step, loop-here, invariant-ready, loop-wrote}
+use Rattle.wp_writer.specs.Steps.{next-falls, in-table, in-follow, skip-step, assert-known, assert-ready, assert-step}
+use Rattle.wp_writer.specs.Steps.{sequence-step, assignment-here, assign-room, assign-step, loop-here, invariant-ready, loop-wrote}
 use Rattle.wp_writer.specs.Branches.{guard-ready, then-ready, branch-step}
 use Rattle.script.proofs.field.Reads as field-reads
 use Rattle.script.proofs.field_number.Reads as field-number-reads
 use Rattle.wp_writer.proofs.invariant.Reads as invariant-reads
 use Rattle.wp_writer.proofs.write_end.Reads as write-end-reads
+use Rattle.formula_writer.proofs.path_entry.Reads as path-entry-reads
 use Rattle.formula_writer.proofs.push_kind.Reads as push-kind-reads
 use Rattle.formula_writer.proofs.write_formula.Reads as write-formula-reads
 use Rattle.wp_writer.proofs.write_before.Reads as reads
@@ -55,6 +55,8 @@ claims t = (
   field-reads.Learnt,
   field-number-reads.Asked,
   field-number-reads.Learnt,
+  path-entry-reads.Asked,
+  path-entry-reads.Learnt,
   push-kind-reads.Asked,
   push-kind-reads.Learnt,
   write-formula-reads.Asked,
@@ -159,39 +161,40 @@ module _ (t : ℕ) where
 
   -- ---- an assignment
 
-  cast-path : lts.Need-cast-path (claims t) (at t) reads.Post kept falling
-  cast-path c =
+  path-entry-requires : lts.Need-path-entry-requires (claims t) (at t) reads.Post kept falling
+  path-entry-requires c κs =
       let arm = c .before in
-      here-fits _ _ _ _ _ _ (now arm) (more arm)
+      (now arm .course .table, assignment-here _ _ _ _ _ _ (now arm) (more arm) (assign-row _ _ (arm .field .ensures) (c .match .keys2)))
 
   slice-set-from-field-number : lts.Need-slice-set-from-field-number (claims t) (at t) reads.Post kept falling
   slice-set-from-field-number c =
-      let arm = c .before in
+      let arm = c .before .before in
       assign-room _ _ _ _ _ _ (now arm) (more arm)
 
   mul-field-number-3 : lts.Need-mul-field-number-3 (claims t) (at t) reads.Post kept falling
   mul-field-number-3 c =
-      let arm = c .before in
+      let arm = c .before .before in
       omega (arith, in-follow _ _ _ _ _ _ (now arm) (more arm), now arm .course .followed .long)
 
   shared-slice-copy-out-field-number-2 : lts.Need-shared-slice-copy-out-field-number-2 (claims t) (at t) reads.Post kept falling
   shared-slice-copy-out-field-number-2 c =
-      let arm = c .before in
+      let arm = c .before .before in
       in-follow _ _ _ _ _ _ (now arm) (more arm)
 
   loop-less-2 : lts.Need-loop-less-2 (claims t) (at t) reads.Post kept falling
   loop-less-2 c =
       let word = c .before in
-      let arm = word .before .before in
+      let arm = word .before .before .before in
       next-falls _ _ _ _ _ _ (now arm) (more arm) (c .field-number2 .ensures) (back (word .field-number-arg2 .given))
 
   loop-again-2 : lts.Need-loop-again-2 (claims t) (at t) reads.Post kept falling
   loop-again-2 c =
       let word = c .before in
-      let kind = word .before in
+      let entered = word .before in
+      let kind = entered .before in
       let arm = kind .before in
       turned _ _ _ (loop arm .loop .inv)
-      (assign-step _ _ _ _ _ _ (now arm) (more arm) (toZ-ofZ (here-fits _ _ _ _ _ _ (now arm) (more arm)))
+      (assign-step _ _ _ _ _ _ (now arm) (more arm) (back (entered .path-entry .ok) ∙ entered .path-entry .ensures)
       (assign-row _ _ (arm .field .ensures) (kind .match .keys2)) (c .field-number2 .ensures) (back (word .field-number-arg2 .given)))
 
   -- ---- a sequence
@@ -380,7 +383,7 @@ module _ (t : ℕ) where
       (λ c κs. search needs)
       loop-less
       loop-again
-      cast-path
+      path-entry-requires
       (λ c. search needs)
       slice-set-from-field-number
       (λ c. search needs)

@@ -12,11 +12,10 @@ use Rattle.formula_writer.proofs.+write_expression+write_formula.Lts-wr
 use Rattle.formula_writer.proofs.write_formula.Reads as formula
 use Rattle.formula_writer.proofs.+write_expression+write_formula.Lts-write_formula as formula-lts
 use Rattle.script.proofs.field.Reads as field-reads
-use Rattle.formula_writer.proofs.latest.Reads as latest-reads
+use Rattle.formula_writer.proofs.replace_variable.Reads as replace-variable-reads
 use Rattle.formula_writer.proofs.push_constant.Reads as push-constant-reads
 use Rattle.formula_writer.proofs.push_kind.Reads as push-kind-reads
 use Rattle.formula_writer.proofs.push_mark.Reads as push-mark-reads
-use Rattle.formula_writer.proofs.push_variable.Reads as push-variable-reads
 
 -- the two take the same arguments
 abbrev pub μ : Measures 3 kinds.ps ℕ
@@ -34,10 +33,8 @@ expression-claims t = (
   field-reads.Learnt,
   push-constant-reads.Asked,
   push-constant-reads.Learnt,
-  latest-reads.Asked,
-  latest-reads.Learnt,
-  push-variable-reads.Asked,
-  push-variable-reads.Learnt,
+  replace-variable-reads.Asked,
+  replace-variable-reads.Learnt,
   push-kind-reads.Asked,
   push-kind-reads.Learnt,
   push-mark-reads.Asked,

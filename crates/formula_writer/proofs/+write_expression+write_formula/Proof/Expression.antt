@@ -1,16 +1,10 @@
 -- `formula_writer::write_expression`, arm by arm. Assumes nothing.
-use Prim.Native.Nat.{ℕ, _-_}
+use Prim.Native.Nat.{ℕ}
 use borrow.Author.Needs.{needs}
 use mathlib.Core.Path.{refl}
-use native.Mathlib.Omega.{arith}
-use lib.IntN.{pos}
-use lib.ListN.{getD}
-use mir.Val.{toZ, ofZ}
-use mir.Syntax.{w32}
 use Rattle.script.specs.Laws.{back}
 use Rattle.theorems.specs.Writing.{wrote-length}
-use Rattle.formula_writer.specs.Latest.{Placed, placed, value-read, value-falls}
-use Rattle.formula_writer.specs.Turns.{begun, full, part-falls, part-ready, constant-written, variable-fits, variable-written, value-turn, negated, negate-turn, mark-fits, mark-written, chosen, choose-turn, operator-fits, operands, operator-turn}
+use Rattle.formula_writer.specs.Turns.{begun, full, part-falls, part-ready, constant-written, variable-fits, variable-written, value-falls, value-turn, negated, negate-turn, mark-fits, mark-written, chosen, choose-turn, operator-fits, operands, operator-turn}
 use Rattle.formula_writer.proofs.write_expression.Reads as reads
 use Rattle.formula_writer.proofs.+write_expression+write_formula.Lts-write_expression as lts
 use Rattle.formula_writer.proofs.+write_expression+write_formula.Proof.Claims.{at, expression-claims, expression-turn, expression-left}
@@ -25,84 +19,64 @@ module _ (t : ℕ) where
       let arm = value .before .before in let read = arm .before in let g = read .before .before .loop .inv in
       constant-written g (read .field .ensures) (arm .match .keys1) (rw (back (value .push-constant-arg2 .given)) at (pushed .push-constant .ensures))
 
-  -- ---- a variable, and the value of the latest assignment to it
+  -- ---- a variable, and the value that stands in its place
 
-  latest-requires : lts.Need-latest-requires (expression-claims t) (at reads.Pre t) reads.Post expression-turn expression-left
-  latest-requires c κs =
-      let arm = c .before in let read = arm .before in let g = read .before .before .loop .inv in
-      (g .ready .table, g .ready .along, variable-fits g (read .field .ensures) (arm .match .keys2) (c .field2 .ensures))
-
-  push-variable-requires : lts.Need-push-variable-requires (expression-claims t) (at reads.Pre t) reads.Post expression-turn expression-left
-  push-variable-requires c κs =
-      let named = c .before .before .before in
+  replace-variable-requires : lts.Need-replace-variable-requires (expression-claims t) (at reads.Pre t) reads.Post expression-turn expression-left
+  replace-variable-requires c κs =
+      let named = c .before in
       let arm = named .before in let read = arm .before in let g = read .before .before .loop .inv in
-      variable-fits g (read .field .ensures) (arm .match .keys2) (named .field2 .ensures)
+      (g .ready .table, g .ready .along, variable-fits g (read .field .ensures) (arm .match .keys2) (named .field2 .ensures))
 
   returns-2 : lts.Need-returns-2 (expression-claims t) (at reads.Pre t) reads.Post expression-turn expression-left
   returns-2 c =
-      let pushed = c .before in
-      let none = pushed .before .before in
-      let found = none .before in
-      let named = found .before in
+      let replaced = c .before .before .before .before in
+      let named = replaced .before .before in
       let arm = named .before in let read = arm .before in let g = read .before .before .loop .inv in
-      variable-written g (read .field .ensures) (arm .match .keys2) (named .field2 .ensures) (found .latest .ensures) (none .if1 .taken)
-      (pushed .push-variable .ensures)
-
-  -- where an assignment to it was found
-  abbrev loop : lts.Else1 (expression-claims t) (at reads.Pre t) reads.Post expression-turn expression-left
-      → lts.At-loop (expression-claims t) (at reads.Pre t) reads.Post expression-turn expression-left
-  loop c = c .before .before .before .before .before .before
-
-  row : (c : lts.After-field-arg (expression-claims t) (at reads.Pre t) reads.Post expression-turn expression-left)
-      → let some = c .before in
-      let path = loop some .before .args .path .now in
-      let i = some .before .latest .result - 1 in
-      Placed (loop some .before .args .table .now) path i (toZ w32 (ofZ w32 (getD path i (pos 0))))
-  row c =
-      let some = c .before in
-      let g = loop some .loop .inv .ready in
-      let within = some .before .latest .ensures .within in
-      placed _ _ _ _ (g .table) (g .along) (omega arith) (back (c .field-arg .given))
+      variable-written g (read .field .ensures) (arm .match .keys2) (named .field2 .ensures) (replaced .replace-variable .ensures)
+      (c .before .replacement .given .1)
 
   loop-less : lts.Need-loop-less (expression-claims t) (at reads.Pre t) reads.Post expression-turn expression-left
   loop-less c =
-      let some = c .before .before in
-      value-falls (loop some .loop .inv .ready) (some .before .latest .ensures) (some .if1 .left) (value-read (row (c .before)) (c .field3 .ensures))
+      let replaced = c .before .before .before .before in
+      let named = replaced .before .before in
+      let arm = named .before in let read = arm .before in let g = read .before .before .loop .inv in
+      value-falls g (read .field .ensures) (arm .match .keys2) (named .field2 .ensures) (replaced .replace-variable .ensures)
+      (c .before .replacement2 .given .1)
 
   loop-again : lts.Need-loop-again (expression-claims t) (at reads.Pre t) reads.Post expression-turn expression-left
   loop-again c =
-      let some = c .before .before in
-      let found = some .before in
-      let named = found .before in
+      let replaced = c .before .before .before .before in
+      let named = replaced .before .before in
       let arm = named .before in let read = arm .before in let g = read .before .before .loop .inv in
-      value-turn g (read .field .ensures) (arm .match .keys2) (named .field2 .ensures) (found .latest .ensures) (some .if1 .left) (value-read (row (c .before)) (c .field3 .ensures))
+      value-turn g (read .field .ensures) (arm .match .keys2) (named .field2 .ensures) (replaced .replace-variable .ensures)
+      (c .before .replacement2 .given .1)
 
   -- ---- a negation
 
   loop-less-2 : lts.Need-loop-less-2 (expression-claims t) (at reads.Pre t) reads.Post expression-turn expression-left
   loop-less-2 c =
       let arm = c .before .before .before .before in let read = arm .before in let g = read .before .before .loop .inv in
-      part-falls g _ (negated g (read .field .ensures) (arm .match .keys3) (c .field4 .ensures) .0)
+      part-falls g _ (negated g (read .field .ensures) (arm .match .keys3) (c .field3 .ensures) .0)
 
   loop-again-2 : lts.Need-loop-again-2 (expression-claims t) (at reads.Pre t) reads.Post expression-turn expression-left
   loop-again-2 c =
       let pushed = c .before .before in
       let arm = pushed .before .before in let read = arm .before in let g = read .before .before .loop .inv in
-      negate-turn g (read .field .ensures) (arm .match .keys3) (c .field4 .ensures) (pushed .push-kind .ensures)
+      negate-turn g (read .field .ensures) (arm .match .keys3) (c .field3 .ensures) (pushed .push-kind .ensures)
 
   -- ---- a mark
 
   push-mark-requires : lts.Need-push-mark-requires (expression-claims t) (at reads.Pre t) reads.Post expression-turn expression-left
   push-mark-requires c κs =
       let arm = c .before .before in let read = arm .before in let g = read .before .before .loop .inv in
-      mark-fits g (read .field .ensures) (arm .match .keys4) (c .field5 .ensures)
+      mark-fits g (read .field .ensures) (arm .match .keys4) (c .field4 .ensures)
 
   returns-3 : lts.Need-returns-3 (expression-claims t) (at reads.Pre t) reads.Post expression-turn expression-left
   returns-3 c =
       let pushed = c .before in
       let named = pushed .before in
       let arm = named .before .before in let read = arm .before in let g = read .before .before .loop .inv in
-      mark-written g (read .field .ensures) (arm .match .keys4) (named .field5 .ensures) (pushed .push-mark .ensures)
+      mark-written g (read .field .ensures) (arm .match .keys4) (named .field4 .ensures) (pushed .push-mark .ensures)
 
   -- ---- a choice
 
@@ -110,20 +84,20 @@ module _ (t : ℕ) where
   write-formula-requires c κs =
       let first = c .before in
       let arm = first .before .before .before .before in let read = arm .before in let g = read .before .before .loop .inv in
-      part-ready g (read .before .before .before .pre .0) (chosen g (read .field .ensures) (arm .match .keys5) (first .field6 .ensures) refl refl .0)
+      part-ready g (read .before .before .before .pre .0) (chosen g (read .field .ensures) (arm .match .keys5) (first .field5 .ensures) refl refl .0)
 
   write-expression-requires : lts.Need-write-expression-requires (expression-claims t) (at reads.Pre t) reads.Post expression-turn expression-left
   write-expression-requires c κs =
       let second = c .before in
       let arm = second .before .before .before .before .before .before .before .before in
       let read = arm .before in let g = read .before .before .loop .inv in
-      part-ready g (read .before .before .before .pre .0) (chosen g (read .field .ensures) (arm .match .keys5) refl (second .field7 .ensures) refl .1)
+      part-ready g (read .before .before .before .pre .0) (chosen g (read .field .ensures) (arm .match .keys5) refl (second .field6 .ensures) refl .1)
 
   loop-less-3 : lts.Need-loop-less-3 (expression-claims t) (at reads.Pre t) reads.Post expression-turn expression-left
   loop-less-3 c =
       let arm = c .before .before .before .before .before .before .before .before .before .before .before .before in
       let read = arm .before in let g = read .before .before .loop .inv in
-      part-falls g _ (chosen g (read .field .ensures) (arm .match .keys5) refl refl (c .field8 .ensures) .2 .0)
+      part-falls g _ (chosen g (read .field .ensures) (arm .match .keys5) refl refl (c .field7 .ensures) .2 .0)
 
   loop-again-3 : lts.Need-loop-again-3 (expression-claims t) (at reads.Pre t) reads.Post expression-turn expression-left
   loop-again-3 c =
@@ -133,8 +107,8 @@ module _ (t : ℕ) where
       let first = by-written .before .before in
       let pushed = first .before .before in
       let arm = pushed .before .before in let read = arm .before in let g = read .before .before .loop .inv in
-      choose-turn g (read .field .ensures) (arm .match .keys5) (first .field6 .ensures) (second .field7 .ensures)
-      (c .field8 .ensures) (pushed .push-kind2 .ensures) (by-written .write-formula .ensures) (first-written .write-expression .ensures)
+      choose-turn g (read .field .ensures) (arm .match .keys5) (first .field5 .ensures) (second .field6 .ensures)
+      (c .field7 .ensures) (pushed .push-kind2 .ensures) (by-written .write-formula .ensures) (first-written .write-expression .ensures)
 
   -- ---- an operator
 
@@ -147,13 +121,13 @@ module _ (t : ℕ) where
   write-expression-requires-2 c κs =
       let first = c .before in
       let arm = first .before .before .before .before in let read = arm .before in let g = read .before .before .loop .inv in
-      part-ready g (read .before .before .before .pre .0) (operands g (read .field .ensures) (arm .match .rest) (first .field9 .ensures) refl .0)
+      part-ready g (read .before .before .before .pre .0) (operands g (read .field .ensures) (arm .match .rest) (first .field8 .ensures) refl .0)
 
   loop-less-4 : lts.Need-loop-less-4 (expression-claims t) (at reads.Pre t) reads.Post expression-turn expression-left
   loop-less-4 c =
       let arm = c .before .before .before .before .before .before .before .before in
       let read = arm .before in let g = read .before .before .loop .inv in
-      part-falls g _ (operands g (read .field .ensures) (arm .match .rest) refl (c .field10 .ensures) .1 .0)
+      part-falls g _ (operands g (read .field .ensures) (arm .match .rest) refl (c .field9 .ensures) .1 .0)
 
   loop-again-4 : lts.Need-loop-again-4 (expression-claims t) (at reads.Pre t) reads.Post expression-turn expression-left
   loop-again-4 c =
@@ -161,7 +135,7 @@ module _ (t : ℕ) where
       let first = written .before .before in
       let pushed = first .before .before in
       let arm = pushed .before .before in let read = arm .before in let g = read .before .before .loop .inv in
-      operator-turn g (read .field .ensures) (arm .match .rest) (first .field9 .ensures) (c .field10 .ensures)
+      operator-turn g (read .field .ensures) (arm .match .rest) (first .field8 .ensures) (c .field9 .ensures)
       (pushed .push-kind3 .ensures) (written .write-expression2 .ensures)
 
   -- ---- no room is left
@@ -184,15 +158,11 @@ module _ (t : ℕ) where
       (λ c. wrote-length (returns c))
       returns
       (λ c κs. search needs)
-      latest-requires
-      push-variable-requires
+      replace-variable-requires
+      (λ c. search needs)
       (λ c. wrote-length (returns-2 c))
       returns-2
       (λ c. search needs)
-      (λ c. search needs)
-      (λ c. search needs)
-      (λ c. (row c .plain, omega (arith, row c)))
-      (λ c κs. (row c .inside, omega arith))
       loop-less
       loop-again
       (λ c κs. search needs)

@@ -1,0 +1,65 @@
+-- `formula_writer::is_in_block` meets its contract: where nothing was found, no assignment up to the present place is to v.
+-- Assumes nothing.
+use Prim.Native.Nat.{_+_, _-_, _≤_}
+use borrow.Author.Needs.{needs}
+use mathlib.Core.Bool.{true, false}
+use mathlib.Core.Logic.{⊎-elim}
+use mathlib.Core.Path.{_≡_, sym, subst, _∙_}
+use native.Mathlib.Nat.{add-zero}
+use native.Mathlib.Omega.{arith}
+use lib.Dec.{T}
+use lib.IntN.{pos}
+use lib.ListN.{getD}
+use mir.Val.{toZ, ofZ}
+use mir.Syntax.{w32}
+use Rattle.script.specs.Laws.{back}
+use Rattle.formula_writer.specs.Search.{Unassigned, Placed, placed, target-read, none, one, joined}
+use Rattle.formula_writer.proofs.is_in_block.Statement.{statement}
+use Rattle.formula_writer.proofs.is_in_block.Tie as tie
+
+abbrev Inv-loop : tie.InvT-loop
+Inv-loop v path k found₀ i₀ found i = (i ≤ 16) × (found ≡ false → Unassigned path v k (k + i))
+
+abbrev μ-loop : tie.MeasureT-loop
+μ-loop v path k found₀ i₀ found i = 16 - i
+
+loop-holds : tie.Need-loop-holds Inv-loop μ-loop
+loop-holds c = (omega arith, λ e. rw add-zero (none _ _ _))
+
+row : (c : tie.After-if12 Inv-loop μ-loop)
+    → let loop = c .before .before in
+    let path = loop .before .args .path .now in
+    let at = loop .before .args .k + loop .loop .i in
+    Placed path at (toZ w32 (ofZ w32 (getD path at (pos 0))))
+row c = let loop = c .before .before in placed _ (loop .before .pre) (omega arith) (back (c .if12 .given))
+
+loop-again : tie.Need-loop-again Inv-loop μ-loop
+loop-again c =
+    let loop = c .before .before .before in (
+      omega arith,
+      λ e. ⊎-elim (λ h. let z : true ≡ false = sym (h .1) ∙ e in absurd (subst T z tt))
+          (λ h. joined (loop .loop .inv .1 (sym (h .1) ∙ e)) (one _ _ _ _ (omega arith) (λ q. h .0 .left (target-read (row (c .before)) ∙ q))))
+          (c .if1 .came),
+    )
+
+returns : tie.Need-returns Inv-loop μ-loop
+returns c e =
+    let loop = c .before in
+    let n : loop .loop .i ≡ 16 = omega arith in
+    rw n at (loop .loop .inv .1 e)
+
+pub is-in-block-spec : {M : Type 1} → statement M
+is-in-block-spec =
+    tie.close
+    (tie.spec
+    Inv-loop
+    μ-loop
+    loop-holds
+    (λ c. search needs)
+    (λ c. search needs)
+    (λ c. search needs)
+    (λ c. (row c .plain, omega (arith, row c)))
+    (λ c. search needs)
+    (λ c. search needs)
+    loop-again
+    returns)
