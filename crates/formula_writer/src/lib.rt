@@ -82,16 +82,17 @@ pub fn path_entry(table: &[i32], r: RowNumber) -> i32
     (2048 * field(table, row, 1) + row) as i32
 }
 
-// Whether one of the 16 assignments from place k of the path on is to v. Sixteen are compared whatever the first ones give, so
-// that they are compared at once.
-fn is_in_block(v: u32, path: &[i32], k: usize) -> bool
-    requires { ⌜ Entries (now path) (k + 16) ⌝ }
-    ensures { λ found. ⌜ (found ≡ false → Unassigned (now (path .entry)) v k (k + 16)) ⌝ }
+// Whether one of the eight assignments from place k of the path on is to v. The loop does not stop at the first that is, so
+// that the compiler compares all eight at once.
+fn is_in_block(v: VariableNumber, path: &[i32], k: usize) -> bool
+    requires { ⌜ Entries (now path) (k + 8) × (v .0 < variables) ⌝ }
+    ensures { λ found. ⌜ (found ≡ false → Unassigned (now (path .entry)) (v .0) k (k + 8)) ⌝ }
 {
+    let target = v.0 as u32;
     let mut found = false;
     let mut i = 0;
-    while i < 16 {
-        if path[k + i] as u32 / 2048 == v {
+    while i < 8 {
+        if path[k + i] as u32 / 2048 == target {
             found = true;
         }
         i += 1;
@@ -99,17 +100,17 @@ fn is_in_block(v: u32, path: &[i32], k: usize) -> bool
     found
 }
 
-// How many of the first j assignments of the path are left, going back by blocks of 16 up to the block of the latest to v.
-fn pass_blocks(v: u32, path: &[i32], j: usize) -> usize
-    requires { ⌜ Entries (now path) j ⌝ }
-    ensures { λ k. ⌜ (k ≤ j) × Unassigned (now (path .entry)) v k j ⌝ }
+// How many of the first j assignments of the path are left, going back by blocks of eight up to one with an assignment to v.
+fn pass_blocks(v: VariableNumber, path: &[i32], j: usize) -> usize
+    requires { ⌜ Entries (now path) j × (v .0 < variables) ⌝ }
+    ensures { λ k. ⌜ (k ≤ j) × Unassigned (now (path .entry)) (v .0) k j ⌝ }
 {
     let mut k = j;
-    while 16 <= k {
-        if is_in_block(v, path, k - 16) {
+    while 8 <= k {
+        if is_in_block(v, path, k - 8) {
             return k;
         }
-        k -= 16;
+        k -= 8;
     }
     k
 }
@@ -120,7 +121,7 @@ fn latest(v: VariableNumber, path: &[i32], j: usize) -> usize
     ensures { λ k. ⌜ Latest (now (path .entry)) (v .0) j k ⌝ }
 {
     let target = v.0 as u32;
-    let mut k = pass_blocks(target, path, j);
+    let mut k = pass_blocks(v, path, j);
     while 0 < k {
         if path[k - 1] as u32 / 2048 == target {
             return k;

@@ -63,7 +63,17 @@ fn time_lists(watch: &Stopwatch) {
             "350 assignments passed 200 times",
             scripts::assignments_passed(350, 200),
         ),
+        (
+            "600 assignments passed 100 times",
+            scripts::assignments_passed(600, 100),
+        ),
+        (
+            "assigned 500 back, read 200 times",
+            scripts::assigned_long_ago(500, 200),
+        ),
         ("v256 to v606", scripts::shifted_variables(350)),
+        ("400 increments", scripts::increments(400)),
+        ("12 doublings after 500 others", scripts::doublings(12, 500)),
         ("a full list", scripts::full_list()),
     ];
     for (name, table) in tables {

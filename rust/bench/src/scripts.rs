@@ -113,21 +113,60 @@ pub fn shifted_variables(count: i32) -> Vec<i32> {
     laid_out(arena, statement)
 }
 
-/// Assignments to other variables before one whose value reads its variable so
-/// many times: each read goes back past them all.
-pub fn assignments_passed(others: i32, reads: i32) -> Vec<i32> {
-    let mut arena = Arena::default();
-    let mut statements = Vec::new();
-    for other in 0..others {
+/// v1 := 1, v2 := 1, .. over 100 variables, so many assignments.
+fn assignments_to_others(arena: &mut Arena, count: i32) -> Vec<Node> {
+    let assign_one = |other| {
         let one = arena.constant(1);
-        statements.push(arena.assign(1 + other % 100, one));
-    }
+        arena.assign(1 + other % 100, one)
+    };
+    (0..count).map(assign_one).collect()
+}
+
+/// v0 := v0 + v0 + .., so many times.
+fn sum_of_itself(arena: &mut Arena, reads: i32) -> Node {
     let mut sum = arena.variable(0);
     for _ in 1..reads {
         let read = arena.variable(0);
         sum = arena.two(3, sum, read);
     }
-    statements.push(arena.assign(0, sum));
+    arena.assign(0, sum)
+}
+
+/// Assignments to other variables before one whose value reads its variable so
+/// many times: each read goes back past them all.
+pub fn assignments_passed(others: i32, reads: i32) -> Vec<i32> {
+    let mut arena = Arena::default();
+    let mut statements = assignments_to_others(&mut arena, others);
+    statements.push(sum_of_itself(&mut arena, reads));
+    let statement = in_sequence(&mut arena, statements);
+    laid_out(arena, statement)
+}
+
+/// The same with an assignment to the variable before all others: each read goes
+/// back to it.
+pub fn assigned_long_ago(others: i32, reads: i32) -> Vec<i32> {
+    let mut arena = Arena::default();
+    let mut statements = vec![add(&mut arena, 0, 1)];
+    statements.extend(assignments_to_others(&mut arena, others));
+    statements.push(sum_of_itself(&mut arena, reads));
+    let statement = in_sequence(&mut arena, statements);
+    laid_out(arena, statement)
+}
+
+/// v0 := v0 + 1, so many times: the value that is written grows by one sum each.
+pub fn increments(count: i32) -> Vec<i32> {
+    let mut arena = Arena::default();
+    let statements = (0..count).map(|_| add(&mut arena, 0, 1)).collect();
+    let statement = in_sequence(&mut arena, statements);
+    laid_out(arena, statement)
+}
+
+/// Assignments to other variables, then v0 := v0 + v0 so many times: the value
+/// that is written doubles each time, and each v0 in it goes back past them all.
+pub fn doublings(count: i32, others: i32) -> Vec<i32> {
+    let mut arena = Arena::default();
+    let mut statements = assignments_to_others(&mut arena, others);
+    statements.extend((0..count).map(|_| sum_of_itself(&mut arena, 2)));
     let statement = in_sequence(&mut arena, statements);
     laid_out(arena, statement)
 }

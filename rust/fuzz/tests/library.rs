@@ -3,6 +3,7 @@
 mod common;
 
 use common::Proved;
+use fuzz::arena::{Arena, Order};
 use fuzz::scripts::EXAMPLE_A;
 use fuzz::texts::text_need;
 use fuzz::{compare_counting, compare_input, seed_from_environment, tell, Input, Prng, Tally};
@@ -168,6 +169,38 @@ fn every_small_change_of_a_table() {
             scratch_len: 360,
         }),
     );
+}
+
+/// So many assignments to other variables, one to v0 after some of them, and a
+/// postcondition that reads v0.
+fn assigned_after(some: usize, others: usize) -> Vec<i32> {
+    let mut arena = Arena::default();
+    let read = arena.variable(0);
+    let precondition = arena.leaf(16);
+    let targets = (0..others).map(|other| [1, 127, 256, 1_023][other % 4]);
+    let mut targets: Vec<i32> = targets.collect();
+    targets.insert(some, 0);
+    let mut statement = arena.leaf(32);
+    for (value, target) in targets.into_iter().enumerate() {
+        let value = arena.constant(value as i32);
+        let assign = arena.assign(target, value);
+        statement = arena.two(34, statement, assign);
+    }
+    let zero = arena.constant(0);
+    let postcondition = arena.two(20, read, zero);
+    arena.three(48, precondition, statement, postcondition);
+    arena.words(Order::Newest, &mut Prng::new(1))
+}
+
+#[test]
+fn every_place_of_the_latest_assignment() {
+    compare_all((0..50).flat_map(|others| {
+        (0..=others).map(move |some| Input::Table {
+            words: assigned_after(some, others),
+            list_len: 20,
+            scratch_len: 40,
+        })
+    }));
 }
 
 /// A plan as the list's lines, a refusal as its number and row.

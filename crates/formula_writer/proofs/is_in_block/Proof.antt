@@ -18,34 +18,34 @@ use Rattle.formula_writer.proofs.is_in_block.Statement.{statement}
 use Rattle.formula_writer.proofs.is_in_block.Tie as tie
 
 abbrev Inv-loop : tie.InvT-loop
-Inv-loop v path k found₀ i₀ found i = (i ≤ 16) × (found ≡ false → Unassigned path v k (k + i))
+Inv-loop path k target found₀ i₀ found i = (i ≤ 8) × (found ≡ false → Unassigned path target k (k + i))
 
 abbrev μ-loop : tie.MeasureT-loop
-μ-loop v path k found₀ i₀ found i = 16 - i
+μ-loop path k target found₀ i₀ found i = 8 - i
 
 loop-holds : tie.Need-loop-holds Inv-loop μ-loop
 loop-holds c = (omega arith, λ e. rw add-zero (none _ _ _))
 
-row : (c : tie.After-if12 Inv-loop μ-loop)
+entry : (c : tie.After-if12 Inv-loop μ-loop)
     → let loop = c .before .before in
-    let path = loop .before .args .path .now in
-    let at = loop .before .args .k + loop .loop .i in
-    Placed path at (toZ w32 (ofZ w32 (getD path at (pos 0))))
-row c = let loop = c .before .before in placed _ (loop .before .pre) (omega arith) (back (c .if12 .given))
+    let start = loop .before .before in
+    let at = start .args .k + loop .loop .i in
+    Placed (start .args .path .now) at (toZ w32 (ofZ w32 (getD (start .args .path .now) at (pos 0))))
+entry c = let loop = c .before .before in placed _ (loop .before .before .pre .0) (omega arith) (back (c .if12 .given))
 
 loop-again : tie.Need-loop-again Inv-loop μ-loop
 loop-again c =
     let loop = c .before .before .before in (
       omega arith,
       λ e. ⊎-elim (λ h. let z : true ≡ false = sym (h .1) ∙ e in absurd (subst T z tt))
-          (λ h. joined (loop .loop .inv .1 (sym (h .1) ∙ e)) (one _ _ _ _ (omega arith) (λ q. h .0 .left (target-read (row (c .before)) ∙ q))))
+          (λ h. joined (loop .loop .inv .1 (sym (h .1) ∙ e)) (one _ _ _ _ (omega arith) (λ q. h .0 .left (target-read (entry (c .before)) ∙ q))))
           (c .if1 .came),
     )
 
 returns : tie.Need-returns Inv-loop μ-loop
 returns c e =
     let loop = c .before in
-    let n : loop .loop .i ≡ 16 = omega arith in
+    let n : loop .loop .i ≡ 8 = omega arith in
     rw n at (loop .loop .inv .1 e)
 
 pub is-in-block-spec : {M : Type 1} → statement M
@@ -54,11 +54,12 @@ is-in-block-spec =
     (tie.spec
     Inv-loop
     μ-loop
+    (λ c. search needs)
     loop-holds
     (λ c. search needs)
     (λ c. search needs)
     (λ c. search needs)
-    (λ c. (row c .plain, omega (arith, row c)))
+    (λ c. (entry c .plain, omega (arith, entry c)))
     (λ c. search needs)
     (λ c. search needs)
     loop-again

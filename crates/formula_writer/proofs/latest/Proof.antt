@@ -21,11 +21,11 @@ abbrev μ-loop : tie.MeasureT-loop
 loop-holds : tie.Need-loop-holds Inv-loop μ-loop
 loop-holds c = c .pass-blocks .ensures
 
-row : (c : tie.After-if12 Inv-loop μ-loop)
+entry : (c : tie.After-if12 Inv-loop μ-loop)
     → let loop = c .before .before in
     let path = loop .before .before .before .args .path .now in
     Placed path (loop .loop .k - 1) (toZ w32 (ofZ w32 (getD path (loop .loop .k - 1) (pos 0))))
-row c =
+entry c =
     let loop = c .before .before in
     placed _ (loop .before .before .before .pre .0) (omega arith) (back (c .if12 .given))
 
@@ -36,14 +36,14 @@ returns c =
     record {
       within = loop .loop .inv .0;
       none-after = loop .loop .inv .1;
-      there = λ i e. let n : i ≡ loop .loop .k - 1 = omega arith in rw n (sym (target-read (row read)) ∙ c .if1 .taken);
+      there = λ i e. let n : i ≡ loop .loop .k - 1 = omega arith in rw n (sym (target-read (entry read)) ∙ c .if1 .taken);
     }
 
 loop-again : tie.Need-loop-again Inv-loop μ-loop
 loop-again c =
     let read = c .before in
     let loop = read .before .before in
-    (omega arith, joined (one _ _ _ _ (omega arith) (λ e. c .if1 .left (target-read (row read) ∙ e))) (loop .loop .inv .1))
+    (omega arith, joined (one _ _ _ _ (omega arith) (λ e. c .if1 .left (target-read (entry read) ∙ e))) (loop .loop .inv .1))
 
 returns-2 : tie.Need-returns-2 Inv-loop μ-loop
 returns-2 c =
@@ -58,12 +58,12 @@ latest-spec =
     Inv-loop
     μ-loop
     (λ c. search needs)
-    (λ c κs. c .before .pre .0)
+    (λ c κs. c .before .pre)
     loop-holds
     (λ c. search needs)
     (λ c. search needs)
     (λ c. search needs)
-    (λ c. (row c .plain, omega (arith, row c)))
+    (λ c. (entry c .plain, omega (arith, entry c)))
     returns
     (λ c. search needs)
     (λ c. search needs)

@@ -26,12 +26,12 @@ returns c =
 
 -- where an assignment to it was found
 
-row : (c : tie.After-r)
+entry : (c : tie.After-r)
     → let found = c .before .before in
     let path = found .before .args .path .now in
     let i = found .latest .result - 1 in
     Placed path i (toZ w32 (ofZ w32 (getD path i (pos 0))))
-row c =
+entry c =
     let found = c .before .before in
     let start = found .before in
     let within = found .latest .ensures .within in
@@ -42,7 +42,7 @@ field-requires c κs =
     let found = c .before .before in
     let start = found .before in
     let within = found .latest .ensures .within in
-    (in-table (start .pre .0) (start .pre .1) _ (omega arith) (row c), omega arith)
+    (in-table (start .pre .0) (start .pre .1) _ (omega arith) (entry c), omega arith)
 
 returns-2 : tie.Need-returns-2
 returns-2 c =
@@ -51,7 +51,7 @@ returns-2 c =
     let start = found .before in
     let within = found .latest .ensures .within in
     left-value (start .pre .0) (start .pre .1) (found .latest .ensures) _ (omega arith) _
-    (value-read (start .pre .0) (start .pre .1) _ (omega arith) (row read) (c .field .ensures))
+    (value-read (start .pre .0) (start .pre .1) _ (omega arith) (entry read) (c .field .ensures))
 
 pub replace-variable-spec : {M : Type 1} → statement M
 replace-variable-spec =
@@ -64,6 +64,6 @@ replace-variable-spec =
     (λ c. search needs)
     (λ c. search needs)
     (λ c. search needs)
-    (λ c. (row c .plain, omega (arith, row c)))
+    (λ c. (entry c .plain, omega (arith, entry c)))
     field-requires
     returns-2)
