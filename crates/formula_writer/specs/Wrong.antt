@@ -1,11 +1,13 @@
 -- What is no writing: a word left out, a place not moved on, a word written past the first free one, a full list that says it
--- had room. Assumes nothing.
-use mathlib.Core.Path.{_≡_}
-use mathlib.Core.List.{[], _∷_}
+-- had room; what is not the latest assignment to a variable; what is no entry of a path. Assumes nothing.
+use mathlib.Core.Path.{_≡_, refl}
+use mathlib.Core.List.{List, [], _∷_}
 use native.Mathlib.Omega.{arith as linear}
 use lib.IntN.{ℤ, pos}
 use Rattle.script.specs.Laws.{pos-inj}
 use Rattle.theorems.specs.Writing.{Wrote, fitted, stopped}
+use Rattle.formula_writer.specs.Paths.{entry}
+use Rattle.formula_writer.specs.Search.{Latest}
 
 word-left-out : Wrote (pos 0 ∷ []) 0 (pos 7 ∷ []) 1 (pos 0 ∷ []) → ⊥
 word-left-out (fitted h n s) = let e : pos 0 ≡ pos 7 = cc in let i = pos-inj e in omega linear
@@ -22,3 +24,28 @@ another-word-changed (stopped h n s) = omega linear
 room-claimed : Wrote (pos 0 ∷ []) 1 (pos 7 ∷ []) 1 (pos 0 ∷ []) → ⊥
 room-claimed (fitted h n s) = omega linear
 room-claimed (stopped h n s) = omega linear
+
+-- ---- v0, v1 and v0 again are assigned, at rows 5, 6 and 7
+
+abbrev passed : List ℤ
+passed = pos 5 ∷ pos 2054 ∷ pos 7 ∷ []
+
+earlier-taken : Latest passed 0 3 1 → ⊥
+earlier-taken f = f .none-after .other 2 (omega linear) (omega linear) refl
+
+none-claimed : Latest passed 1 3 0 → ⊥
+none-claimed f = f .none-after .other 1 (omega linear) (omega linear) refl
+
+another-variable : Latest passed 1 3 3 → ⊥
+another-variable f = let e = f .there 2 refl in omega linear
+
+-- ---- the row v3 := the value at row 9, with the number 0
+
+abbrev assigned : List ℤ
+assigned = pos 33 ∷ pos 3 ∷ pos 9 ∷ pos 0 ∷ []
+
+variable-lost : entry assigned 0 ≡ pos 0 → ⊥
+variable-lost e = let i = pos-inj e in omega linear
+
+value-entered : entry assigned 0 ≡ pos 18432 → ⊥
+value-entered e = let i = pos-inj e in omega linear

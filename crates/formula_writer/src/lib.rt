@@ -4,22 +4,22 @@
 // A node's last part is a turn of the loop; a call is for the parts before it. A row is not taken apart: the writers go by
 // the number in its first word, and each arm that ends returns its own answer, since a value that arms share is copied.
 
+pub mod path; // what a path has of an assignment, and the search for the latest one
+
 use script::RowNumber;
 use script::VariableNumber;
 use script::field;
 use script::kinds;
 ghost use mathlib.Core.Path.{_≡_};
-ghost use mathlib.Core.Bool.{false};
 ghost use mathlib.Core.List.{[], _∷_};
-ghost use Prim.Native.Nat.{_+_, _*_, _≤_, _<_};
+ghost use Prim.Native.Nat.{_<_};
 ghost use lib.IntN.{pos};
 ghost use Rattle.script.specs.declared.Sort.the-variants.{Expression, Formula};
-ghost use Rattle.script.specs.Rows.{word, variables};
+ghost use Rattle.script.specs.Rows.{variables};
 ghost use Rattle.theorems.specs.Accepted.{Accepted};
 ghost use Rattle.theorems.specs.Writing.{Wrote};
-ghost use Rattle.formula_writer.specs.Paths.{entry, expr-under, formula-under};
-ghost use Rattle.formula_writer.specs.Nodes.{Assignment, OnPath, Ready};
-ghost use Rattle.formula_writer.specs.Search.{Entries, Unassigned, Latest};
+ghost use Rattle.formula_writer.specs.Paths.{expr-under, formula-under};
+ghost use Rattle.formula_writer.specs.Nodes.{OnPath, Ready};
 ghost use Rattle.formula_writer.specs.Replacing.{Replaced};
 
 // Writes one word. A place is where the next word goes; past the end of the list it says that there was no room.
@@ -73,64 +73,6 @@ pub fn push_mark(list: &mut [i32], at: usize, r: RowNumber) -> usize
     push_two(list, at, kinds::MARK as i32, r.0 as i32)
 }
 
-// The entry of the assignment at row r on a path: its row, and beside it the variable that it assigns.
-pub fn path_entry(table: &[i32], r: RowNumber) -> i32
-    requires { ⌜ Accepted (now table) × Assignment (now table) (r .0) ⌝ }
-    ensures { λ z. ⌜ z ≡ entry (now (table .entry)) (r .0) ⌝ }
-{
-    let row = r.0;
-    (2048 * field(table, row, 1) + row) as i32
-}
-
-// Whether one of the eight assignments from place k of the path on is to v. The loop does not stop at the first that is, so
-// that the compiler compares all eight at once.
-fn is_in_block(v: VariableNumber, path: &[i32], k: usize) -> bool
-    requires { ⌜ Entries (now path) (k + 8) × (v .0 < variables) ⌝ }
-    ensures { λ found. ⌜ (found ≡ false → Unassigned (now (path .entry)) (v .0) k (k + 8)) ⌝ }
-{
-    let target = v.0 as u32;
-    let mut found = false;
-    let mut i = 0;
-    while i < 8 {
-        if path[k + i] as u32 / 2048 == target {
-            found = true;
-        }
-        i += 1;
-    }
-    found
-}
-
-// How many of the first j assignments of the path are left, going back by blocks of eight up to one with an assignment to v.
-fn pass_blocks(v: VariableNumber, path: &[i32], j: usize) -> usize
-    requires { ⌜ Entries (now path) j × (v .0 < variables) ⌝ }
-    ensures { λ k. ⌜ (k ≤ j) × Unassigned (now (path .entry)) (v .0) k j ⌝ }
-{
-    let mut k = j;
-    while 8 <= k {
-        if is_in_block(v, path, k - 8) {
-            return k;
-        }
-        k -= 8;
-    }
-    k
-}
-
-// How many of the first j assignments of the path are left, going back to the latest to v; 0 where none is.
-fn latest(v: VariableNumber, path: &[i32], j: usize) -> usize
-    requires { ⌜ Entries (now path) j × (v .0 < variables) ⌝ }
-    ensures { λ k. ⌜ Latest (now (path .entry)) (v .0) j k ⌝ }
-{
-    let target = v.0 as u32;
-    let mut k = pass_blocks(v, path, j);
-    while 0 < k {
-        if path[k - 1] as u32 / 2048 == target {
-            return k;
-        }
-        k -= 1;
-    }
-    0
-}
-
 // What stands in the place of a variable.
 enum Replacement {
     // the variable itself, which was written; the place of the next word
@@ -153,7 +95,7 @@ fn replace_variable(
     ensures { λ r. ⌜ Replaced (now (table .entry)) (now (path .entry)) (v .0) j
         (now (list .entry)) at (now (list .exit)) r ⌝ }
 {
-    let k = latest(v, path, j);
+    let k = path::latest(v, path, j);
     if k == 0 {
         return Replacement::Itself(push_variable(list, at, v));
     }

@@ -84,7 +84,7 @@ pub fn write_before(
         match kind {
             kinds::SKIP => s = script::field_number(follow[s]),
             kinds::ASSIGN => {
-                path[j] = formula_writer::path_entry(table, RowNumber(s));
+                path[j] = formula_writer::path::entry(table, RowNumber(s));
                 j = j + 1;
                 s = script::field_number(follow[s]);
             }

@@ -24,7 +24,7 @@ use Rattle.script.proofs.field.Reads as field-reads
 use Rattle.script.proofs.field_number.Reads as field-number-reads
 use Rattle.wp_writer.proofs.invariant.Reads as invariant-reads
 use Rattle.wp_writer.proofs.write_end.Reads as write-end-reads
-use Rattle.formula_writer.proofs.path_entry.Reads as path-entry-reads
+use Rattle.formula_writer.proofs.path.entry.Reads as entry-reads
 use Rattle.formula_writer.proofs.push_kind.Reads as push-kind-reads
 use Rattle.formula_writer.proofs.write_formula.Reads as write-formula-reads
 use Rattle.wp_writer.proofs.write_before.Reads as reads
@@ -55,8 +55,8 @@ claims t = (
   field-reads.Learnt,
   field-number-reads.Asked,
   field-number-reads.Learnt,
-  path-entry-reads.Asked,
-  path-entry-reads.Learnt,
+  entry-reads.Asked,
+  entry-reads.Learnt,
   push-kind-reads.Asked,
   push-kind-reads.Learnt,
   write-formula-reads.Asked,
@@ -161,8 +161,8 @@ module _ (t : ℕ) where
 
   -- ---- an assignment
 
-  path-entry-requires : lts.Need-path-entry-requires (claims t) (at t) reads.Post kept falling
-  path-entry-requires c κs =
+  entry-requires : lts.Need-entry-requires (claims t) (at t) reads.Post kept falling
+  entry-requires c κs =
       let arm = c .before in
       (now arm .course .table, assignment-here _ _ _ _ _ _ (now arm) (more arm) (assign-row _ _ (arm .field .ensures) (c .match .keys2)))
 
@@ -194,7 +194,7 @@ module _ (t : ℕ) where
       let kind = entered .before in
       let arm = kind .before in
       turned _ _ _ (loop arm .loop .inv)
-      (assign-step _ _ _ _ _ _ (now arm) (more arm) (back (entered .path-entry .ok) ∙ entered .path-entry .ensures)
+      (assign-step _ _ _ _ _ _ (now arm) (more arm) (back (entered .entry .ok) ∙ entered .entry .ensures)
       (assign-row _ _ (arm .field .ensures) (kind .match .keys2)) (c .field-number2 .ensures) (back (word .field-number-arg2 .given)))
 
   -- ---- a sequence
@@ -383,7 +383,7 @@ module _ (t : ℕ) where
       (λ c κs. search needs)
       loop-less
       loop-again
-      path-entry-requires
+      entry-requires
       (λ c. search needs)
       slice-set-from-field-number
       (λ c. search needs)

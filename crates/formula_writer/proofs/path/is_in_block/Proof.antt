@@ -1,4 +1,4 @@
--- `formula_writer::is_in_block` meets its contract: where nothing was found, no assignment up to the present place is to v.
+-- `formula_writer::path::is_in_block` meets its contract: where nothing was found, no assignment up to the present place is to v.
 -- Assumes nothing.
 use Prim.Native.Nat.{_+_, _-_, _≤_}
 use borrow.Author.Needs.{needs}
@@ -14,8 +14,8 @@ use mir.Val.{toZ, ofZ}
 use mir.Syntax.{w32}
 use Rattle.script.specs.Laws.{back}
 use Rattle.formula_writer.specs.Search.{Unassigned, Placed, placed, target-read, none, one, joined}
-use Rattle.formula_writer.proofs.is_in_block.Statement.{statement}
-use Rattle.formula_writer.proofs.is_in_block.Tie as tie
+use Rattle.formula_writer.proofs.path.is_in_block.Statement.{statement}
+use Rattle.formula_writer.proofs.path.is_in_block.Tie as tie
 
 abbrev Inv-loop : tie.InvT-loop
 Inv-loop path k target found₀ i₀ found i = (i ≤ 8) × (found ≡ false → Unassigned path target k (k + i))

@@ -1,12 +1,12 @@
--- `formula_writer::pass_blocks` meets its contract: a block without an assignment to v is passed like those behind it. Assumes
+-- `formula_writer::path::pass_blocks` meets its contract: a block without an assignment to v is passed like those behind it. Assumes
 -- nothing.
 use Prim.Native.Nat.{_+_, _-_, _≤_}
 use borrow.Author.Needs.{needs}
 use mathlib.Core.Path.{_≡_}
 use native.Mathlib.Omega.{arith}
 use Rattle.formula_writer.specs.Search.{Unassigned, fewer-entries, none, joined}
-use Rattle.formula_writer.proofs.pass_blocks.Statement.{statement}
-use Rattle.formula_writer.proofs.pass_blocks.Tie as tie
+use Rattle.formula_writer.proofs.path.pass_blocks.Statement.{statement}
+use Rattle.formula_writer.proofs.path.pass_blocks.Tie as tie
 
 abbrev Inv-loop : tie.InvT-loop
 Inv-loop v path j k₀ k = (k ≤ j) × Unassigned path (v .0) k j

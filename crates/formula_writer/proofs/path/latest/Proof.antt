@@ -1,4 +1,4 @@
--- `formula_writer::latest` meets its contract: no assignment that was passed is to the variable. Assumes nothing.
+-- `formula_writer::path::latest` meets its contract: no assignment that was passed is to the variable. Assumes nothing.
 use Prim.Native.Nat.{_-_, _≤_}
 use borrow.Author.Needs.{needs}
 use mathlib.Core.Path.{_≡_, sym, _∙_}
@@ -9,8 +9,8 @@ use mir.Val.{toZ, ofZ}
 use mir.Syntax.{w32}
 use Rattle.script.specs.Laws.{back}
 use Rattle.formula_writer.specs.Search.{Unassigned, Placed, placed, target-read, one, joined}
-use Rattle.formula_writer.proofs.latest.Statement.{statement}
-use Rattle.formula_writer.proofs.latest.Tie as tie
+use Rattle.formula_writer.proofs.path.latest.Statement.{statement}
+use Rattle.formula_writer.proofs.path.latest.Tie as tie
 
 abbrev Inv-loop : tie.InvT-loop
 Inv-loop path j target k₀ k = (k ≤ j) × Unassigned path target k j
