@@ -1,8 +1,8 @@
--- What the writers of expressions and formulas ask, and what is known of a node from it. The measure of a node at row r under
--- j assignments is `base j + (r + 1)`. Assumes nothing.
+-- What the writers of expressions and formulas ask, and what is known from it of an assignment on the path and of a node. The
+-- measure of a node at row r under j assignments is `base j + (r + 1)`. Assumes nothing.
 use Prim.Native.Nat.{ℕ, _+_, _*_, _≤_, _<_}
 use mathlib.Core.Path.{_≡_, _∙_}
-use mathlib.Core.Bool.{true}
+use mathlib.Core.Bool.{Bool, true, _&&_}
 use mathlib.Core.List.{List}
 use native.Mathlib.Omega.{arith as linear}
 use lib.Dec.{T, ltb, ltb→lt}
@@ -25,10 +25,11 @@ use Rattle.theorems.specs.Kinds.{assigned}
 use Rattle.theorems.specs.RowTrees.{expr-is, formula-is}
 use Rattle.theorems.specs.Writing.{Wrote}
 use Rattle.formula_writer.specs.Links.{Links, links-of}
-use Rattle.formula_writer.specs.Paths.{replaceᵉ, replaceᶠ, entry, row-on, under, expr-under, formula-under}
+use Rattle.formula_writer.specs.Paths.{replaceᵉ, replaceᶠ, entry, passed-row, under, expr-under, formula-under}
 
 -- ---- what the writers ask
 
+-- an assignment stands at row r
 pub record Assignment (t : List ℤ) (r : ℕ) : Type 0 where
   pub inside : r < rows t
   pub target : VariableNumber
@@ -37,9 +38,10 @@ pub record Assignment (t : List ℤ) (r : ℕ) : Type 0 where
 
 -- the entry at place i of a path is that of an assignment
 pub record Passed (t path : List ℤ) (i : ℕ) : Type 0 where
-  pub assigns : Assignment t (row-on path i)
-  pub entered : getD path i (pos 0) ≡ entry t (row-on path i)
+  pub assigns : Assignment t (passed-row path i)
+  pub entered : getD path i (pos 0) ≡ entry t (passed-row path i)
 
+-- and so are the first j
 pub record OnPath (t path : List ℤ) (j : ℕ) : Type 0 where
   pub bound : j ≤ length path
   pub passed : (i : ℕ) → i < j → Passed t path i
@@ -57,6 +59,9 @@ base j = j * 4096
 ranged-as : (t : List ℤ) → Accepted t → (r : ℕ) {w : Row} → r < rows t → row t r ≡ w → T (in-range t (fields w))
 ranged-as t ok r h e = rw e at (ok .ranged r h)
 
+first-below : (n limit : ℕ) (rest : Bool) → T (ltb n limit && rest) → n < limit
+first-below n limit rest h = ltb→lt n limit (both (ltb n limit) rest h .0)
+
 -- ---- an assignment
 
 module _ (t : List ℤ) (ok : Accepted t) {r : ℕ} (a : Assignment t r) where
@@ -66,14 +71,10 @@ module _ (t : List ℤ) (ok : Accepted t) {r : ℕ} (a : Assignment t r) where
       let f = assigned (word t r 0) (word t r 1) (word t r 2) (word t r 3) (row-is t r ∙ a .is) in
       a .is ∙ rw (f .0, f .1)
 
-  pub target-small : field-number (word t r 1) < variables
-  target-small =
-      ltb→lt (field-number (word t r 1)) variables (both (ltb (field-number (word t r 1)) variables) true (ranged-as t ok r (a .inside) assignment-is) .0)
-
-  -- so its entry fits a word
-  pub entry-fits : {v : ℕ} → v ≡ field-number (word t r 1) → 2048 * v + r < 2097152
+  -- its entry fits a word
+  pub entry-fits : {v : ℕ} → v ≡ field-number (word t r 1) → 2048 * v + r < 2147483648
   entry-fits h =
-      let v = target-small in
+      let v = first-below (field-number (word t r 1)) variables true (ranged-as t ok r (a .inside) assignment-is) in
       let i = a .inside in
       let s = ok .short in
       omega linear
@@ -82,11 +83,11 @@ module _ (t : List ℤ) (ok : Accepted t) {r : ℕ} (a : Assignment t r) where
 
 module _ {t path : List ℤ} {j r : ℕ} {s : Sort} (g : Ready t path j r s) where
   pub variable-small : {v : VariableNumber} → row t r ≡ Row.Expression (Variable v) → v .0 < variables
-  variable-small {v} e = ltb→lt (v .0) variables (both (ltb (v .0) variables) true (ranged-as t (g .table) r (g .inside) e) .0)
+  variable-small {v} e = first-below (v .0) variables true (ranged-as t (g .table) r (g .inside) e)
 
   pub mark-small : {m : RowNumber} → row t r ≡ Row.Expression (Mark m) → m .0 < 2048
   mark-small {m} e =
-      let b : m .0 < rows t = ltb→lt (m .0) (rows t) (both (ltb (m .0) (rows t)) true (ranged-as t (g .table) r (g .inside) e) .0) in
+      let b = first-below (m .0) (rows t) true (ranged-as t (g .table) r (g .inside) e) in
       let n = g .table .short in
       omega linear
 

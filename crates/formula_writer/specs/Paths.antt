@@ -40,7 +40,7 @@ passing (branch b x y) τ w = τ w
 passing (loop m b i v x) τ w = τ w
 passing (assert f) τ w = τ w
 
--- the entry of the assignment at row r: the row, and beside it the variable that is assigned
+-- the entry of the assignment at row r, which is below 2048: the row, and beside it the variable that is assigned
 abbrev pub entry : List ℤ → ℕ → ℤ
 entry t r = pos (2048 * field-number (word t r 1) + r)
 
@@ -49,16 +49,16 @@ entry t r = pos (2048 * field-number (word t r 1) + r)
 abbrev pub entry-on : List ℤ → ℕ → ℕ
 entry-on path i = field-number (getD path i (pos 0))
 
-abbrev pub row-on : List ℤ → ℕ → ℕ
-row-on path i = entry-on path i % 2048
+abbrev pub passed-row : List ℤ → ℕ → ℕ
+passed-row path i = entry-on path i % 2048
 
-abbrev pub target-on : List ℤ → ℕ → ℕ
-target-on path i = entry-on path i / 2048
+abbrev pub passed-variable : List ℤ → ℕ → ℕ
+passed-variable path i = entry-on path i / 2048
 
 -- what a variable stands for under the first j assignments of the path
 unfoldable pub under : List ℤ → List ℤ → ℕ → ℕ → Expr
 under t path zero = var
-under t path (suc j) = passing (stmt-at t (row-on path j)) (under t path j)
+under t path (suc j) = passing (stmt-at t (passed-row path j)) (under t path j)
 
 -- the words of the expression and of the formula at a row, under the first j assignments of the path
 abbrev pub expr-under : List ℤ → List ℤ → ℕ → ℕ → List ℤ
@@ -93,8 +93,8 @@ module _ (τ : ℕ → Expr) (v : ℕ) (e : Expr) where
     after-formula (join c f g) = rw (after-formula f, after-formula g)
 
 -- W of an assignment, under a path, is what follows it, under the path with the assignment on it
-pub assign-passed : (t path : List ℤ) (j : ℕ) {v : ℕ} {e : Expr} (q : Formula) → stmt-at t (row-on path j) ≡ assign v e
-    → replaceᶠ (under t path j) (wp (stmt-at t (row-on path j)) q) ≡ replaceᶠ (under t path (suc j)) q
+pub assign-passed : (t path : List ℤ) (j : ℕ) {v : ℕ} {e : Expr} (q : Formula) → stmt-at t (passed-row path j) ≡ assign v e
+    → replaceᶠ (under t path j) (wp (stmt-at t (passed-row path j)) q) ≡ replaceᶠ (under t path (suc j)) q
 unfolding under wp
 assign-passed t path j {v} {e} q h = rw h (after-formula (under t path j) v e q)
 

@@ -18,7 +18,7 @@ use Rattle.formula_writer.specs.declared.Replacement.the-variants.{Itsel
 use Rattle.formula_writer.specs.Links.{Linked}
 use Rattle.formula_writer.specs.Nodes.{Ready, base, variable-small, mark-small, links-at, at-expr, at-formula}
 use Rattle.formula_writer.specs.Paths.{replaceᵉ, under, expr-under, formula-under}
-use Rattle.formula_writer.specs.Replacing.{Stands, Replaced}
+use Rattle.formula_writer.specs.Replacing.{Replaced, Stands, stands-itself, stands-value}
 use Rattle.formula_writer.specs.Kinds.{of-kind, Past-expressions, Past-formulas, Operation, operation, operation-small, Compared, comparison, Joined, junction, pair-small}
 
 -- the node of sort s at row r under j assignments, with the words `part`; m is the measure at the start
@@ -82,29 +82,33 @@ module _ {t path whole l₀ l : List ℤ} {m p₀ j r p : ℕ} (g : Turn t path 
 
     module _ {l′ : List ℤ} {w : Replacement} (replaced : Replaced t path v j l p l′ w) where
       pub variable-written : {q : ℕ} → w ≡ Itself q → Wrote l₀ p₀ whole q l′
-      variable-written {q} is = g .words q l′ (spelled (replaced .itself q is))
+      unfolding expr-words
+      variable-written {q} is =
+          let r = replaced .itself q is in
+          g .words q l′ (spelled (rw (stands-itself (g .ready .table) (g .ready .along) (r .0)) (r .1)))
 
       module _ {n : RowNumber} {i : ℕ} (is : w ≡ Value n i) where
-        replacement : (l′ ≡ l) × Stands t path v j (n .0) i
-        replacement = replaced .value n i is
+        same-list : l′ ≡ l
+        same-list = replaced .value n i is .1 .1
+
+        value : Stands t path v j (n .0) i
+        value = let r = replaced .value n i is in stands-value (g .ready .table) (g .ready .along) (r .0) (r .1 .0)
 
         pub value-falls : base i + (n .0 + 1) < base j + (r + 1)
         value-falls =
-            let x = replacement .1 in
-            let earlier = x .earlier in
-            let inside = x .ready .inside in
-            let short = x .ready .table .short in
+            let earlier = value .earlier in
+            let inside = value .ready .inside in
+            let short = g .ready .table .short in
             omega linear
 
         pub value-turn : Next i (n .0) p l′
         value-turn =
-            let x = replacement .1 in
             let falls = value-falls in
             let within = g .within in
             record {
-              ready = x .ready;
+              ready = value .ready;
               within = omega linear;
-              words = λ q l″ w. g .words q l″ (spelled (rw (x .value) (rw (replacement .0) at w)));
+              words = λ q l″ w. g .words q l″ (spelled (rw (value .is) (rw same-list at w)));
             }
 
   -- ---- a negation

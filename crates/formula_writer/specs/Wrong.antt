@@ -39,13 +39,16 @@ none-claimed f = f .none-after .other 1 (omega linear) (omega linear) refl
 another-variable : Latest passed 1 3 3 → ⊥
 another-variable f = let e = f .there 2 refl in omega linear
 
--- ---- the row v3 := the value at row 9, with the number 0
+-- ---- v3 is assigned the value at row 9, at row 1
 
 abbrev assigned : List ℤ
-assigned = pos 33 ∷ pos 3 ∷ pos 9 ∷ pos 0 ∷ []
+assigned = pos 16 ∷ pos 0 ∷ pos 0 ∷ pos 0 ∷ pos 33 ∷ pos 3 ∷ pos 9 ∷ pos 0 ∷ []
 
-variable-lost : entry assigned 0 ≡ pos 0 → ⊥
+variable-lost : entry assigned 1 ≡ pos 1 → ⊥
 variable-lost e = let i = pos-inj e in omega linear
 
-value-entered : entry assigned 0 ≡ pos 18432 → ⊥
+row-lost : entry assigned 1 ≡ pos 6144 → ⊥
+row-lost e = let i = pos-inj e in omega linear
+
+value-entered : entry assigned 1 ≡ pos 18433 → ⊥
 value-entered e = let i = pos-inj e in omega linear

@@ -10,7 +10,6 @@ use script::RowNumber;
 use script::VariableNumber;
 use script::field;
 use script::kinds;
-ghost use mathlib.Core.Path.{_≡_};
 ghost use mathlib.Core.List.{[], _∷_};
 ghost use Prim.Native.Nat.{_<_};
 ghost use lib.IntN.{pos};
@@ -81,8 +80,8 @@ enum Replacement {
     Value(RowNumber, usize),
 }
 
-// The step for an assignment: where variable v is to be written, under the first j assignments of the path, the value of the
-// latest to it comes in its place. It reads the rows and the path, writes in the list alone, and keeps nothing.
+// The step for an assignment (02, P3): where variable v is to be written, under the first j assignments of the path, the value
+// of the latest to it comes in its place.
 fn replace_variable(
     table: &[i32],
     v: VariableNumber,
@@ -100,8 +99,8 @@ fn replace_variable(
         return Replacement::Itself(push_variable(list, at, v));
     }
     let i = k - 1;
-    let r = path[i] as usize % 2048;
-    Replacement::Value(RowNumber(field(table, r, 2)), i)
+    let r = path::row_at(path, i);
+    Replacement::Value(RowNumber(field(table, r.0, 2)), i)
 }
 
 // Writes the expression at row r, under the first j assignments of the path.

@@ -6,8 +6,6 @@ use mathlib.Core.List.{List, [], _∷_}
 use native.Mathlib.Omega.{arith as linear}
 use lib.IntN.{ℤ, pos}
 use lib.ListN.{length, getD}
-use mir.Val.{SFits}
-use mir.Syntax.{w32}
 use Rattle.script.specs.declared.Sort.{Sort}
 use Rattle.script.specs.declared.Sort.the-variants as Sort
 use Rattle.script.specs.declared.Rule.{Rule}
@@ -27,10 +25,10 @@ use Rattle.following.specs.Follow.{Followed}
 use Rattle.following.specs.Course.{next}
 use Rattle.following.specs.Parts.{not-end, alone, after-alone, on-from}
 use Rattle.wp_writer.specs.Loops.{Loop, guard-row, invariant-row, variant-row, body-row, guard-at, invariant-at, variant-at, body-at, while-is, body-linked, Script, pre-row, statement-row, script-is, statement-linked}
-use Rattle.wp_writer.specs.Ends.{end-formula, Ended, script, body, end-decreased, words-under, ready-at}
+use Rattle.wp_writer.specs.Ends.{end-formula, script, body, end-decreased, words-under, ready-at}
 use Rattle.wp_writer.specs.Walked.{Before, before-end, Walked}
 use Rattle.line_writer.specs.declared.Progress.{Progress}
-use Rattle.line_writer.specs.Listed.{Listed, listed-full}
+use Rattle.line_writer.specs.Listed.{Listed}
 use Rattle.line_writer.specs.Spelled.{Finished, line-finished}
 
 -- ---- the conditions of the loop at row k, met with what follows it and the formula at the end; and of the script at row r

@@ -1,10 +1,10 @@
 -- The rows of the parts of a loop and of a script, by their words, and what is known of them: their sorts, and the loop's tree
 -- (`loop-is`). Assumes nothing.
 use Prim.Native.Nat.{ℕ, _+_, _*_, _<_}
-use mathlib.Core.Path.{_≡_, refl, sym, ap, _∙_}
+use mathlib.Core.Path.{_≡_, refl, ap, _∙_}
 use mathlib.Core.List.{List}
 use native.Mathlib.Omega.{arith as linear}
-use lib.IntN.{ℤ, pos}
+use lib.IntN.{ℤ}
 use lib.ListN.{length}
 use Rattle.script.specs.declared.StatementRow.the-variants.{While}
 use Rattle.script.specs.declared.Row.{Row}

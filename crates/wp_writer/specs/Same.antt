@@ -1,4 +1,4 @@
--- `Same n` says that two runs of rows agree below n, and what depends on the first n rows of a run only. Assumes nothing.
+-- `Same n` says that two paths agree below n, and what depends on the first n entries of a path only. Assumes nothing.
 use Prim.Native.Nat.{ℕ, zero, suc, _≤_, _<_}
 use mathlib.Core.Path.{_≡_, refl, _∙_}
 use mathlib.Core.List.{List}

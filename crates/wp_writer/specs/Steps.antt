@@ -22,7 +22,7 @@ use Rattle.script.specs.Rows.{field-number, row, rows, word}
 use Rattle.script.specs.Trees.{stmt-node, expr-at, formula-at, stmt-at}
 use Rattle.theorems.specs.Counting.{eq-or-lt}
 use Rattle.theorems.specs.Writing.{Wrote, then, wrote-as}
-use Rattle.formula_writer.specs.Paths.{replaceᶠ, entry, row-on, formula-under, assign-passed}
+use Rattle.formula_writer.specs.Paths.{replaceᶠ, entry, passed-row, formula-under, assign-passed}
 use Rattle.formula_writer.specs.Links.{Linked}
 use Rattle.formula_writer.specs.Nodes.{Assignment, Passed, OnPath, Ready}
 use Rattle.following.specs.Course.{left, next, stands, course-at, left-bounded}
@@ -34,7 +34,7 @@ use Rattle.wp_writer.specs.Same.{same-refl, same-set, under-same, along-
 use Rattle.wp_writer.specs.Walked.{Before, before-end, Step}
 
 -- the entry of row s is stored at place n of a path: there stands the row
-entry-stored : (t xs : List ℤ) (n s : ℕ) {z : ℤ} → s < 2048 → n < length xs → z ≡ entry t s → row-on (set xs n z) n ≡ s
+entry-stored : (t xs : List ℤ) (n s : ℕ) {z : ℤ} → s < 2048 → n < length xs → z ≡ entry t s → passed-row (set xs n z) n ≡ s
 entry-stored t xs n s {z} small h e = rw (getD-set-same xs n z (pos 0) h, e) (omega linear)
 
 module _ (t follow path : List ℤ) (j end s : ℕ) (g : Before t follow path j end s) (more : s ≡ 2048 → ⊥) where
@@ -133,7 +133,7 @@ module _ (t follow path : List ℤ) (j end s : ℕ) (g : Before t follow path j 
   assignment-here {v} {x} r = record { inside = in-rows; target = v; value = x; is = r }
 
   module _ {z : ℤ} (is : z ≡ entry t s) {v : VariableNumber} {x : RowNumber} (r : row t s ≡ Row.Statement (Assign v x)) where
-    stored : row-on (set path j z) j ≡ s
+    stored : passed-row (set path j z) j ≡ s
     stored = let h = in-rows in let k = g .course .table .short in entry-stored t path j s (omega linear) assign-room is
 
     passed-here : Passed t (set path j z) j

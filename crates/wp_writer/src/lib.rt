@@ -6,7 +6,6 @@ use script::RowNumber;
 use script::field;
 use script::kinds;
 ghost use mathlib.Core.Path.{_≡_};
-ghost use Rattle.script.specs.Rows.{field-number, word};
 ghost use Rattle.theorems.specs.Writing.{Wrote};
 ghost use Rattle.wp_writer.specs.Loops.{Loop, invariant-row, variant-row};
 ghost use Rattle.wp_writer.specs.Ends.{end-formula, EndReady, words-under};

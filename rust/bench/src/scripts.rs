@@ -122,7 +122,7 @@ fn assignments_to_others(arena: &mut Arena, count: i32) -> Vec<Node> {
     (0..count).map(assign_one).collect()
 }
 
-/// v0 := v0 + v0 + .., so many times.
+/// v0 := v0 + v0 + .., with so many v0.
 fn sum_of_itself(arena: &mut Arena, reads: i32) -> Node {
     let mut sum = arena.variable(0);
     for _ in 1..reads {

@@ -171,36 +171,45 @@ fn every_small_change_of_a_table() {
     );
 }
 
-/// So many assignments to other variables, one to v0 after some of them, and a
-/// postcondition that reads v0.
-fn assigned_after(some: usize, others: usize) -> Vec<i32> {
+/// Assigns to variables, one after the other, and reads v0 and v1023 after them
+/// all.
+fn assignments_to(targets: &[i32]) -> Input {
     let mut arena = Arena::default();
-    let read = arena.variable(0);
     let precondition = arena.leaf(16);
-    let targets = (0..others).map(|other| [1, 127, 256, 1_023][other % 4]);
-    let mut targets: Vec<i32> = targets.collect();
-    targets.insert(some, 0);
     let mut statement = arena.leaf(32);
-    for (value, target) in targets.into_iter().enumerate() {
+    for (value, &target) in targets.iter().enumerate() {
         let value = arena.constant(value as i32);
         let assign = arena.assign(target, value);
         statement = arena.two(34, statement, assign);
     }
-    let zero = arena.constant(0);
-    let postcondition = arena.two(20, read, zero);
+    let (first, second) = (arena.variable(0), arena.variable(1_023));
+    let postcondition = arena.two(20, first, second);
     arena.three(48, precondition, statement, postcondition);
-    arena.words(Order::Newest, &mut Prng::new(1))
+    Input::Table {
+        words: arena.words(Order::Newest, &mut Prng::new(1)),
+        list_len: 20,
+        scratch_len: 40,
+    }
 }
 
+/// On paths of all lengths, with the latest assignment to v0 at every place, one
+/// before it at every place, and none.
 #[test]
 fn every_place_of_the_latest_assignment() {
-    compare_all((0..50).flat_map(|others| {
-        (0..=others).map(move |some| Input::Table {
-            words: assigned_after(some, others),
-            list_len: 20,
-            scratch_len: 40,
+    let others = |count: usize| [1, 127, 256, 1_023].into_iter().cycle().take(count);
+    let lengths = 0..40;
+    let without = lengths.clone().map(|count| others(count).collect());
+    let with_two = lengths.flat_map(|count| {
+        let places = move |latest| (0..=latest).map(move |earlier| (earlier, latest));
+        (0..=count).flat_map(places).map(move |(earlier, latest)| {
+            let mut targets: Vec<i32> = others(count).collect();
+            targets.insert(latest, 0);
+            targets.insert(earlier, 0);
+            targets
         })
-    }));
+    });
+    let paths = without.chain(with_two);
+    compare_all(paths.map(|targets: Vec<i32>| assignments_to(&targets)));
 }
 
 /// A plan as the list's lines, a refusal as its number and row.

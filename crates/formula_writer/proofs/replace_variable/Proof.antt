@@ -1,15 +1,9 @@
--- `formula_writer::replace_variable` meets its contract: the latest assignment to the variable says what stands for it. Assumes
--- nothing.
-use Prim.Native.Nat.{_-_}
+-- `formula_writer::replace_variable` meets its contract: what the latest assignment to the variable says. Assumes nothing.
+use Prim.Native.Nat.{_-_, _<_}
 use borrow.Author.Needs.{needs}
 use native.Mathlib.Omega.{arith}
-use lib.IntN.{pos}
-use lib.ListN.{getD}
-use mir.Val.{toZ, ofZ}
-use mir.Syntax.{w32}
-use Rattle.script.specs.Laws.{back}
-use Rattle.formula_writer.specs.Search.{Placed, placed}
-use Rattle.formula_writer.specs.Replacing.{entries, in-table, value-read, left-itself, left-value}
+use Rattle.formula_writer.specs.Search.{fewer-entries}
+use Rattle.formula_writer.specs.Replacing.{replaced-itself, replaced-value, entries, in-table}
 use Rattle.formula_writer.proofs.replace_variable.Statement.{statement}
 use Rattle.formula_writer.proofs.replace_variable.Tie as tie
 
@@ -21,37 +15,29 @@ returns c =
     let pushed = c .before in
     let none = pushed .before .before in
     let found = none .before in
-    let start = found .before in
-    left-itself (start .pre .0) (start .pre .1) (found .latest .ensures) _ (none .if1 .taken) (pushed .push-variable .ensures)
+    replaced-itself _ (found .latest .ensures) (none .if1 .taken) (pushed .push-variable .ensures)
 
 -- where an assignment to it was found
+before : (c : tie.Else1) → c .before .latest .result - 1 < c .before .before .args .j
+before c = let within = c .before .latest .ensures .within in omega arith
 
-entry : (c : tie.After-r)
-    → let found = c .before .before in
-    let path = found .before .args .path .now in
-    let i = found .latest .result - 1 in
-    Placed path i (toZ w32 (ofZ w32 (getD path i (pos 0))))
-entry c =
-    let found = c .before .before in
-    let start = found .before in
-    let within = found .latest .ensures .within in
-    placed _ (entries (start .pre .0) (start .pre .1)) (omega arith) (back (c .r .given))
+row-at-requires : tie.Need-row-at-requires
+row-at-requires c κs =
+    let start = c .before .before in
+    let h = before c in
+    fewer-entries _ (omega arith) (entries (start .pre .0) (start .pre .1))
 
 field-requires : tie.Need-field-requires
 field-requires c κs =
-    let found = c .before .before in
-    let start = found .before in
-    let within = found .latest .ensures .within in
-    (in-table (start .pre .0) (start .pre .1) _ (omega arith) (entry c), omega arith)
+    let some = c .before in
+    let start = some .before .before in
+    (rw (c .row-at .ensures) (in-table (start .pre .0) (start .pre .1) _ (before some)), omega arith)
 
 returns-2 : tie.Need-returns-2
 returns-2 c =
     let read = c .before in
     let found = read .before .before in
-    let start = found .before in
-    let within = found .latest .ensures .within in
-    left-value (start .pre .0) (start .pre .1) (found .latest .ensures) _ (omega arith) _
-    (value-read (start .pre .0) (start .pre .1) _ (omega arith) (entry read) (c .field .ensures))
+    replaced-value _ _ (found .latest .ensures) (omega arith) (rw (read .row-at .ensures) at (c .field .ensures))
 
 pub replace-variable-spec : {M : Type 1} → statement M
 replace-variable-spec =
@@ -62,8 +48,6 @@ replace-variable-spec =
     (λ c. search needs)
     returns
     (λ c. search needs)
-    (λ c. search needs)
-    (λ c. search needs)
-    (λ c. (entry c .plain, omega (arith, entry c)))
+    row-at-requires
     field-requires
     returns-2)

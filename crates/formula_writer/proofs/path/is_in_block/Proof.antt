@@ -1,52 +1,40 @@
--- `formula_writer::path::is_in_block` meets its contract: where nothing was found, no assignment up to the present place is to v.
--- Assumes nothing.
+-- `formula_writer::path::is_in_block` meets its contract: what was found up to the present place. Assumes nothing.
 use Prim.Native.Nat.{_+_, _-_, _≤_}
 use borrow.Author.Needs.{needs}
-use mathlib.Core.Bool.{true, false}
 use mathlib.Core.Logic.{⊎-elim}
-use mathlib.Core.Path.{_≡_, sym, subst, _∙_}
-use native.Mathlib.Nat.{add-zero}
+use mathlib.Core.Path.{_≡_, sym, _∙_}
 use native.Mathlib.Omega.{arith}
-use lib.Dec.{T}
-use lib.IntN.{pos}
-use lib.ListN.{getD}
-use mir.Val.{toZ, ofZ}
-use mir.Syntax.{w32}
-use Rattle.script.specs.Laws.{back}
-use Rattle.formula_writer.specs.Search.{Unassigned, Placed, placed, target-read, none, one, joined}
+use Rattle.formula_writer.specs.Search.{Between, fewer-entries, between-none, between-hit, between-miss}
 use Rattle.formula_writer.proofs.path.is_in_block.Statement.{statement}
 use Rattle.formula_writer.proofs.path.is_in_block.Tie as tie
 
 abbrev Inv-loop : tie.InvT-loop
-Inv-loop path k target found₀ i₀ found i = (i ≤ 8) × (found ≡ false → Unassigned path target k (k + i))
+Inv-loop path k target found₀ i₀ found i = (i ≤ 8) × Between path target k (k + i) found
 
 abbrev μ-loop : tie.MeasureT-loop
 μ-loop path k target found₀ i₀ found i = 8 - i
 
 loop-holds : tie.Need-loop-holds Inv-loop μ-loop
-loop-holds c = (omega arith, λ e. rw add-zero (none _ _ _))
+loop-holds c = (omega arith, between-none _ _ _ _ (omega arith))
 
-entry : (c : tie.After-if12 Inv-loop μ-loop)
-    → let loop = c .before .before in
-    let start = loop .before .before in
-    let at = start .args .k + loop .loop .i in
-    Placed (start .args .path .now) at (toZ w32 (ofZ w32 (getD (start .args .path .now) at (pos 0))))
-entry c = let loop = c .before .before in placed _ (loop .before .before .pre .0) (omega arith) (back (c .if12 .given))
+target-at-requires : tie.Need-target-at-requires Inv-loop μ-loop
+target-at-requires c κs = let start = c .before .before .before in fewer-entries _ (omega arith) (start .pre .0)
 
 loop-again : tie.Need-loop-again Inv-loop μ-loop
 loop-again c =
-    let loop = c .before .before .before in (
+    let read = c .before in
+    let loop = read .before .before in (
       omega arith,
-      λ e. ⊎-elim (λ h. let z : true ≡ false = sym (h .1) ∙ e in absurd (subst T z tt))
-          (λ h. joined (loop .loop .inv .1 (sym (h .1) ∙ e)) (one _ _ _ _ (omega arith) (λ q. h .0 .left (target-read (entry (c .before)) ∙ q))))
+      ⊎-elim (λ h. rw (h .1) (between-hit _ _ _ _ _ (omega arith) (omega arith) (sym (read .target-at .ensures) ∙ h .0 .taken)))
+          (λ h. rw (h .1) (between-miss _ (omega arith) (λ e. h .0 .left (read .target-at .ensures ∙ e)) (loop .loop .inv .1)))
           (c .if1 .came),
     )
 
 returns : tie.Need-returns Inv-loop μ-loop
-returns c e =
+returns c =
     let loop = c .before in
     let n : loop .loop .i ≡ 8 = omega arith in
-    rw n at (loop .loop .inv .1 e)
+    rw n at (loop .loop .inv .1)
 
 pub is-in-block-spec : {M : Type 1} → statement M
 is-in-block-spec =
@@ -57,9 +45,7 @@ is-in-block-spec =
     (λ c. search needs)
     loop-holds
     (λ c. search needs)
-    (λ c. search needs)
-    (λ c. search needs)
-    (λ c. (entry c .plain, omega (arith, entry c)))
+    target-at-requires
     (λ c. search needs)
     (λ c. search needs)
     loop-again

@@ -3,12 +3,7 @@ use Prim.Native.Nat.{_-_, _≤_}
 use borrow.Author.Needs.{needs}
 use mathlib.Core.Path.{_≡_, sym, _∙_}
 use native.Mathlib.Omega.{arith}
-use lib.IntN.{pos}
-use lib.ListN.{getD}
-use mir.Val.{toZ, ofZ}
-use mir.Syntax.{w32}
-use Rattle.script.specs.Laws.{back}
-use Rattle.formula_writer.specs.Search.{Unassigned, Placed, placed, target-read, one, joined}
+use Rattle.formula_writer.specs.Search.{Unassigned, fewer-entries, unassigned-one, unassigned-both}
 use Rattle.formula_writer.proofs.path.latest.Statement.{statement}
 use Rattle.formula_writer.proofs.path.latest.Tie as tie
 
@@ -19,15 +14,10 @@ abbrev μ-loop : tie.MeasureT-loop
 μ-loop path j target k₀ k = k
 
 loop-holds : tie.Need-loop-holds Inv-loop μ-loop
-loop-holds c = c .pass-blocks .ensures
+loop-holds c = (c .pass-blocks .ensures .within, c .pass-blocks .ensures .none-after)
 
-entry : (c : tie.After-if12 Inv-loop μ-loop)
-    → let loop = c .before .before in
-    let path = loop .before .before .before .args .path .now in
-    Placed path (loop .loop .k - 1) (toZ w32 (ofZ w32 (getD path (loop .loop .k - 1) (pos 0))))
-entry c =
-    let loop = c .before .before in
-    placed _ (loop .before .before .before .pre .0) (omega arith) (back (c .if12 .given))
+target-at-requires : tie.Need-target-at-requires Inv-loop μ-loop
+target-at-requires c κs = let start = c .before .before .before .before in fewer-entries _ (omega arith) (start .pre .0)
 
 returns : tie.Need-returns Inv-loop μ-loop
 returns c =
@@ -36,14 +26,16 @@ returns c =
     record {
       within = loop .loop .inv .0;
       none-after = loop .loop .inv .1;
-      there = λ i e. let n : i ≡ loop .loop .k - 1 = omega arith in rw n (sym (target-read (entry read)) ∙ c .if1 .taken);
+      there = λ i e. let n : i ≡ loop .loop .k - 1 = omega arith in rw n (sym (read .target-at .ensures) ∙ c .if1 .taken);
     }
 
 loop-again : tie.Need-loop-again Inv-loop μ-loop
 loop-again c =
     let read = c .before in
-    let loop = read .before .before in
-    (omega arith, joined (one _ _ _ _ (omega arith) (λ e. c .if1 .left (target-read (entry read) ∙ e))) (loop .loop .inv .1))
+    let loop = read .before .before in (
+      omega arith,
+      unassigned-both (unassigned-one _ _ _ _ (omega arith) (λ e. c .if1 .left (read .target-at .ensures ∙ e))) (loop .loop .inv .1),
+    )
 
 returns-2 : tie.Need-returns-2 Inv-loop μ-loop
 returns-2 c =
@@ -61,9 +53,7 @@ latest-spec =
     (λ c κs. c .before .pre)
     loop-holds
     (λ c. search needs)
-    (λ c. search needs)
-    (λ c. search needs)
-    (λ c. (entry c .plain, omega (arith, entry c)))
+    target-at-requires
     returns
     (λ c. search needs)
     (λ c. search needs)
