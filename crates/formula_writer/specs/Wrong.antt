@@ -1,12 +1,12 @@
 -- What is no writing: a word left out, a place not moved on, a word written past the first free one, a full list that says it
--- had room; what is not the latest assignment to a variable; what is no entry of a path. Assumes nothing.
+-- had room; what is not the latest assignment to a variable, nor its row; what is no entry of a path. Assumes nothing.
 use mathlib.Core.Path.{_≡_, refl}
 use mathlib.Core.List.{List, [], _∷_}
 use native.Mathlib.Omega.{arith as linear}
 use lib.IntN.{ℤ, pos}
 use Rattle.script.specs.Laws.{pos-inj}
 use Rattle.theorems.specs.Writing.{Wrote, fitted, stopped}
-use Rattle.formula_writer.specs.Paths.{entry}
+use Rattle.formula_writer.specs.Paths.{entry, passed-row}
 use Rattle.formula_writer.specs.Search.{Latest}
 
 word-left-out : Wrote (pos 0 ∷ []) 0 (pos 7 ∷ []) 1 (pos 0 ∷ []) → ⊥
@@ -38,6 +38,12 @@ none-claimed f = f .none-after .other 1 (omega linear) (omega linear) refl
 
 another-variable : Latest passed 1 3 3 → ⊥
 another-variable f = let e = f .there 2 refl in omega linear
+
+variable-left-in : passed-row passed 1 ≡ 2054 → ⊥
+variable-left-in e = omega linear
+
+variable-for-row : passed-row passed 1 ≡ 1 → ⊥
+variable-for-row e = omega linear
 
 -- ---- v3 is assigned the value at row 9, at row 1
 
