@@ -29,7 +29,7 @@ pub fn row_at(path: &[i32], i: usize) -> RowNumber
     RowNumber(path[i] as usize % 2048)
 }
 
-// The number of the variable that it assigns, in 32 bits, of which a comparison of several at once holds more.
+// The number of the variable that it assigns; in 32 bits, so that a comparison of several at once takes twice as many.
 fn target_at(path: &[i32], i: usize) -> u32
     requires { ⌜ Entries (now path) (i + 1) ⌝ }
     ensures { λ n. ⌜ n ≡ passed-variable (now (path .entry)) i ⌝ }
