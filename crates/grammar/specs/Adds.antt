@@ -1,5 +1,6 @@
 -- Reading only adds rows: each token that is taken leaves the rows written before as they are (`step-adds`, `run-adds`), and no unary
--- minus ever waits for a numeral (`Settled`). From the laws of `Written`. Assumes nothing.
+-- minus ever waits for a numeral (`Settled`). Over a text's tokens too, where the semicolon that `post` gives up has added none
+-- (`take-adds`, `read-adds`). From the laws of `Written`. Assumes nothing.
 use Prim.Native.Nat.{ℕ}
 use mathlib.Core.Path.{_≡_, refl, sym, ap, _∙_, subst}
 use mathlib.Core.Option.{Option, none, some}
@@ -7,14 +8,17 @@ use mathlib.Core.List.{List, [], _∷_, _++_, append-assoc, append-nil}
 use mathlib.Core.Bool.{Bool, true, false, cond}
 use lib.Dec.{leb}
 use Rattle.script.specs.Listing.{guarded}
-use Rattle.grammar.specs.Tokens.{Due, takes, begins, same-sort, Infix, infix-makes, Place, next-place, leaf-makes, opening-makes, opening-due, Ending, ending, same-ending, ends, Token, Beginning, leaf-beginning, opening-beginning, no-beginning, beginning}
-use Rattle.grammar.specs.Grammar.{Phrase, Chain, place, sort}
-use Rattle.grammar.specs.Automaton.{infix-after, Frame, pending, open-at, wants, holds, apply, hole, Mode, operand, after, due, State, at, Reduced, reduce, reduced, token-binds, infix-at, go-on, shift, close, advance, leaf-on, begin, opening-frame, pushed, is-due, step-at, step, run}
-use Rattle.grammar.specs.Meaning.{Quad}
-use Rattle.grammar.specs.Written.{stack-rows, part-rows, written, written-in, pop-writes, leaf-writes, No-body, advance-writes, shift-writes, push-writes, Apart-on, Settled, apart-apply, apart-leaf, apart-advance}
+use Rattle.grammar.specs.Tokens.{Sort, statement, constant-leaf, number-leaf, variable-leaf, truth-leaf, skip-leaf, Due, takes, begins, same-sort, Infix, semicolon, connective, relation, operator, infix-makes, Place, next-place, leaf-makes, opening-makes, opening-due, Ending, ending, same-ending, ends, Token, Beginning, leaf-beginning, opening-beginning, no-beginning, beginning}
+use Rattle.grammar.specs.Grammar.{Phrase, leaf, before, between, closed, Chain, place, sort}
+use Rattle.grammar.specs.Automaton.{prefix, infix-after, Frame, pending, open-at, wants, holds, apply, hole, Mode, operand, after, due, State, at, Reduced, reduce, reduced, token-binds, infix-at, go-on, shift, close, advance, leaf-on, begin, opening-frame, pushed, is-due, step-at, step, run}
+use Rattle.grammar.specs.Meaning.{constant-in, Quad}
+use Rattle.grammar.specs.Written.{stack-rows, part-rows, written, written-in, pop-writes, leaf-writes, No-body, advance-writes, shift-writes, push-writes, Apart-on, Settled, apart-none, apart-apply, apart-leaf, apart-advance}
 use Rattle.grammar.specs.InRange.{next-no-body}
-use Rattle.grammar.specs.Tables.{none-is-not, some-inj, held}
+use Rattle.grammar.specs.Tables.{false-is-not, none-is-not, some-inj, held}
 use Rattle.grammar.specs.Sound.{went-on}
+use Rattle.grammar.specs.Contexts.{Good-stack, Reads}
+use Rattle.grammar.specs.Text.{is-post, post, at-post, take, read}
+use Rattle.grammar.specs.TextRead.{Came, take-keeps}
 
 -- rows, and some more
 pub record Adds (rs qs : List Quad) : Type 0 where
@@ -29,9 +33,9 @@ adds-then {ps} {qs} {rs} a b =
     record { new = a .new ++ b .new; is = b .is ∙ ap (λ l. l ++ b .new) (a .is) ∙ append-assoc ps (a .new) (b .new) }
 
 -- what a move leaves
-record Moved (rs : List Quad) (s : State) : Type 0 where
-  adds : Adds rs (written-in s)
-  settled : Settled (s .mode) (s .stack)
+pub record Moved (rs : List Quad) (s : State) : Type 0 where
+  pub adds : Adds rs (written-in s)
+  pub settled : Settled (s .mode) (s .stack)
 
 record Left-over (rs : List Quad) (r : Reduced) : Type 0 where
   adds : Adds rs (part-rows (r .got) (r .rest))
@@ -92,7 +96,7 @@ begin-adds (opening-beginning o) fs s e =
     moved (pushed d f fs) (adds-none (push-writes d (hole fs) o fs)) (settled-push d f fs)
     (held (begins (hole fs) (opening-makes o)) (some (pushed d f fs)) e .1)
 
-step-adds : (m : Mode) (fs : List Frame) (t : Token) (s : State) → Settled m fs → step-at m fs t ≡ some s → Moved (written m fs) s
+pub step-adds : (m : Mode) (fs : List Frame) (t : Token) (s : State) → Settled m fs → step-at m fs t ≡ some s → Moved (written m fs) s
 step-adds operand fs t s h e = begin-adds (beginning t (hole fs)) fs s e
 step-adds (after x) fs t s h e =
     let r = went-on (reduce (token-binds t) x fs) (go-on t) e in
@@ -109,3 +113,46 @@ run-adds (t ∷ ts) s r h e =
     let m = step-adds (s .mode) (s .stack) t (k .0) h (k .1) in
     let n = run-adds ts (k .0) r (m .settled) (k .2) in
     (adds-then (m .adds) (n .0), n .1)
+
+-- ---- over the tokens of a text
+
+no-constant : (x : Phrase) → sort x ≡ statement → constant-in x ≡ none
+no-constant (leaf (constant-leaf n)) e = false-is-not (ap (λ (s : Sort). same-sort s statement) e)
+no-constant (leaf (number-leaf n)) e = refl
+no-constant (leaf (variable-leaf v)) e = refl
+no-constant (leaf (truth-leaf b)) e = refl
+no-constant (leaf skip-leaf) e = refl
+no-constant (before p x) e = refl
+no-constant (between o x y) e = refl
+no-constant (closed c x) e = refl
+
+post-adds : (m : Mode) (fs : List Frame) (us : List Token) (s : State) → Reads m fs us → at-post m fs ≡ some s → Moved (written m fs) s
+unfolding stack-rows Good-stack
+post-adds operand [] us s h e = none-is-not e
+post-adds operand (pending (prefix p) ∷ fs) us s h e = none-is-not e
+post-adds operand (pending (infix-after semicolon x) ∷ fs) us s h e =
+    step-adds (after x) fs post s (apart-none fs x (no-constant x (h .0 .1 .0 .1))) e
+post-adds operand (pending (infix-after (connective c) x) ∷ fs) us s h e = none-is-not e
+post-adds operand (pending (infix-after (relation r) x) ∷ fs) us s h e = none-is-not e
+post-adds operand (pending (infix-after (operator o) x) ∷ fs) us s h e = none-is-not e
+post-adds operand (open-at i c ∷ fs) us s h e = none-is-not e
+post-adds (after x) fs us s h e = none-is-not e
+post-adds (due d f) fs us s h e = none-is-not e
+
+pub take-adds : (s : State) (t : Token) (ts : List Token) (r : State) → Came s ts → Settled (s .mode) (s .stack) → take s t ≡ some r
+    → Moved (written-in s) r
+take-adds s t ts r h k e = at-test (is-post t) e
+  where
+    at-test : (b : Bool) → cond b (at-post (s .mode) (s .stack)) (step s t) ≡ some r → Moved (written-in s) r
+    at-test true q = post-adds (s .mode) (s .stack) (h .through) r (h .reads) q
+    at-test false q = step-adds (s .mode) (s .stack) t r k q
+
+pub read-adds : (us : List Token) (s : State) (ts : List Token) (r : State) → Came s ts → Settled (s .mode) (s .stack) → read s us ≡ some r
+    → Moved (written-in s) r
+unfolding read
+read-adds [] s ts r h k e = moved s (adds-none refl) k e
+read-adds (t ∷ us) s ts r h k e =
+    let w = went-on (take s t) (λ q. read q us) e in
+    let m = take-adds s t ts (w .0) h k (w .1) in
+    let n = read-adds us (w .0) (ts ++ (t ∷ [])) r (take-keeps s t ts (w .0) h (w .1)) (m .settled) (w .2) in
+    record { adds = adds-then (m .adds) (n .adds); settled = n .settled }

@@ -8,12 +8,11 @@ use mathlib.Core.List.{List, [], _∷_, _++_, append-assoc, append-nil}
 use mathlib.Core.Bool.{Bool, true, false, cond, _&&_}
 use native.Mathlib.Omega.{arith as linear}
 use lib.Dec.{leb, ltb}
-use borrow.Author.Tests.{leb-true}
 use Rattle.script.specs.Listing.{guarded}
-use Rattle.grammar.specs.Tokens.{Sort, semicolon, connective, relation, operator, place-takes, place-makes, number, expression, statement, script, same-sort, Hole, only, either, formula, takes, begins, Infix, infix-makes, Prefix, not-prefix, minus-prefix, assert-prefix, assign-prefix, Place, in-group, in-mark, when-first, when-second, when-third, if-guard, if-then, if-else, while-guard, while-keep, while-fall, while-body, script-pre, script-body, script-post, next-place, tight, Token, numeral, variable, truth-word, skip-word, not-word, assert-word, becomes, infix-word, form-word, closer-word, Leaf, constant-leaf, number-leaf, variable-leaf, truth-leaf, skip-leaf, leaf-makes, leaf-word, Opening, prefix-opening, form-opening, opening-makes, opening-word, opening-due, Due, Ending, ends, ending, same-ending, Beginning, leaf-beginning, opening-beginning, no-beginning, beginning}
-use Rattle.grammar.specs.Grammar.{Phrase, leaf, before, between, closed, Chain, begun, more, place, words, sort, Good}
+use Rattle.grammar.specs.Tokens.{semicolon, connective, relation, operator, number, expression, statement, script, same-sort, Hole, only, either, formula, takes, begins, Infix, infix-makes, Prefix, not-prefix, minus-prefix, assert-prefix, assign-prefix, Place, in-group, in-mark, when-first, when-second, when-third, if-guard, if-then, if-else, while-guard, while-keep, while-fall, while-body, script-pre, script-body, script-post, next-place, tight, Token, numeral, variable, truth-word, skip-word, not-word, assert-word, becomes, infix-word, form-word, closer-word, Leaf, constant-leaf, number-leaf, variable-leaf, truth-leaf, skip-leaf, leaf-makes, leaf-word, Opening, prefix-opening, form-opening, opening-makes, opening-word, opening-due, Due, Ending, ends, ending, same-ending, Beginning, leaf-beginning, opening-beginning, no-beginning, beginning}
+use Rattle.grammar.specs.Grammar.{Phrase, leaf, before, between, closed, Chain, begun, more, place, words, sort}
 use Rattle.grammar.specs.Automaton.{Pending, prefix, infix-after, Frame, pending, open-at, wants, holds, apply, hole, Mode, operand, after, due, State, at, start, Reduced, reduce, reduced, token-binds, infix-at, go-on, shift, close, advance, constant-on, leaf-on, begin, opening-frame, pushed, is-due, step-at, step}
-use Rattle.grammar.specs.Meaning.{begins-body, counts}
+use Rattle.grammar.specs.Meaning.{begins-body}
 use Rattle.grammar.specs.Tables.{false-is-not, none-is-not, some-inj, held, Begun, begun-by, binds-tight}
 use Rattle.grammar.specs.Complete.{Below}
 use Rattle.grammar.specs.Contexts.{stack-words, Good-stack, Part, Reads}
@@ -328,7 +327,7 @@ pub text-flags : (x : Phrase) (ts : List Token) → Spells x ts → flags 0 fals
 unfolding stack-flags depth
 text-flags x ts h = all-flags ts start [] (at (after x) []) came (text-read x ts h)
 
--- ---- marks that are in range are counted
+-- ---- all in range
 
 abbrev pub All : List Bool → Type 0
 All [] = Unit {0}
@@ -337,46 +336,3 @@ All (b ∷ bs) = (b ≡ true) × All bs
 pub all-parts : (us vs : List Bool) → All (us ++ vs) → All us × All vs
 all-parts [] vs h = (tt, h)
 all-parts (u ∷ us) vs h = let s = all-parts us vs (h .1) in ((h .0, s .0), s .1)
-
-both : (a b : Bool) → (a && b) ≡ true → (a ≡ true) × (b ≡ true)
-both true b e = (refl, e)
-both false b e = false-is-not e
-
--- a mark's number
-pub mark-in : (x : Phrase) (d : ℕ) (m : Bool) → Good x → same-sort number (sort x) ≡ true → All (flags d m x) → (1 ≤ counts x) × (counts x ≤ d)
-unfolding flags Good
-mark-in (leaf (constant-leaf n)) d m g e h = false-is-not e
-mark-in (leaf (number-leaf k)) d m g e h = let t = both (leb 1 k) (leb k d) (h .0) in (leb-true 1 k (t .0), leb-true k d (t .1))
-mark-in (leaf (variable-leaf v)) d m g e h = false-is-not e
-mark-in (leaf (truth-leaf b)) d m g e h = false-is-not e
-mark-in (leaf skip-leaf) d m g e h = false-is-not e
-mark-in (before not-prefix x) d m g e h = false-is-not e
-mark-in (before minus-prefix x) d m g e h = false-is-not e
-mark-in (before assert-prefix x) d m g e h = false-is-not e
-mark-in (before (assign-prefix v) x) d m g e h = false-is-not e
-mark-in (between semicolon x y) d m g e h = false-is-not e
-mark-in (between (connective c) x y) d m g e h = false-is-not e
-mark-in (between (relation r) x y) d m g e h = false-is-not e
-mark-in (between (operator o) x y) d m g e h = false-is-not e
-mark-in (closed c x) d m g e h = no-form (place c) (sort x) (g .2) e
-  where
-    no-form : {X : Type 0} (p : Place) (s : Sort) → takes (place-takes p) s ≡ true → same-sort number (place-makes p s) ≡ true → X
-    no-form in-group number t k = false-is-not t
-    no-form in-group expression t k = false-is-not k
-    no-form in-group formula t k = false-is-not k
-    no-form in-group statement t k = false-is-not k
-    no-form in-group script t k = false-is-not k
-    no-form in-mark s t k = false-is-not k
-    no-form when-first s t k = false-is-not k
-    no-form when-second s t k = false-is-not k
-    no-form when-third s t k = false-is-not k
-    no-form if-guard s t k = false-is-not k
-    no-form if-then s t k = false-is-not k
-    no-form if-else s t k = false-is-not k
-    no-form while-guard s t k = false-is-not k
-    no-form while-keep s t k = false-is-not k
-    no-form while-fall s t k = false-is-not k
-    no-form while-body s t k = false-is-not k
-    no-form script-pre s t k = false-is-not k
-    no-form script-body s t k = false-is-not k
-    no-form script-post s t k = false-is-not k

@@ -25,6 +25,7 @@ pub mod Scans
 pub mod InRange
 pub mod Adds
 pub mod Result
+pub mod Lengths
 pub mod Outcome
 pub mod Cases
 pub mod Numbers

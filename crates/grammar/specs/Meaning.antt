@@ -1,8 +1,8 @@
 -- What a phrase stands for: how many rows it makes (`size`), its rows (`table`) and its tree (`value`). Rows come "parts left
 -- to right before their parent", so the root of a phrase is its last row, and a loop's row is known before its body is
--- gone through. A unary minus before a numeral is a constant with it. `loops` are the names of the loops around, inner first;
--- the name of a loop is made of the rows of its note and of itself: the table that is asked for names it by its own row,
--- and one that is written from left to right by its note's. Assumes nothing.
+-- gone through. A unary minus before a numeral is a constant with it. What the row of a mark holds is a `Naming`: in the table
+-- that is asked for it names its loop by the loop's row (`by-row`); in one that is written from left to right, where that row
+-- is not there yet, it holds the number of the mark (`Written.by-count`). Assumes nothing.
 use Prim.Native.Nat.{ℕ, zero, suc, _+_, _-_}
 use mathlib.Core.Option.{Option, none, some}
 use mathlib.Core.List.{List, [], _∷_, _++_}
@@ -199,22 +199,33 @@ abbrev pub note-rows : Bool → List ℕ → ℕ → List Quad
 note-rows false rs r = []
 note-rows true rs r = quad (pos 37) (getD rs 0 0) r 0 ∷ []
 
-module _ (name : ℕ → ℕ → ℕ) where
-  -- the loops around a part at a place, in a form from b on; note and form are the rows' numbers
-  abbrev pub inside : Place → ℕ → ℕ → List ℕ → List ℕ
-  inside q note form ls = cond (begins-body q) (name note form ∷ ls) ls
+-- how the row of a mark names its loop: what is known of the loops around, with one loop more whose row is r (`around r`), and
+-- what the row of mark(k) says then
+pub record Naming : Type 1 where
+  pub Loops : Type 0
+  pub around : ℕ → Loops → Loops
+  pub says : Loops → ℕ → ℕ
+
+-- by its own row; inner loops first
+abbrev pub by-row : Naming
+by-row = record { Loops = List ℕ; around = λ r ls. r ∷ ls; says = nth-loop }
+
+module _ (by : Naming) where
+  -- the loops around a part at a place of a form whose row is r
+  abbrev pub inside : Place → ℕ → by .Loops → by .Loops
+  inside q r ls = cond (begins-body q) (by .around r ls) ls
 
   unfoldable mutual
-    pub table : List ℕ → ℕ → Phrase → List Quad
+    pub table : by .Loops → ℕ → Phrase → List Quad
     table ls b (leaf l) = leaf-rows l
     table ls b (before p x) = prefix-rows p (negated p x) (last b (size x)) (table ls b x)
     table ls b (between o x y) =
         table ls b x ++ (table ls (b + size x) y ++ (quad (infix-kind o) (last b (size x)) (last (b + size x) (size y)) 0 ∷ []))
     table ls b (closed c x) =
-        chain-table ls b c ++ (table (inside (place c) (last b (chain-size c)) (last b (chain-size c + size x + form-size (place c))) ls) (b + chain-size c) x
-        ++ form-rows (place c) (nth-loop ls (counts x)) (roots b c) (last (b + chain-size c) (size x)))
+        chain-table ls b c ++ (table (inside (place c) (last b (chain-size c + size x + form-size (place c))) ls) (b + chain-size c) x
+        ++ form-rows (place c) (by .says ls (counts x)) (roots b c) (last (b + chain-size c) (size x)))
 
-    pub chain-table : List ℕ → ℕ → Chain → List Quad
+    pub chain-table : by .Loops → ℕ → Chain → List Quad
     chain-table ls b (begun f) = []
     chain-table ls b (more c x q) =
         chain-table ls b c ++ (table ls (b + chain-size c) x ++ note-rows (begins-body q) (roots b c) (last (b + chain-size c) (size x)))
@@ -298,10 +309,6 @@ form-value script-body r m vs v = v
 form-value script-post r m vs v =
     script-value (record { pre = to-formula (nth vs 1); body = to-stmt (nth vs 0); post = to-formula v; row = r })
 
--- a loop is named by its own row
-abbrev pub by-row : ℕ → ℕ → ℕ
-by-row note form = form
-
 unfoldable mutual
   pub value : List ℕ → ℕ → Phrase → Value
   value ls b (leaf l) = leaf-value l
@@ -310,7 +317,7 @@ unfoldable mutual
   value ls b (closed c x) =
       let r = last b (chain-size c + size x + form-size (place c)) in
       form-value (place c) r (nth-loop ls (counts x)) (chain-values ls b c)
-      (value (inside by-row (place c) (last b (chain-size c)) r ls) (b + chain-size c) x)
+      (value (inside by-row (place c) r ls) (b + chain-size c) x)
 
   -- latest first
   pub chain-values : List ℕ → ℕ → Chain → List Value

@@ -351,7 +351,7 @@ module _ (ws : List ℤ) where
     means (closed c x) g ls b n k m h =
         let p = place c in
         let d = b + chain-size c in
-        let js = inside by-row p (last b (chain-size c)) (last b (chain-size c + size x + form-size p)) ls in
+        let js = inside by-row p (last b (chain-size c + size x + form-size p)) ls in
         let rest = form-rows p (nth-loop ls (counts x)) (roots b c) (last d (size x)) in
         let h1 = stands-parts (chain-table by-row ls b c) (table by-row js d x ++ rest) b (chain-size c) (chain-length by-row c ls b) h in
         let h2 = stands-parts (table by-row js d x) rest d (size x) (table-length by-row x js d) (h1 .1) in

@@ -9,7 +9,7 @@ use lib.ListN.{length, length-append}
 use Rattle.grammar.specs.Tokens.{Sort, number, same-sort, Prefix, Place, place-makes, in-group, in-mark, when-first, when-second, when-third, if-guard, if-then, if-else, while-guard, while-keep, while-fall, while-body, script-pre, script-body, script-post, Leaf, constant-leaf, number-leaf, variable-leaf, truth-leaf, skip-leaf}
 use Rattle.grammar.specs.Grammar.{Phrase, leaf, before, between, closed, Chain, begun, more, place, sort}
 use Rattle.grammar.specs.Tables.{false-is-not}
-use Rattle.grammar.specs.Meaning.{negated, size, chain-size, leaf-size, prefix-size, form-size, note-size, begins-body, last, roots, Quad, leaf-rows, prefix-row, prefix-rows, form-rows, note-rows, table, chain-table}
+use Rattle.grammar.specs.Meaning.{negated, size, chain-size, leaf-size, prefix-size, form-size, note-size, begins-body, last, roots, Quad, Naming, leaf-rows, prefix-row, prefix-rows, form-rows, note-rows, table, chain-table}
 
 leaf-length : (l : Leaf) → length (leaf-rows l) ≡ leaf-size l
 leaf-length (constant-leaf n) = refl
@@ -49,23 +49,23 @@ note-length q rs r = at (begins-body q)
 three-lengths : (a b c : List Quad) {l m n : ℕ} → length a ≡ l → length b ≡ m → length c ≡ n → length (a ++ (b ++ c)) ≡ l + m + n
 three-lengths a b c x y z = omega (linear, length-append a (b ++ c), length-append b c)
 
-module _ (name : ℕ → ℕ → ℕ) where
+module _ (by : Naming) where
   mutual
     unfolding size table
 
-    pub table-length : (x : Phrase) (ls : List ℕ) (b : ℕ) → length (table name ls b x) ≡ size x
+    pub table-length : (x : Phrase) (ls : by .Loops) (b : ℕ) → length (table by ls b x) ≡ size x
     table-length (leaf l) ls b = leaf-length l
-    table-length (before p x) ls b = prefix-length p (negated p x) (last b (size x)) (size x) (table name ls b x) (table-length x ls b)
+    table-length (before p x) ls b = prefix-length p (negated p x) (last b (size x)) (size x) (table by ls b x) (table-length x ls b)
     table-length (between o x y) ls b =
-        three-lengths (table name ls b x) (table name ls (b + size x) y) _ (table-length x ls b) (table-length y ls (b + size x)) refl
+        three-lengths (table by ls b x) (table by ls (b + size x) y) _ (table-length x ls b) (table-length y ls (b + size x)) refl
     table-length (closed c x) ls b =
-        three-lengths (chain-table name ls b c) (table name _ (b + chain-size c) x) _ (chain-length c ls b) (table-length x _ (b + chain-size c))
+        three-lengths (chain-table by ls b c) (table by _ (b + chain-size c) x) _ (chain-length c ls b) (table-length x _ (b + chain-size c))
         (form-length (place c) _ (roots b c) _)
 
-    pub chain-length : (c : Chain) (ls : List ℕ) (b : ℕ) → length (chain-table name ls b c) ≡ chain-size c
+    pub chain-length : (c : Chain) (ls : by .Loops) (b : ℕ) → length (chain-table by ls b c) ≡ chain-size c
     chain-length (begun f) ls b = refl
     chain-length (more c x q) ls b =
-        three-lengths (chain-table name ls b c) (table name ls (b + chain-size c) x) _ (chain-length c ls b) (table-length x ls (b + chain-size c))
+        three-lengths (chain-table by ls b c) (table by ls (b + chain-size c) x) _ (chain-length c ls b) (table-length x ls (b + chain-size c))
         (note-length q (roots b c) _)
 
 -- ---- at least one row

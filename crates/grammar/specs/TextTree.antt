@@ -15,12 +15,12 @@ use Rattle.grammar.specs.Meaning.{Quad, flat, by-row, text-rows, text-ta
 use Rattle.grammar.specs.Sizes.{table-length}
 use Rattle.grammar.specs.SameTree.{kind-row, quad-row, Stands, same-tree}
 
-flat-append : (ps qs : List Quad) → flat (ps ++ qs) ≡ flat ps ++ flat qs
+pub flat-append : (ps qs : List Quad) → flat (ps ++ qs) ≡ flat ps ++ flat qs
 unfolding flat
 flat-append [] qs = refl
 flat-append (p ∷ ps) qs = ap (λ l. p .kind ∷ p .first ∷ p .second ∷ p .third ∷ l) (flat-append ps qs)
 
-flat-length : (qs : List Quad) → length (flat qs) ≡ 4 * length qs
+pub flat-length : (qs : List Quad) → length (flat qs) ≡ 4 * length qs
 unfolding flat
 flat-length [] = refl
 flat-length (q ∷ qs) = omega (linear, flat-length qs)

@@ -1,7 +1,7 @@
 -- The rows that are written when the automaton is in a state: those of the complete parts, in order (`written`). Each move of
 -- the automaton only adds rows, and these laws say which: an operator that takes its part (`pop-writes`), a leaf
 -- (`leaf-writes`), the end of a place (`advance-writes`); a frame that is pushed adds none (`push-writes`, `shift-writes`).
--- Loops are named by their note, since their own row is not written yet. Assumes nothing.
+-- The row of a mark holds the mark's number, since its loop's row is not written yet. Assumes nothing.
 use Prim.Native.Nat.{ℕ, _+_}
 use mathlib.Core.Path.{_≡_, refl, sym, _∙_}
 use mathlib.Core.Option.{Option, none, some}
@@ -10,12 +10,12 @@ use mathlib.Core.Bool.{false}
 use Rattle.grammar.specs.Tokens.{Hole, Infix, Prefix, not-prefix, minus-prefix, assert-prefix, assign-prefix, Place, Leaf, constant-leaf, number-leaf, variable-leaf, truth-leaf, skip-leaf, Due, Opening, prefix-opening, form-opening}
 use Rattle.grammar.specs.Grammar.{Phrase, leaf, before, between, closed, Chain, place}
 use Rattle.grammar.specs.Automaton.{Pending, prefix, infix-after, Frame, pending, open-at, apply, Mode, operand, after, due, State, advance, constant-on, leaf-on, opening-frame, pushed}
-use Rattle.grammar.specs.Meaning.{constant-in, negated, minus, size, chain-size, last, roots, Quad, quad, constant, leaf-rows, prefix-row, infix-kind, nth-loop, counts, form-rows, note-rows, begins-body, inside, table, chain-table}
+use Rattle.grammar.specs.Meaning.{constant-in, negated, minus, size, chain-size, last, roots, Quad, quad, constant, leaf-rows, prefix-row, infix-kind, counts, form-rows, note-rows, begins-body, Naming, table, chain-table}
 use lib.IntN.{pos}
 
--- a loop is named by its note
-abbrev pub by-note : ℕ → ℕ → ℕ
-by-note note form = note
+-- a mark's row holds its number
+abbrev pub by-count : Naming
+by-count = record { Loops = Unit {0}; around = λ r l. l; says = λ l k. k }
 
 -- how many rows are written below the hole
 unfoldable pub stack-size : List Frame → ℕ
@@ -24,20 +24,14 @@ stack-size (pending (prefix p) ∷ fs) = stack-size fs
 stack-size (pending (infix-after o x) ∷ fs) = stack-size fs + size x
 stack-size (open-at h c ∷ fs) = stack-size fs + chain-size c
 
--- the loops whose body is open, inner first
-unfoldable pub open-loops : List Frame → List ℕ
-open-loops [] = []
-open-loops (pending f ∷ fs) = open-loops fs
-open-loops (open-at h c ∷ fs) = inside by-note (place c) (last (stack-size fs) (chain-size c)) 0 (open-loops fs)
-
 unfoldable pub stack-rows : List Frame → List Quad
 stack-rows [] = []
 stack-rows (pending (prefix p) ∷ fs) = stack-rows fs
-stack-rows (pending (infix-after o x) ∷ fs) = stack-rows fs ++ table by-note (open-loops fs) (stack-size fs) x
-stack-rows (open-at h c ∷ fs) = stack-rows fs ++ chain-table by-note (open-loops fs) (stack-size fs) c
+stack-rows (pending (infix-after o x) ∷ fs) = stack-rows fs ++ table by-count tt (stack-size fs) x
+stack-rows (open-at h c ∷ fs) = stack-rows fs ++ chain-table by-count tt (stack-size fs) c
 
 abbrev pub part-rows : Phrase → List Frame → List Quad
-part-rows x fs = stack-rows fs ++ table by-note (open-loops fs) (stack-size fs) x
+part-rows x fs = stack-rows fs ++ table by-count tt (stack-size fs) x
 
 abbrev pub written : Mode → List Frame → List Quad
 written operand fs = stack-rows fs
@@ -60,12 +54,12 @@ Apart (infix-after o y) x = Unit {0}
 
 pub pop-writes : (f : Pending) (x : Phrase) (fs : List Frame) → Apart f x
     → part-rows (apply f x) fs ≡ part-rows x (pending f ∷ fs) ++ (pending-row f (stack-size fs) (size x) ∷ [])
-unfolding table stack-rows stack-size open-loops
-pop-writes (prefix p) x fs h = rw h (sym (append-assoc (stack-rows fs) (table by-note (open-loops fs) (stack-size fs) x) (prefix-row p (last (stack-size fs) (size x)) ∷ [])))
+unfolding table stack-rows stack-size
+pop-writes (prefix p) x fs h = rw h (sym (append-assoc (stack-rows fs) (table by-count tt (stack-size fs) x) (prefix-row p (last (stack-size fs) (size x)) ∷ [])))
 pop-writes (infix-after o y) x fs h =
     let row = pending-row (infix-after o y) (stack-size fs) (size x) ∷ [] in
-    let left = table by-note (open-loops fs) (stack-size fs) y in
-    let right = table by-note (open-loops fs) (stack-size fs + size y) x in
+    let left = table by-count tt (stack-size fs) y in
+    let right = table by-count tt (stack-size fs + size y) x in
     sym (append-assoc (stack-rows fs) left (right ++ row)) ∙ sym (append-assoc (stack-rows fs ++ left) right row)
 
 -- ---- a leaf
@@ -80,7 +74,7 @@ constant-row n (pending (infix-after o x) ∷ fs) = constant (pos n)
 constant-row n (open-at h c ∷ fs) = constant (pos n)
 
 pub constant-writes : (n : ℕ) (fs : List Frame) → written-in (constant-on n fs) ≡ stack-rows fs ++ (constant-row n fs ∷ [])
-unfolding table stack-rows stack-size open-loops
+unfolding table stack-rows stack-size
 constant-writes n [] = refl
 constant-writes n (pending (prefix not-prefix) ∷ fs) = refl
 constant-writes n (pending (prefix minus-prefix) ∷ fs) = refl
@@ -108,7 +102,7 @@ leaf-writes skip-leaf fs = refl
 
 abbrev pub advance-rows : Option Place → Chain → Phrase → List Frame → List Quad
 advance-rows none c x fs =
-    form-rows (place c) (nth-loop (open-loops fs) (counts x)) (roots (stack-size fs) c) (last (stack-size fs + chain-size c) (size x))
+    form-rows (place c) (counts x) (roots (stack-size fs) c) (last (stack-size fs + chain-size c) (size x))
 advance-rows (some q) c x fs = note-rows (begins-body q) (roots (stack-size fs) c) (last (stack-size fs + chain-size c) (size x))
 
 -- a place before the last begins no body
@@ -121,13 +115,13 @@ regroup a b c d = sym (append-assoc a b (c ++ d)) ∙ sym (append-assoc (a ++ b)
 
 pub advance-writes : (o : Option Place) (h : Hole) (c : Chain) (x : Phrase) (fs : List Frame) → No-body o c
     → written-in (advance o c x fs) ≡ part-rows x (open-at h c ∷ fs) ++ advance-rows o c x fs
-unfolding table chain-table stack-rows stack-size open-loops
+unfolding table chain-table stack-rows stack-size
 advance-writes none h c x fs n =
-    regroup (stack-rows fs) (chain-table by-note (open-loops fs) (stack-size fs) c)
-    (table by-note (open-loops (open-at h c ∷ fs)) (stack-size fs + chain-size c) x) (advance-rows none c x fs)
+    regroup (stack-rows fs) (chain-table by-count tt (stack-size fs) c)
+    (table by-count tt (stack-size fs + chain-size c) x) (advance-rows none c x fs)
 advance-writes (some q) h c x fs n =
-    rw n (regroup (stack-rows fs) (chain-table by-note (open-loops fs) (stack-size fs) c)
-    (table by-note (open-loops fs) (stack-size fs + chain-size c) x) (advance-rows (some q) c x fs))
+    regroup (stack-rows fs) (chain-table by-count tt (stack-size fs) c)
+    (table by-count tt (stack-size fs + chain-size c) x) (advance-rows (some q) c x fs)
 
 -- ---- frames that are pushed
 
