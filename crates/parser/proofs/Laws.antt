@@ -1,0 +1,53 @@
+-- What a test in the code tells of the machine's definitions: a frame that is put, a row that has room. Assumes nothing.
+use Prim.Native.Nat.{ℕ, zero, suc, _+_, _*_, _-_, _≤_, _<_}
+use mathlib.Core.Path.{_≡_, refl, sym, ap, _∙_}
+use mathlib.Core.Bool.{Bool, true, false, cond, _&&_, _||_}
+use mathlib.Core.List.{List, [], _∷_}
+use native.Mathlib.Omega.{arith as linear}
+use borrow.Author.Tests.{lt-ltb, le-ltb, le-leb, lt-leb, eq-eqb, ne-eqb}
+use lib.Dec.{eqb, leb, ltb}
+use lib.IntN.{ℤ}
+use lib.ListN.{length, getD, set}
+use lib.Seq.{sets}
+use Rattle.parser.specs.Machine.{put, top-after, top-frame, row-fits, rows-after, with-words, full}
+
+-- ---- frames
+
+pub beyond : (st : List ℕ) (n : ℕ) → length st ≤ n → getD st n 0 ≡ 0
+beyond [] n h = refl
+beyond (f ∷ st) zero h = absurd (omega linear)
+beyond (f ∷ st) (suc n) h = beyond st n (omega linear)
+
+pub top-beyond : (st : List ℕ) (n : ℕ) → length st < n → top-frame st n ≡ 0
+top-beyond st zero h = refl
+top-beyond st (suc n) h = beyond st n (omega linear)
+
+pub top-within : (st : List ℕ) (n : ℕ) → (n ≡ 0 → ⊥) → top-frame st n ≡ getD st (n - 1) 0
+top-within st zero h = absurd (h refl)
+top-within st (suc n) h = ap (λ (k : ℕ). getD st k 0) (omega linear)
+
+-- ---- rows
+
+pub no-row : (n rows : ℕ) → 2048 ≤ rows → row-fits n rows ≡ false
+no-row n rows h = rw (le-ltb rows 2048 h)
+
+pub no-room : (n rows : ℕ) → rows < 2048 → n < 4 * rows + 4 → row-fits n rows ≡ false
+no-room n rows h k = rw (lt-ltb rows 2048 h, lt-leb (4 * rows + 4) n k)
+
+pub room : (n rows : ℕ) → rows < 2048 → 4 * rows + 4 ≤ n → row-fits n rows ≡ true
+room n rows h k = rw (lt-ltb rows 2048 h, le-leb (4 * rows + 4) n k)
+
+pub left-full : (ws vs : List ℤ) (rows : ℕ) → row-fits (length ws) rows ≡ false → (full ≡ rows-after ws rows) × (ws ≡ with-words ws rows vs)
+left-full ws vs rows e = (rw e, rw e)
+
+four : (ws : List ℤ) (i : ℕ) (k a b c : ℤ) → set (set (set (set ws i k) (i + 1) a) (i + 2) b) (i + 3) c ≡ sets ws i (k ∷ a ∷ b ∷ c ∷ [])
+four ws i k a b c =
+    let one : i + 1 ≡ suc i = omega linear in
+    let two : i + 2 ≡ suc (suc i) = omega linear in
+    let three : i + 3 ≡ suc (suc (suc i)) = omega linear in
+    rw (one, two, three)
+
+pub written : (ws : List ℤ) (rows : ℕ) (k a b c : ℤ) → row-fits (length ws) rows ≡ true
+    → (rows + 1 ≡ rows-after ws rows)
+    × (set (set (set (set ws (4 * rows) k) (4 * rows + 1) a) (4 * rows + 2) b) (4 * rows + 3) c ≡ with-words ws rows (k ∷ a ∷ b ∷ c ∷ []))
+written ws rows k a b c e = (rw e, rw e (four ws (4 * rows) k a b c))
