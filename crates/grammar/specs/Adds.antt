@@ -1,6 +1,6 @@
--- Reading only adds rows: each token that is taken leaves the rows written before as they are (`step-adds`, `run-adds`), and no unary
--- minus ever waits for a numeral (`Settled`). Over a text's tokens too, where the semicolon that `post` gives up has added none
--- (`take-adds`, `read-adds`). From the laws of `Written`. Assumes nothing.
+-- Reading only adds rows: each token that is taken leaves the rows written before as they are (`step-adds`,
+-- `run-adds`), and no unary minus ever waits for a numeral (`Settled`). Over a text's tokens too, where the semicolon
+-- that `post` gives up has added none (`take-adds`, `read-adds`). From the laws of `Written`. Assumes nothing.
 use Prim.Native.Nat.{ℕ}
 use mathlib.Core.Path.{_≡_, refl, sym, ap, _∙_, subst}
 use mathlib.Core.Option.{Option, none, some}

@@ -1,5 +1,6 @@
--- Rows and frames against tokens: a phrase makes no more rows than it has words (`size-fits`), the parts of a form fewer than its words so
--- far (`chain-fits`), and a stack has a word for each of its frames besides one for each row (`stack-fits`). Assumes nothing.
+-- Rows and frames against tokens: a phrase makes no more rows than it has words (`size-fits`), the parts of a form
+-- fewer than its words so far (`chain-fits`), and a stack has a word for each of its frames besides one for each row
+-- (`stack-fits`). Assumes nothing.
 use Prim.Native.Nat.{ℕ, _+_, _≤_}
 use mathlib.Core.Option.{Option, none, some}
 use mathlib.Core.List.{List, [], _∷_, _++_}

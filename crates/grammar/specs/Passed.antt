@@ -1,5 +1,5 @@
--- The pass of `Renamed` gives the table that is asked for, and what is kept is the same after a phrase as before it (`passed`): each
--- loop that its rows add, they drop. By induction on the phrase. Assumes nothing.
+-- The pass of `Renamed` gives the table that is asked for, and what is kept is the same after a phrase as before it
+-- (`passed`): each loop that its rows add, they drop. By induction on the phrase. Assumes nothing.
 use Prim.Native.Nat.{ℕ, _+_}
 use mathlib.Core.Path.{_≡_, refl, ap, _∙_}
 use mathlib.Core.Option.{Option, none, some}

@@ -1,7 +1,8 @@
--- Marks. While a text is read, the row of a mark holds the mark's number; one pass over the rows, from the last down, puts the row of
--- its loop there. It keeps the rows of the loops whose body it is in, inner first: it comes to a loop's row before the rows of
--- its body, and adds it, and to the loop's note after them, and drops it (`after-pass`: what is kept then; `pass-rows`: the
--- rows). `Passes` says both of some rows. `Passed`: that gives the table that is asked for. Assumes nothing.
+-- Marks. While a text is read, the row of a mark holds the mark's number; one pass over the rows, from the last down,
+-- puts the row of its loop there. It keeps the rows of the loops whose body it is in, inner first: it comes to a loop's
+-- row before the rows of its body, and adds it, and to the loop's note after them, and drops it (`after-pass`: what is
+-- kept then; `pass-rows`: the rows). `Passes` says both of some rows. `Passed`: that gives the table that is asked for.
+-- Assumes nothing.
 use Prim.Native.Nat.{ℕ, suc, _+_}
 use mathlib.Core.Path.{_≡_, refl, sym, ap, _∙_}
 use mathlib.Core.Option.{none}

@@ -1,5 +1,5 @@
--- A text, put together: the rows that were written when it was read, after the pass over the marks, are its rows (`rows-of-text`), and
--- the table of these has its tree (`tree-of-text`). Assumes nothing.
+-- A text, put together: the rows that were written when it was read, after the pass over the marks, are its rows
+-- (`rows-of-text`), and the table of these has its tree (`tree-of-text`). Assumes nothing.
 use mathlib.Core.Path.{_≡_, ap, _∙_}
 use mathlib.Core.List.{List, []}
 use Rattle.script.specs.Trees.{tree}

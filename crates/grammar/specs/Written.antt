@@ -1,7 +1,7 @@
--- The rows that are written when the automaton is in a state: those of the complete parts, in order (`written`). Each move of
--- the automaton only adds rows, and these laws say which: an operator that takes its part (`pop-writes`), a leaf
--- (`leaf-writes`), the end of a place (`advance-writes`); a frame that is pushed adds none (`push-writes`, `shift-writes`).
--- The row of a mark holds the mark's number, since its loop's row is not written yet. Assumes nothing.
+-- The rows that are written when the automaton is in a state: those of the complete parts, in order (`written`). Each
+-- move of the automaton only adds rows, and these laws say which: an operator that takes its part (`pop-writes`), a
+-- leaf (`leaf-writes`), the end of a place (`advance-writes`); a frame that is pushed adds none (`push-writes`,
+-- `shift-writes`). The row of a mark holds the mark's number, since its loop's row is not written yet. Assumes nothing.
 use Prim.Native.Nat.{ℕ, _+_}
 use mathlib.Core.Path.{_≡_, refl, sym, _∙_}
 use mathlib.Core.Option.{Option, none, some}

@@ -1,5 +1,6 @@
 -- `parser::frames::top_frame` meets its contract. Assumes nothing.
 use borrow.Author.Needs.{needs}
+use Prim.Native.Nat.{_-_}
 use mathlib.Core.Path.{sym}
 use native.Mathlib.Omega.{arith as linear}
 use Rattle.parser.proofs.Laws.{top-beyond, top-within}
@@ -10,7 +11,7 @@ returns-2 : tie.Need-returns-2
 returns-2 c = sym (top-beyond _ _ (c .if2 .taken))
 
 cast-result : tie.Need-cast-result
-cast-result c = record { fits = omega (linear, c .shared-slice-known .given .fits) }
+cast-result c = omega (linear, c .shared-slice-known .given (c .before .before .before .args .top - 1))
 
 returns-3 : tie.Need-returns-3
 returns-3 c = sym (top-within _ _ (c .before .before .if1 .left))

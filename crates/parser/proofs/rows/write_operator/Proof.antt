@@ -31,7 +31,7 @@ same-length : tie.Need-same-length
 same-length c = search needs
 
 returns : tie.Need-returns
-returns c = ?
+returns c = rw (?, c .before .before .below .ensures) at (c .before .write-row .ensures)
 
 same-length-2 : tie.Need-same-length-2
 same-length-2 c = search needs

@@ -1,5 +1,6 @@
 -- `parser::rows::write_row` meets its contract. Assumes nothing.
 use borrow.Author.Needs.{needs}
+use mir.Facts.{toZ-ofZ}
 use Rattle.parser.proofs.rows.write_row.Statement.{statement}
 use Rattle.parser.proofs.rows.write_row.Tie as tie
 use Rattle.parser.proofs.rows.write_row.Reads as reads
@@ -25,7 +26,9 @@ same-length : tie.Need-same-length
 same-length c = search needs
 
 returns : tie.Need-returns
-returns c = ?
+returns c =
+    let d = c .before .before in
+    rw (toZ-ofZ (cast-write-words d), toZ-ofZ (cast-write-words-2 d), toZ-ofZ (cast-write-words-3 d), toZ-ofZ (cast-write-words-4 d)) at (c .before .write-words .ensures)
 
 pub write-row-spec : {M : Type 1} → statement M
 write-row-spec =

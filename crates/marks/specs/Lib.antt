@@ -1,0 +1,5 @@
+pub mod Stack
+pub mod Quads
+pub mod Turns
+pub mod Going
+pub mod Texts
