@@ -5,7 +5,7 @@ use crate::NOWHERE;
 use crate::REFUSED;
 use crate::State;
 ghost use mathlib.Core.Path.{_≡_};
-ghost use Rattle.parser.specs.Machine.{refused as Machine·refused, complete as Machine·complete, due as Machine·due, noted as Machine·noted, kept as Machine·kept};
+ghost use Rattle.parser.specs.Machine.{refused as Machine·refused, complete as Machine·complete, due as Machine·due, noted as Machine·noted, kept as Machine·kept, counted as Machine·counted, with-bodies, with-rows};
 
 pub fn refused(s: State, place: usize) -> State
     ensures { λ r. ⌜ r ≡ Machine·refused s place ⌝ }
@@ -57,4 +57,31 @@ pub fn kept(in_range: bool, n: usize) -> usize
     ensures { λ r. ⌜ r ≡ Machine·kept in_range n ⌝ }
 {
     if in_range { n } else { 0 }
+}
+
+// The k of a mark is complete.
+pub fn counted(s: State, k: usize) -> State
+    ensures { λ r. ⌜ r ≡ Machine·counted s k ⌝ }
+{
+    let mut next = s;
+    next.mode = AFTER;
+    next.sort = b'N';
+    next.number = k;
+    next
+}
+
+pub fn with_bodies(s: State, bodies: usize) -> State
+    ensures { λ r. ⌜ r ≡ with-bodies s bodies ⌝ }
+{
+    let mut next = s;
+    next.bodies = bodies;
+    next
+}
+
+pub fn with_rows(s: State, rows: usize) -> State
+    ensures { λ r. ⌜ r ≡ with-rows s rows ⌝ }
+{
+    let mut next = s;
+    next.rows = rows;
+    next
 }
