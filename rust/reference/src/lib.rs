@@ -1,5 +1,5 @@
-//! Document 01 and requests P1 and P2 a second time, written from the documents
-//! alone: trees, `Vec` and `Box`, clear rather than fast.
+//! Document 01 and requests P1, P2 and P4 a second time, written from the
+//! documents alone: trees, `Vec` and `Box`, clear rather than fast.
 //!
 //! Whole numbers of runs are kept as `i128`. Where a value would leave that
 //! range the evaluation answers [`TooLarge`] instead of a wrong number; the
@@ -16,9 +16,11 @@ mod kinds;
 mod list;
 mod program;
 mod run;
+mod script_text;
 mod smt;
 mod table;
 mod tree;
+mod unparse;
 
 pub use check::{check, Verdict};
 pub use conditions::{conditions, list_words, Condition, ConditionKind, TooLong};
@@ -30,7 +32,9 @@ pub use kinds::{shape, Role, Shape, Sort};
 pub use list::{is_whole_formula, line_at, lines, Line, ListReader};
 pub use program::program_output;
 pub use run::{run, run_observed, Arrival, End, Run};
+pub use script_text::{read_text, TextAnswer};
 pub use smt::{smt, Written};
 pub use table::{Row, Variable, VARIABLES};
 pub use tree::{formula_from_words, script_of};
 pub use tree::{Arithmetic, Comparison, Connective, Expression, Formula, Loop, Script, Statement};
+pub use unparse::{write_text, Brackets};

@@ -1,18 +1,8 @@
 -- `parser::after::close_form` meets its contract. Assumes nothing.
 use borrow.Author.Needs.{needs}
+use Rattle.parser.specs.Machine.{close-form}
 use Rattle.parser.proofs.after.close_form.Statement.{statement}
 use Rattle.parser.proofs.after.close_form.Tie as tie
-use Rattle.parser.proofs.after.close_form.Reads as reads
-use Rattle.parser.proofs.after.close_form.Lts as lts
-use Rattle.parser.proofs.after.bodies_after.Reads as bodies-after-reads
-use Rattle.parser.proofs.after.form_kind.Reads as form-kind-reads
-use Rattle.parser.proofs.frames.below.Reads as below-reads
-use Rattle.parser.proofs.frames.first_part.Reads as first-part-reads
-use Rattle.parser.proofs.frames.second_part.Reads as second-part-reads
-use Rattle.parser.proofs.rows.write_row.Reads as write-row-reads
-use Rattle.parser.proofs.states.complete.Reads as complete-reads
-use Rattle.parser.proofs.states.with_bodies.Reads as with-bodies-reads
-use Rattle.parser.proofs.symbols.maker.Reads as maker-reads
 
 form-kind-requires : tie.Need-form-kind-requires
 form-kind-requires c κs = search needs
@@ -48,7 +38,11 @@ same-length : tie.Need-same-length
 same-length c = search needs
 
 returns : tie.Need-returns
-returns c = ?
+unfolding close-form
+returns c = (
+      rw (c .complete .ensures, c .before .below2 .ensures, c .before .before .maker .ensures, c .before .before .before .with-bodies .ensures, c .before .before .before .before .bodies-after .ensures, c .before .before .before .before .before .before .write-row .ensures .0),
+      rw (c .before .before .before .before .before .before .write-row .ensures .1, c .before .before .before .before .before .before .before .below .ensures, c .before .before .before .before .before .before .before .before .second-part .ensures, c .before .before .before .before .before .before .before .before .before .first-part .ensures, c .before .before .before .before .before .before .before .before .before .before .form-kind .ensures),
+    )
 
 pub close-form-spec : {M : Type 1} → statement M
 close-form-spec =

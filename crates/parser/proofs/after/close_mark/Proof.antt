@@ -1,12 +1,8 @@
 -- `parser::after::close_mark` meets its contract. Assumes nothing.
 use borrow.Author.Needs.{needs}
+use Rattle.parser.specs.Machine.{close-mark}
 use Rattle.parser.proofs.after.close_mark.Statement.{statement}
 use Rattle.parser.proofs.after.close_mark.Tie as tie
-use Rattle.parser.proofs.after.close_mark.Reads as reads
-use Rattle.parser.proofs.after.close_mark.Lts as lts
-use Rattle.parser.proofs.frames.below.Reads as below-reads
-use Rattle.parser.proofs.rows.write_row.Reads as write-row-reads
-use Rattle.parser.proofs.states.complete.Reads as complete-reads
 
 write-row-requires : tie.Need-write-row-requires
 write-row-requires c κs = search needs
@@ -21,7 +17,11 @@ same-length : tie.Need-same-length
 same-length c = search needs
 
 returns : tie.Need-returns
-returns c = ?
+unfolding close-mark
+returns c = (
+      rw (c .complete .ensures, c .before .below .ensures, c .before .before .before .write-row .ensures .0),
+      c .before .before .before .write-row .ensures .1,
+    )
 
 pub close-mark-spec : {M : Type 1} → statement M
 close-mark-spec =

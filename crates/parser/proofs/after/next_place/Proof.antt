@@ -1,14 +1,8 @@
 -- `parser::after::next_place` meets its contract. Assumes nothing.
 use borrow.Author.Needs.{needs}
+use Rattle.parser.specs.Machine.{next-place}
 use Rattle.parser.proofs.after.next_place.Statement.{statement}
 use Rattle.parser.proofs.after.next_place.Tie as tie
-use Rattle.parser.proofs.after.next_place.Reads as reads
-use Rattle.parser.proofs.after.next_place.Lts as lts
-use Rattle.parser.proofs.frames.below.Reads as below-reads
-use Rattle.parser.proofs.frames.frame.Reads as frame-reads
-use Rattle.parser.proofs.frames.put.Reads as put-reads
-use Rattle.parser.proofs.frames.second_part.Reads as second-part-reads
-use Rattle.parser.proofs.states.due.Reads as due-reads
 
 below-requires : tie.Need-below-requires
 below-requires c κs = search needs
@@ -35,7 +29,11 @@ same-length : tie.Need-same-length
 same-length c = search needs
 
 returns : tie.Need-returns
-returns c = ?
+unfolding next-place
+returns c = (
+      rw (c .due .ensures, c .before .before .before .put .ensures .0, c .before .before .before .before .before .before .before .below .ensures),
+      rw (c .before .before .before .put .ensures .1, c .before .before .before .before .frame .ensures, c .before .before .before .before .before .below2 .ensures, c .before .before .before .before .before .before .second-part .ensures, c .before .before .before .before .before .before .before .below .ensures),
+    )
 
 pub next-place-spec : {M : Type 1} → statement M
 next-place-spec =

@@ -1,18 +1,8 @@
 -- `parser::after::open_body` meets its contract. Assumes nothing.
 use borrow.Author.Needs.{needs}
+use Rattle.parser.specs.Machine.{open-body}
 use Rattle.parser.proofs.after.open_body.Statement.{statement}
 use Rattle.parser.proofs.after.open_body.Tie as tie
-use Rattle.parser.proofs.after.open_body.Reads as reads
-use Rattle.parser.proofs.after.open_body.Lts as lts
-use Rattle.parser.proofs.frames.below.Reads as below-reads
-use Rattle.parser.proofs.frames.first_part.Reads as first-part-reads
-use Rattle.parser.proofs.frames.frame.Reads as frame-reads
-use Rattle.parser.proofs.frames.put.Reads as put-reads
-use Rattle.parser.proofs.frames.second_part.Reads as second-part-reads
-use Rattle.parser.proofs.rows.write_row.Reads as write-row-reads
-use Rattle.parser.proofs.states.due.Reads as due-reads
-use Rattle.parser.proofs.states.with_bodies.Reads as with-bodies-reads
-use Rattle.parser.proofs.states.with_rows.Reads as with-rows-reads
 
 second-part-requires : tie.Need-second-part-requires
 second-part-requires c κs = search needs
@@ -57,7 +47,14 @@ same-length-2 : tie.Need-same-length-2
 same-length-2 c = ?
 
 returns : tie.Need-returns
-returns c = ?
+unfolding open-body
+returns c = (
+      rw (c .due .ensures, c .before .with-rows .ensures, c .before .before .with-bodies .ensures, c .before .before .before .before .before .before .put .ensures .0, c .before .before .before .before .before .before .before .before .before .before .below2 .ensures, c .before .before .before .before .before .before .before .before .before .before .before .before .before .write-row .ensures .0),
+      (
+        rw (c .before .before .before .before .before .before .put .ensures .1, c .before .before .before .before .before .before .before .frame .ensures, c .before .before .before .before .before .before .before .before .below3 .ensures, c .before .before .before .before .before .before .before .before .before .first-part .ensures, c .before .before .before .before .before .before .before .before .before .before .below2 .ensures, c .before .before .before .before .before .before .before .before .before .before .before .before .before .write-row .ensures .0),
+        rw (c .before .before .before .before .before .before .before .before .before .before .before .before .before .write-row .ensures .1, c .before .before .before .before .before .before .before .before .before .before .before .before .before .before .below .ensures, c .before .before .before .before .before .before .before .before .before .before .before .before .before .before .before .second-part .ensures),
+      ),
+    )
 
 pub open-body-spec : {M : Type 1} → statement M
 open-body-spec =

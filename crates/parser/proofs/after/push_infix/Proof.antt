@@ -1,13 +1,8 @@
 -- `parser::after::push_infix` meets its contract. Assumes nothing.
 use borrow.Author.Needs.{needs}
+use Rattle.parser.specs.Machine.{push-infix}
 use Rattle.parser.proofs.after.push_infix.Statement.{statement}
 use Rattle.parser.proofs.after.push_infix.Tie as tie
-use Rattle.parser.proofs.after.push_infix.Reads as reads
-use Rattle.parser.proofs.after.push_infix.Lts as lts
-use Rattle.parser.proofs.frames.below.Reads as below-reads
-use Rattle.parser.proofs.frames.frame.Reads as frame-reads
-use Rattle.parser.proofs.frames.put.Reads as put-reads
-use Rattle.parser.proofs.states.due.Reads as due-reads
 
 below-requires : tie.Need-below-requires
 below-requires c κs = search needs
@@ -25,7 +20,11 @@ same-length : tie.Need-same-length
 same-length c = search needs
 
 returns : tie.Need-returns
-returns c = ?
+unfolding push-infix
+returns c = (
+      rw (c .due .ensures, c .before .before .before .put .ensures .0),
+      rw (c .before .before .before .put .ensures .1, c .before .before .before .before .frame .ensures, c .before .before .before .before .before .below .ensures),
+    )
 
 pub push-infix-spec : {M : Type 1} → statement M
 push-infix-spec =

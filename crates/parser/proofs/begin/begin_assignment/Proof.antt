@@ -1,14 +1,8 @@
 -- `parser::begin::begin_assignment` meets its contract. Assumes nothing.
 use borrow.Author.Needs.{needs}
+use Rattle.parser.specs.Machine.{begin-assignment}
 use Rattle.parser.proofs.begin.begin_assignment.Statement.{statement}
 use Rattle.parser.proofs.begin.begin_assignment.Tie as tie
-use Rattle.parser.proofs.begin.begin_assignment.Reads as reads
-use Rattle.parser.proofs.begin.begin_assignment.Lts as lts
-use Rattle.parser.proofs.frames.frame.Reads as frame-reads
-use Rattle.parser.proofs.frames.put.Reads as put-reads
-use Rattle.parser.proofs.states.due.Reads as due-reads
-use Rattle.parser.proofs.states.kept.Reads as kept-reads
-use Rattle.parser.proofs.states.noted.Reads as noted-reads
 
 kept-requires : tie.Need-kept-requires
 kept-requires c κs = search needs
@@ -29,7 +23,11 @@ same-length : tie.Need-same-length
 same-length c = search needs
 
 returns : tie.Need-returns
-returns c = ?
+unfolding begin-assignment
+returns c = (
+      rw (c .due .ensures, c .before .noted .ensures, c .before .before .before .before .put .ensures .0),
+      rw (c .before .before .before .before .put .ensures .1, c .before .before .before .before .before .frame .ensures, c .before .before .before .before .before .before .kept .ensures),
+    )
 
 pub begin-assignment-spec : {M : Type 1} → statement M
 begin-assignment-spec =

@@ -1,13 +1,8 @@
 -- `parser::begin::begin_count` meets its contract. Assumes nothing.
 use borrow.Author.Needs.{needs}
+use Rattle.parser.specs.Machine.{begin-count}
 use Rattle.parser.proofs.begin.begin_count.Statement.{statement}
 use Rattle.parser.proofs.begin.begin_count.Tie as tie
-use Rattle.parser.proofs.begin.begin_count.Reads as reads
-use Rattle.parser.proofs.begin.begin_count.Lts as lts
-use Rattle.parser.proofs.begin.mark_fits.Reads as mark-fits-reads
-use Rattle.parser.proofs.states.counted.Reads as counted-reads
-use Rattle.parser.proofs.states.kept.Reads as kept-reads
-use Rattle.parser.proofs.states.noted.Reads as noted-reads
 
 mark-fits-requires : tie.Need-mark-fits-requires
 mark-fits-requires c κs = search needs
@@ -22,7 +17,8 @@ counted-requires : tie.Need-counted-requires
 counted-requires c κs = search needs
 
 returns : tie.Need-returns
-returns c = ?
+unfolding begin-count
+returns c = rw (c .counted .ensures, c .before .kept .ensures, c .before .before .noted .ensures, c .before .before .before .mark-fits .ensures)
 
 pub begin-count-spec : {M : Type 1} → statement M
 begin-count-spec =

@@ -1,16 +1,8 @@
 -- `parser::begin::begin_form` meets its contract. Assumes nothing.
 use borrow.Author.Needs.{needs}
+use Rattle.parser.specs.Machine.{begin-form}
 use Rattle.parser.proofs.begin.begin_form.Statement.{statement}
 use Rattle.parser.proofs.begin.begin_form.Tie as tie
-use Rattle.parser.proofs.begin.begin_form.Reads as reads
-use Rattle.parser.proofs.begin.begin_form.Lts as lts
-use Rattle.parser.proofs.begin.due_after.Reads as due-after-reads
-use Rattle.parser.proofs.begin.opened.Reads as opened-reads
-use Rattle.parser.proofs.frames.frame.Reads as frame-reads
-use Rattle.parser.proofs.frames.put.Reads as put-reads
-use Rattle.parser.proofs.frames.top_frame.Reads as top-frame-reads
-use Rattle.parser.proofs.states.due.Reads as due-reads
-use Rattle.parser.proofs.symbols.hole.Reads as hole-reads
 
 top-frame-requires : tie.Need-top-frame-requires
 top-frame-requires c κs = search needs
@@ -37,7 +29,11 @@ same-length : tie.Need-same-length
 same-length c = search needs
 
 returns : tie.Need-returns
-returns c = ?
+unfolding begin-form
+returns c = (
+      rw (c .due .ensures, c .before .due-after .ensures, c .before .before .before .before .put .ensures .0),
+      rw (c .before .before .before .before .put .ensures .1, c .before .before .before .before .before .frame .ensures, c .before .before .before .before .before .before .opened .ensures, c .before .before .before .before .before .before .before .before .hole .ensures, c .before .before .before .before .before .before .before .before .before .top-frame .ensures),
+    )
 
 pub begin-form-spec : {M : Type 1} → statement M
 begin-form-spec =

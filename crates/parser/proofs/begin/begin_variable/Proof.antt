@@ -1,13 +1,8 @@
 -- `parser::begin::begin_variable` meets its contract. Assumes nothing.
 use borrow.Author.Needs.{needs}
+use Rattle.parser.specs.Machine.{begin-variable}
 use Rattle.parser.proofs.begin.begin_variable.Statement.{statement}
 use Rattle.parser.proofs.begin.begin_variable.Tie as tie
-use Rattle.parser.proofs.begin.begin_variable.Reads as reads
-use Rattle.parser.proofs.begin.begin_variable.Lts as lts
-use Rattle.parser.proofs.rows.write_row.Reads as write-row-reads
-use Rattle.parser.proofs.states.complete.Reads as complete-reads
-use Rattle.parser.proofs.states.kept.Reads as kept-reads
-use Rattle.parser.proofs.states.noted.Reads as noted-reads
 
 kept-requires : tie.Need-kept-requires
 kept-requires c κs = search needs
@@ -25,7 +20,11 @@ same-length : tie.Need-same-length
 same-length c = search needs
 
 returns : tie.Need-returns
-returns c = ?
+unfolding begin-variable
+returns c = (
+      rw (c .complete .ensures, c .before .noted .ensures, c .before .before .before .write-row .ensures .0),
+      rw (c .before .before .before .write-row .ensures .1, c .before .before .before .before .kept .ensures),
+    )
 
 pub begin-variable-spec : {M : Type 1} → statement M
 begin-variable-spec =

@@ -1,14 +1,13 @@
 -- `parser::begin::mark_fits` meets its contract. Assumes nothing.
+use borrow.Author.Tests.{eq-eqb, ne-eqb, lt-ltb, le-ltb, le-leb, lt-leb}
 use Rattle.parser.proofs.begin.mark_fits.Statement.{statement}
 use Rattle.parser.proofs.begin.mark_fits.Tie as tie
-use Rattle.parser.proofs.begin.mark_fits.Reads as reads
-use Rattle.parser.proofs.begin.mark_fits.Lts as lts
 
 returns : tie.Need-returns
-returns c = ?
+returns c = rw (le-leb 1 _ (c .if1 .taken))
 
 returns-2 : tie.Need-returns-2
-returns-2 c = ?
+returns-2 c = rw (lt-leb 1 _ (c .if1 .left))
 
 pub mark-fits-spec : {M : Type 1} → statement M
 mark-fits-spec = tie.close (tie.spec returns returns-2)

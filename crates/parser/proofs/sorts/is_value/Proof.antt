@@ -1,14 +1,13 @@
 -- `parser::sorts::is_value` meets its contract. Assumes nothing.
+use borrow.Author.Tests.{eq-eqb, ne-eqb, lt-ltb, le-ltb, le-leb, lt-leb}
 use Rattle.parser.proofs.sorts.is_value.Statement.{statement}
 use Rattle.parser.proofs.sorts.is_value.Tie as tie
-use Rattle.parser.proofs.sorts.is_value.Reads as reads
-use Rattle.parser.proofs.sorts.is_value.Lts as lts
 
 returns : tie.Need-returns
-returns c = ?
+returns c = rw (eq-eqb _ 69 (c .if1 .taken))
 
 returns-2 : tie.Need-returns-2
-returns-2 c = ?
+returns-2 c = rw (ne-eqb _ 69 (c .if1 .left))
 
 pub is-value-spec : {M : Type 1} → statement M
 is-value-spec = tie.close (tie.spec returns returns-2)
