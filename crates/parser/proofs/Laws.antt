@@ -1,15 +1,21 @@
 -- What a test in the code tells of the machine's definitions: a frame that is put, a row that has room. Assumes nothing.
-use Prim.Native.Nat.{ℕ, zero, suc, _+_, _*_, _-_, _≤_, _<_}
+use Prim.Native.Nat.{ℕ, zero, suc, _+_, _*_, _-_, _%_, _≤_, _<_}
 use mathlib.Core.Path.{_≡_, refl, sym, ap, _∙_}
 use mathlib.Core.Bool.{Bool, true, false, cond, _&&_, _||_}
 use mathlib.Core.List.{List, [], _∷_}
 use native.Mathlib.Omega.{arith as linear}
 use borrow.Author.Tests.{lt-ltb, le-ltb, le-leb, lt-leb, eq-eqb, ne-eqb}
 use lib.Dec.{eqb, leb, ltb}
-use lib.IntN.{ℤ}
+use lib.IntN.{ℤ, pos, negsuc, _-ℤ_}
+use lib.Signed.{mag}
+use mir.Facts.{toZ-ofZ}
+use mir.Val.{toZ, ofZ}
+use mir.Syntax.{w32}
 use lib.ListN.{length, getD, set}
 use lib.Seq.{sets}
-use Rattle.parser.specs.Machine.{put, top-after, top-frame, row-fits, rows-after, with-words, full}
+use Rattle.grammar.specs.Meaning.{minus}
+use Rattle.grammar.specs.InRange.{limit}
+use Rattle.parser.specs.Machine.{Config, config, refused, begin-numeral, begin-count, begin-constant, hole, begins, constant-word, put, top-after, top-frame, row-fits, rows-after, with-words, full}
 
 -- ---- frames
 
@@ -51,3 +57,53 @@ pub written : (ws : List ℤ) (rows : ℕ) (k a b c : ℤ) → row-fits (length 
     → (rows + 1 ≡ rows-after ws rows)
     × (set (set (set (set ws (4 * rows) k) (4 * rows + 1) a) (4 * rows + 2) b) (4 * rows + 3) c ≡ with-words ws rows (k ∷ a ∷ b ∷ c ∷ []))
 written ws rows k a b c e = (rw e, rw e (four ws (4 * rows) k a b c))
+
+-- ---- constants
+
+pub none-written : (m : Bool) (n : ℕ) → n ≡ 0 → pos 0 ≡ constant-word m n
+none-written true n e = rw e
+none-written false n e = rw e
+
+pub out-written : (m : Bool) (n : ℕ) → limit m < n → pos 0 ≡ constant-word m n
+out-written m n h = rw (lt-leb n (limit m) h)
+
+pub minus-one : (m : ℕ) → negsuc 0 -ℤ pos m ≡ negsuc m
+minus-one zero = refl
+minus-one (suc k) = ap negsuc (omega linear)
+
+minus-is : (n : ℕ) → (n ≡ 0 → ⊥) → negsuc (n - 1) ≡ minus n
+minus-is zero h = absurd (h refl)
+minus-is (suc k) h = ap negsuc (omega linear)
+
+pub minus-written : (m : Bool) (n : ℕ) → (n ≡ 0 → ⊥) → n ≤ limit m → m ≡ true → negsuc (n - 1) ≡ constant-word m n
+minus-written m n h k e = rw (le-leb n (limit m) k, e) (minus-is n h)
+
+pub plain-written : (m : Bool) (n : ℕ) → n ≤ limit m → m ≡ false → pos n ≡ constant-word m n
+plain-written m n k e = rw (le-leb n (limit m) k, e)
+
+pub within : (m : Bool) (n : ℕ) → n ≤ limit m → n ≤ 2147483648
+within true n h = h
+within false n h = omega linear
+
+pub within-plain : (m : Bool) (n : ℕ) → n ≤ limit m → m ≡ false → n ≤ 2147483647
+within-plain m n h e = rw e at h
+
+-- ---- a numeral pushes no frame
+
+pub numeral-stack : (c : Config) (v p : ℕ) → c .stack ≡ begin-numeral c v p .stack
+unfolding begin-numeral begin-constant
+numeral-stack c v p = at-test (eqb (hole f) 78) (begins (hole f) 69)
+  where
+    f : ℕ
+    f = top-frame (c .stack) (c .state .top)
+
+    at-test : (a b : Bool) → c .stack ≡ cond a (config (begin-count (c .state) v p) (c .stack) (c .words))
+        (cond b (begin-constant c (eqb (f % 64) 8) v p) (config (refused (c .state) p) (c .stack) (c .words))) .stack
+    at-test true b = refl
+    at-test false true = refl
+    at-test false false = refl
+
+-- ---- a signed word that a call gave
+
+pub back : {z : ℤ} → mag z < 2147483648 → toZ w32 (ofZ w32 z) ≡ z
+back h = toZ-ofZ (record { sfits = h })

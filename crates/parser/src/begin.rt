@@ -54,10 +54,13 @@ fn largest(minus: bool) -> usize
 fn constant_word(minus: bool, n: usize) -> i32
     ensures { λ r. ⌜ r ≡ constant-word minus n ⌝ }
 {
+    if n == 0 {
+        return 0;
+    }
     if largest(minus) < n {
         return 0;
     }
-    if minus { (0 - n as i64) as i32 } else { n as i32 }
+    if minus { -1 - (n - 1) as i32 } else { n as i32 }
 }
 
 // A constant; right after a unary minus, whose frame goes.
@@ -194,14 +197,13 @@ fn begin_word(stack: &mut [u32], words: &mut [i32], s: State, token: usize, plac
     ensures words { λ r. ⌜ now (words .exit) ≡ begin-word (config s (now (stack .entry)) (now (words .entry))) token place .words ⌝ }
 {
     let h = hole(top_frame(stack, s.top));
-    if !begins(h, beginning(token)) {
-        return refused(s, place);
+    if begins(h, beginning(token)) {
+        if is_leaf(token) {
+            return begin_leaf(words, s, token);
+        }
+        return begin_form(stack, s, token);
     }
-    if is_leaf(token) {
-        begin_leaf(words, s, token)
-    } else {
-        begin_form(stack, s, token)
-    }
+    refused(s, place)
 }
 
 pub fn begin(stack: &mut [u32], words: &mut [i32], s: State, token: usize, value: usize, place: usize) -> State

@@ -1,15 +1,9 @@
 -- `parser::begin::begin_constant` meets its contract. Assumes nothing.
 use borrow.Author.Needs.{needs}
+use Rattle.parser.proofs.Laws.{back}
+use Rattle.parser.specs.Machine.{begin-constant}
 use Rattle.parser.proofs.begin.begin_constant.Statement.{statement}
 use Rattle.parser.proofs.begin.begin_constant.Tie as tie
-use Rattle.parser.proofs.begin.begin_constant.Reads as reads
-use Rattle.parser.proofs.begin.begin_constant.Lts as lts
-use Rattle.parser.proofs.begin.constant_word.Reads as constant-word-reads
-use Rattle.parser.proofs.begin.largest.Reads as largest-reads
-use Rattle.parser.proofs.frames.below.Reads as below-reads
-use Rattle.parser.proofs.rows.write_constant.Reads as write-constant-reads
-use Rattle.parser.proofs.states.complete.Reads as complete-reads
-use Rattle.parser.proofs.states.noted.Reads as noted-reads
 
 constant-word-requires : tie.Need-constant-word-requires
 constant-word-requires c κs = search needs
@@ -36,13 +30,21 @@ same-length : tie.Need-same-length
 same-length c = search needs
 
 returns : tie.Need-returns
-returns c = ?
+unfolding begin-constant
+returns c = (
+      rw (c .complete .ensures, c .before .below .ensures, c .before .before .before .noted .ensures, c .before .before .before .before .largest .ensures, c .before .before .before .before .before .before .write-constant .ensures .0, c .before .before .if1 .taken),
+      rw (back (c .before .before .before .before .before .before .before .constant-word .ok), c .before .before .before .before .before .before .before .constant-word .ensures) at (c .before .before .before .before .before .before .write-constant .ensures .1),
+    )
 
 same-length-2 : tie.Need-same-length-2
 same-length-2 c = search needs
 
 returns-2 : tie.Need-returns-2
-returns-2 c = ?
+unfolding begin-constant
+returns-2 c = (
+      rw (c .complete2 .ensures, c .before .before .noted .ensures, c .before .before .before .largest .ensures, c .before .before .before .before .before .write-constant .ensures .0, c .before .if1 .left),
+      rw (back (c .before .before .before .before .before .before .constant-word .ok), c .before .before .before .before .before .before .constant-word .ensures) at (c .before .before .before .before .before .write-constant .ensures .1),
+    )
 
 pub begin-constant-spec : {M : Type 1} → statement M
 begin-constant-spec =

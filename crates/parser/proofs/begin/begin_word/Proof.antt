@@ -1,17 +1,9 @@
 -- `parser::begin::begin_word` meets its contract. Assumes nothing.
 use borrow.Author.Needs.{needs}
+use mathlib.Core.Path.{sym, _∙_}
+use Rattle.parser.specs.Machine.{begin-word, begin-leaf, begin-form}
 use Rattle.parser.proofs.begin.begin_word.Statement.{statement}
 use Rattle.parser.proofs.begin.begin_word.Tie as tie
-use Rattle.parser.proofs.begin.begin_word.Reads as reads
-use Rattle.parser.proofs.begin.begin_word.Lts as lts
-use Rattle.parser.proofs.begin.begin_form.Reads as begin-form-reads
-use Rattle.parser.proofs.begin.begin_leaf.Reads as begin-leaf-reads
-use Rattle.parser.proofs.begin.is_leaf.Reads as is-leaf-reads
-use Rattle.parser.proofs.frames.top_frame.Reads as top-frame-reads
-use Rattle.parser.proofs.sorts.begins.Reads as begins-reads
-use Rattle.parser.proofs.states.refused.Reads as refused-reads
-use Rattle.parser.proofs.symbols.beginning.Reads as beginning-reads
-use Rattle.parser.proofs.symbols.hole.Reads as hole-reads
 
 top-frame-requires : tie.Need-top-frame-requires
 top-frame-requires c κs = search needs
@@ -25,38 +17,70 @@ beginning-requires c κs = search needs
 begins-requires : tie.Need-begins-requires
 begins-requires c κs = search needs
 
-refused-requires : tie.Need-refused-requires
-refused-requires c κs = search needs
-
-same-length : tie.Need-same-length
-same-length c = search needs
-
-returns : tie.Need-returns
-returns c = ?
-
 is-leaf-requires : tie.Need-is-leaf-requires
 is-leaf-requires c κs = search needs
 
 begin-leaf-requires : tie.Need-begin-leaf-requires
 begin-leaf-requires c κs = search needs
 
-begin-form-requires : tie.Need-begin-form-requires
-begin-form-requires c κs = search needs
+same-length : tie.Need-same-length
+same-length c = search needs
 
 same-length-2 : tie.Need-same-length-2
 same-length-2 c = search needs
+
+returns : tie.Need-returns
+unfolding begin-word begin-leaf begin-form
+returns c =
+    let b = rw (c .before .before .before .before .before .before .before .beginning .ensures, c .before .before .before .before .before .before .before .before .hole .ensures, c .before .before .before .before .before .before .before .before .before .top-frame .ensures) at (c .before .before .before .before .before .before .begins .ensures) in
+    let n = sym b ∙ c .before .before .before .before .before .if1 .taken in
+    let l = sym (c .before .before .before .before .is-leaf .ensures) ∙ c .before .before .before .if2 .taken in
+    (
+      rw (n, l) (c .before .begin-leaf .ensures .0),
+      (
+        rw (n, l),
+        rw (n, l) (c .before .begin-leaf .ensures .1),
+      ),
+    )
+
+begin-form-requires : tie.Need-begin-form-requires
+begin-form-requires c κs = search needs
 
 same-length-3 : tie.Need-same-length-3
 same-length-3 c = search needs
 
 returns-2 : tie.Need-returns-2
-returns-2 c = ?
+unfolding begin-word begin-leaf begin-form
+returns-2 c =
+    let b = rw (c .before .before .before .before .before .before .before .before .beginning .ensures, c .before .before .before .before .before .before .before .before .before .hole .ensures, c .before .before .before .before .before .before .before .before .before .before .top-frame .ensures) at (c .before .before .before .before .before .before .before .begins .ensures) in
+    let n = sym b ∙ c .before .before .before .before .before .before .if1 .taken in
+    let l = sym (c .before .before .before .before .before .is-leaf .ensures) ∙ c .before .before .before .before .if2 .left in
+    (
+      rw (n, l) (c .before .before .begin-form .ensures .0),
+      (
+        rw (n, l) (c .before .before .begin-form .ensures .1),
+        rw (n, l),
+      ),
+    )
+
+refused-requires : tie.Need-refused-requires
+refused-requires c κs = search needs
 
 same-length-4 : tie.Need-same-length-4
 same-length-4 c = search needs
 
 returns-3 : tie.Need-returns-3
-returns-3 c = ?
+unfolding begin-word begin-leaf begin-form
+returns-3 c =
+    let b = rw (c .before .before .before .beginning .ensures, c .before .before .before .before .hole .ensures, c .before .before .before .before .before .top-frame .ensures) at (c .before .before .begins .ensures) in
+    let n = sym b ∙ c .before .if1 .left in
+    (
+      rw n (c .refused .ensures),
+      (
+        rw n,
+        rw n,
+      ),
+    )
 
 pub begin-word-spec : {M : Type 1} → statement M
 begin-word-spec =
@@ -66,14 +90,14 @@ begin-word-spec =
     hole-requires
     beginning-requires
     begins-requires
-    refused-requires
-    same-length
-    returns
     is-leaf-requires
     begin-leaf-requires
-    begin-form-requires
+    same-length
     same-length-2
+    returns
+    begin-form-requires
     same-length-3
     returns-2
+    refused-requires
     same-length-4
     returns-3)
