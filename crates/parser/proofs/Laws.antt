@@ -15,7 +15,7 @@ use lib.ListN.{length, getD, set}
 use lib.Seq.{sets}
 use Rattle.grammar.specs.Meaning.{minus}
 use Rattle.grammar.specs.InRange.{limit}
-use Rattle.parser.specs.Machine.{Config, config, refused, begin-numeral, begin-count, begin-constant, hole, begins, constant-word, put, top-after, top-frame, row-fits, rows-after, with-words, full}
+use Rattle.parser.specs.Machine.{Config, config, refused, Reduced, reduce, reduced-to, hold, maker, operator-row, begin-numeral, begin-count, begin-constant, hole, begins, constant-word, put, top-after, top-frame, row-fits, rows-after, with-words, full}
 
 -- ---- frames
 
@@ -107,3 +107,34 @@ numeral-stack c v p = at-test (eqb (hole f) 78) (begins (hole f) 69)
 
 pub back : {z : ℤ} → mag z < 2147483648 → toZ w32 (ofZ w32 z) ≡ z
 back h = toZ-ofZ (record { sfits = h })
+
+-- ---- operators that take a part, one after the other
+
+module _ (st : List ℕ) (b : ℕ) where
+  pub reduce-none : (n t r : ℕ) (ws : List ℤ) → n ≤ 0 → reduced-to t r n ws ≡ reduce st b n t r ws
+  unfolding reduce
+  reduce-none zero t r ws h = refl
+  reduce-none (suc n) t r ws h = absurd (omega linear)
+
+  pub reduce-stops : (n t r : ℕ) (ws : List ℤ) → hold (top-frame st n) < b → reduced-to t r n ws ≡ reduce st b n t r ws
+  unfolding reduce
+  reduce-stops zero t r ws h = refl
+  reduce-stops (suc n) t r ws h = rw (lt-ltb (hold (getD st n 0)) b h)
+
+  pub reduce-misfits : (n t r : ℕ) (ws : List ℤ) → 0 < n → b ≤ hold (top-frame st n) → (t ≡ hole (top-frame st n) → ⊥)
+      → reduced-to 0 r n ws ≡ reduce st b n t r ws
+  unfolding reduce
+  reduce-misfits zero t r ws o h e = absurd (omega linear)
+  reduce-misfits (suc n) t r ws o h e = rw (le-ltb (hold (getD st n 0)) b h, ne-eqb t (hole (getD st n 0)) e)
+
+  pub reduce-more : (n t r : ℕ) (ws : List ℤ) → 0 < n → b ≤ hold (top-frame st n) → t ≡ hole (top-frame st n)
+      → reduce st b (n - 1) (maker (top-frame st n)) (rows-after ws r) (operator-row ws r (top-frame st n)) ≡ reduce st b n t r ws
+  unfolding reduce
+  reduce-more zero t r ws o h e = absurd (omega linear)
+  reduce-more (suc n) t r ws o h e =
+      let one : suc n - 1 ≡ n = omega linear in
+      rw (le-ltb (hold (getD st n 0)) b h, eq-eqb t (hole (getD st n 0)) e, one)
+
+-- what is left, field by field
+pub left-fields : (x y : Reduced) → x ≡ y → (x .sort ≡ y .sort) × ((x .rows ≡ y .rows) × ((x .top ≡ y .top) × (x .words ≡ y .words)))
+left-fields x y e = (ap (λ (z : Reduced). z .sort) e, (ap (λ (z : Reduced). z .rows) e, (ap (λ (z : Reduced). z .top) e, ap (λ (z : Reduced). z .words) e)))

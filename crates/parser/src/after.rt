@@ -114,7 +114,14 @@ fn close_form(words: &mut [i32], s: State, f: usize) -> State
 {
     let rows = s.rows;
     let place = f % 64;
-    let written = write_row(words, rows, form_kind(place), first_part(f), second_part(f), below(rows));
+    let written = write_row(
+        words,
+        rows,
+        form_kind(place),
+        first_part(f),
+        second_part(f),
+        below(rows),
+    );
     let next = with_bodies(s, bodies_after(place, s.bodies));
     complete(next, maker(f), written, below(s.top))
 }
@@ -134,7 +141,11 @@ fn open_body(stack: &mut [u32], words: &mut [i32], s: State, f: usize) -> State
     ensures words { λ r. ⌜ now (words .exit) ≡ open-body (config s (now (stack .entry)) (now (words .entry))) f .words ⌝ }
 {
     let rows = write_row(words, s.rows, kinds::NOTE, second_part(f), below(s.rows), 0);
-    let top = put(stack, below(s.top), frame(symbols::WHILE_BODY, first_part(f), below(rows)));
+    let top = put(
+        stack,
+        below(s.top),
+        frame(symbols::WHILE_BODY, first_part(f), below(rows)),
+    );
     let next = with_bodies(s, s.bodies % 65536 + 1);
     due(with_rows(next, rows), PART, top)
 }
@@ -143,7 +154,11 @@ fn next_place(stack: &mut [u32], s: State, f: usize) -> State
     ensures state { λ r. ⌜ r ≡ next-place (config s (now (stack .entry)) []) f .state ⌝ }
     ensures stack { λ r. ⌜ now (stack .exit) ≡ next-place (config s (now (stack .entry)) []) f .stack ⌝ }
 {
-    let top = put(stack, below(s.top), frame(f % 64 + 1, second_part(f), below(s.rows)));
+    let top = put(
+        stack,
+        below(s.top),
+        frame(f % 64 + 1, second_part(f), below(s.rows)),
+    );
     due(s, PART, top)
 }
 
@@ -212,5 +227,11 @@ pub fn after(stack: &mut [u32], words: &mut [i32], s: State, token: usize, place
         top: s.top,
     };
     let left = reduce(stack, words, binding(token), part);
-    go_on(stack, words, complete(s, left.sort, left.rows, left.top), token, place)
+    go_on(
+        stack,
+        words,
+        complete(s, left.sort, left.rows, left.top),
+        token,
+        place,
+    )
 }

@@ -206,7 +206,14 @@ fn begin_word(stack: &mut [u32], words: &mut [i32], s: State, token: usize, plac
     refused(s, place)
 }
 
-pub fn begin(stack: &mut [u32], words: &mut [i32], s: State, token: usize, value: usize, place: usize) -> State
+pub fn begin(
+    stack: &mut [u32],
+    words: &mut [i32],
+    s: State,
+    token: usize,
+    value: usize,
+    place: usize,
+) -> State
     ensures state { λ r. ⌜ r ≡ Machine·begin (config s (now (stack .entry)) (now (words .entry))) token value place .state ⌝ }
     ensures stack { λ r. ⌜ now (stack .exit) ≡ Machine·begin (config s (now (stack .entry)) (now (words .entry))) token value place .stack ⌝ }
     ensures words { λ r. ⌜ now (words .exit) ≡ Machine·begin (config s (now (stack .entry)) (now (words .entry))) token value place .words ⌝ }

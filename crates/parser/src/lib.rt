@@ -16,9 +16,13 @@ ghost use Rattle.parser.specs.Machine.{config, at-post, expect as Machin
 
 // What is due: a part; what goes on after a part; an opening bracket; `:=`; nothing, since a token was refused.
 pub const PART: usize = 0;
+
 pub const AFTER: usize = 1;
+
 pub const BRACKET: usize = 2;
+
 pub const BECOMES: usize = 3;
+
 pub const REFUSED: usize = 4;
 
 // No place of a text.
@@ -67,7 +71,14 @@ fn expect(s: State, token: usize, due: usize, place: usize) -> State
     }
 }
 
-fn take_part(stack: &mut [u32], words: &mut [i32], s: State, token: usize, value: usize, place: usize) -> State
+fn take_part(
+    stack: &mut [u32],
+    words: &mut [i32],
+    s: State,
+    token: usize,
+    value: usize,
+    place: usize,
+) -> State
     ensures state { λ r. ⌜ r ≡ take-part (config s (now (stack .entry)) (now (words .entry))) token value place .state ⌝ }
     ensures stack { λ r. ⌜ now (stack .exit) ≡ take-part (config s (now (stack .entry)) (now (words .entry))) token value place .stack ⌝ }
     ensures words { λ r. ⌜ now (words .exit) ≡ take-part (config s (now (stack .entry)) (now (words .entry))) token value place .words ⌝ }
@@ -92,7 +103,14 @@ fn take_after(stack: &mut [u32], words: &mut [i32], s: State, token: usize, plac
 }
 
 // Takes a token with its value, at a place; once one was refused, nothing changes.
-pub fn take(stack: &mut [u32], words: &mut [i32], s: State, token: usize, value: usize, place: usize) -> State
+pub fn take(
+    stack: &mut [u32],
+    words: &mut [i32],
+    s: State,
+    token: usize,
+    value: usize,
+    place: usize,
+) -> State
     ensures state { λ r. ⌜ r ≡ Machine·take (config s (now (stack .entry)) (now (words .entry))) token value place .state ⌝ }
     ensures stack { λ r. ⌜ now (stack .exit) ≡ Machine·take (config s (now (stack .entry)) (now (words .entry))) token value place .stack ⌝ }
     ensures words { λ r. ⌜ now (words .exit) ≡ Machine·take (config s (now (stack .entry)) (now (words .entry))) token value place .words ⌝ }

@@ -10,18 +10,31 @@ ghost use Rattle.parser.specs.Symbols.{holds, holes, makes, ends, binds,
 // ---- frames: operators that wait for the part right of them, and places of forms
 
 pub const NEGATE: usize = 8;
+
 pub const IN_MARK: usize = 9;
+
 pub const ASSIGN: usize = 33;
+
 pub const SEMICOLON: usize = 34;
+
 pub const WHEN_FIRST: usize = 49;
+
 pub const WHEN_THIRD: usize = 51;
+
 pub const IF_GUARD: usize = 52;
+
 pub const IF_ELSE: usize = 54;
+
 pub const WHILE_GUARD: usize = 55;
+
 pub const WHILE_FALL: usize = 57;
+
 pub const WHILE_BODY: usize = 58;
+
 pub const PRECONDITION: usize = 59;
+
 pub const POSTCONDITION: usize = 61;
+
 pub const GROUP: usize = 62;
 // a group that takes an expression only
 pub const EXPRESSION_GROUP: usize = 63;

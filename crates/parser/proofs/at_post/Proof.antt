@@ -1,14 +1,9 @@
 -- `parser::at_post` meets its contract. Assumes nothing.
 use borrow.Author.Needs.{needs}
+use borrow.Author.Tests.{eq-eqb, ne-eqb, lt-ltb, le-ltb, le-leb, lt-leb}
+use Rattle.parser.specs.Machine.{at-post}
 use Rattle.parser.proofs.at_post.Statement.{statement}
 use Rattle.parser.proofs.at_post.Tie as tie
-use Rattle.parser.proofs.at_post.Reads as reads
-use Rattle.parser.proofs.at_post.Lts as lts
-use Rattle.parser.proofs.after.after.Reads as after-reads
-use Rattle.parser.proofs.frames.below.Reads as below-reads
-use Rattle.parser.proofs.frames.top_frame.Reads as top-frame-reads
-use Rattle.parser.proofs.states.complete.Reads as complete-reads
-use Rattle.parser.proofs.states.refused.Reads as refused-reads
 
 top-frame-requires : tie.Need-top-frame-requires
 top-frame-requires c κs = search needs
@@ -32,13 +27,29 @@ same-length-2 : tie.Need-same-length-2
 same-length-2 c = search needs
 
 returns : tie.Need-returns
-returns c = ?
+unfolding at-post
+returns c =
+    let t = eq-eqb _ 34 (rw (c .before .before .before .before .before .before .before .before .before .top-frame .ensures) at (c .before .before .before .before .before .before .before .before .if1 .taken)) in (
+      rw t (rw (c .before .before .before .before .before .before .complete .ensures, c .before .before .before .before .before .before .before .below .ensures) at (c .before .before .before .after .ensures .0)),
+      (
+        rw t (rw (c .before .before .before .before .before .before .complete .ensures, c .before .before .before .before .before .before .before .below .ensures) at (c .before .before .before .after .ensures .1 .0)),
+        rw t (rw (c .before .before .before .before .before .before .complete .ensures, c .before .before .before .before .before .before .before .below .ensures) at (c .before .before .before .after .ensures .1 .1)),
+      ),
+    )
 
 same-length-3 : tie.Need-same-length-3
 same-length-3 c = search needs
 
 returns-2 : tie.Need-returns-2
-returns-2 c = ?
+unfolding at-post
+returns-2 c =
+    let t = ne-eqb _ 34 (rw (c .before .before .top-frame .ensures) at (c .before .if1 .left)) in (
+      rw t (c .refused .ensures),
+      (
+        rw t,
+        rw t,
+      ),
+    )
 
 pub at-post-spec : {M : Type 1} → statement M
 at-post-spec =

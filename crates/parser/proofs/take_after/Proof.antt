@@ -1,11 +1,9 @@
 -- `parser::take_after` meets its contract. Assumes nothing.
 use borrow.Author.Needs.{needs}
+use borrow.Author.Tests.{eq-eqb, ne-eqb, lt-ltb, le-ltb, le-leb, lt-leb}
+use Rattle.parser.specs.Machine.{take-after}
 use Rattle.parser.proofs.take_after.Statement.{statement}
 use Rattle.parser.proofs.take_after.Tie as tie
-use Rattle.parser.proofs.take_after.Reads as reads
-use Rattle.parser.proofs.take_after.Lts as lts
-use Rattle.parser.proofs.after.after.Reads as after-reads
-use Rattle.parser.proofs.states.refused.Reads as refused-reads
 
 refused-requires : tie.Need-refused-requires
 refused-requires c κs = search needs
@@ -14,7 +12,15 @@ after-requires : tie.Need-after-requires
 after-requires c κs = search needs
 
 returns : tie.Need-returns
-returns c = ?
+unfolding take-after
+returns c =
+    let t = eq-eqb _ 50 (c .before .if1 .taken) in (
+      rw t (c .refused .ensures),
+      (
+        rw t,
+        rw t,
+      ),
+    )
 
 same-length : tie.Need-same-length
 same-length c = search needs
@@ -23,7 +29,15 @@ same-length-2 : tie.Need-same-length-2
 same-length-2 c = search needs
 
 returns-2 : tie.Need-returns-2
-returns-2 c = ?
+unfolding take-after
+returns-2 c =
+    let t = ne-eqb _ 50 (c .before .before .before .before .before .before .if1 .left) in (
+      rw t (c .before .before .before .after .ensures .0),
+      (
+        rw t (c .before .before .before .after .ensures .1 .0),
+        rw t (c .before .before .before .after .ensures .1 .1),
+      ),
+    )
 
 pub take-after-spec : {M : Type 1} → statement M
 take-after-spec =

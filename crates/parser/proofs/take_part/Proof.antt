@@ -1,11 +1,9 @@
 -- `parser::take_part` meets its contract. Assumes nothing.
 use borrow.Author.Needs.{needs}
+use borrow.Author.Tests.{eq-eqb, ne-eqb, lt-ltb, le-ltb, le-leb, lt-leb}
+use Rattle.parser.specs.Machine.{take-part}
 use Rattle.parser.proofs.take_part.Statement.{statement}
 use Rattle.parser.proofs.take_part.Tie as tie
-use Rattle.parser.proofs.take_part.Reads as reads
-use Rattle.parser.proofs.take_part.Lts as lts
-use Rattle.parser.proofs.at_post.Reads as at-post-reads
-use Rattle.parser.proofs.begin.begin.Reads as begin-reads
 
 at-post-requires : tie.Need-at-post-requires
 at-post-requires c κs = search needs
@@ -20,7 +18,15 @@ same-length-2 : tie.Need-same-length-2
 same-length-2 c = search needs
 
 returns : tie.Need-returns
-returns c = ?
+unfolding take-part
+returns c =
+    let t = eq-eqb _ 50 (c .before .before .before .before .before .before .if1 .taken) in (
+      rw t (c .before .before .before .at-post .ensures .0),
+      (
+        rw t (c .before .before .before .at-post .ensures .1 .0),
+        rw t (c .before .before .before .at-post .ensures .1 .1),
+      ),
+    )
 
 same-length-3 : tie.Need-same-length-3
 same-length-3 c = search needs
@@ -29,7 +35,15 @@ same-length-4 : tie.Need-same-length-4
 same-length-4 c = search needs
 
 returns-2 : tie.Need-returns-2
-returns-2 c = ?
+unfolding take-part
+returns-2 c =
+    let t = ne-eqb _ 50 (c .before .before .before .before .before .before .if1 .left) in (
+      rw t (c .before .before .before .begin .ensures .0),
+      (
+        rw t (c .before .before .before .begin .ensures .1 .0),
+        rw t (c .before .before .before .begin .ensures .1 .1),
+      ),
+    )
 
 pub take-part-spec : {M : Type 1} → statement M
 take-part-spec =

@@ -1,13 +1,8 @@
 -- `parser::after::after` meets its contract. Assumes nothing.
 use borrow.Author.Needs.{needs}
+use Rattle.parser.specs.Machine.{after}
 use Rattle.parser.proofs.after.after.Statement.{statement}
 use Rattle.parser.proofs.after.after.Tie as tie
-use Rattle.parser.proofs.after.after.Reads as reads
-use Rattle.parser.proofs.after.after.Lts as lts
-use Rattle.parser.proofs.after.go_on.Reads as go-on-reads
-use Rattle.parser.proofs.after.reduce.Reads as reduce-reads
-use Rattle.parser.proofs.states.complete.Reads as complete-reads
-use Rattle.parser.proofs.symbols.binding.Reads as binding-reads
 
 binding-requires : tie.Need-binding-requires
 binding-requires c κs = search needs
@@ -28,7 +23,14 @@ same-length-2 : tie.Need-same-length-2
 same-length-2 c = search needs
 
 returns : tie.Need-returns
-returns c = ?
+unfolding after
+returns c = (
+  rw (c .before .before .before .before .complete .ensures, c .before .before .before .before .before .before .before .before .reduce .ensures .0, c .before .before .before .before .before .before .before .before .reduce .ensures .1 .0, c .before .before .before .before .before .before .before .before .reduce .ensures .1 .1 .0, c .before .before .before .before .before .before .before .before .reduce .ensures .1 .1 .1, c .before .before .before .before .before .before .before .before .before .binding .ensures) at (c .before .before .before .go-on .ensures .0),
+  (
+    rw (c .before .before .before .before .complete .ensures, c .before .before .before .before .before .before .before .before .reduce .ensures .0, c .before .before .before .before .before .before .before .before .reduce .ensures .1 .0, c .before .before .before .before .before .before .before .before .reduce .ensures .1 .1 .0, c .before .before .before .before .before .before .before .before .reduce .ensures .1 .1 .1, c .before .before .before .before .before .before .before .before .before .binding .ensures) at (c .before .before .before .go-on .ensures .1 .0),
+    rw (c .before .before .before .before .complete .ensures, c .before .before .before .before .before .before .before .before .reduce .ensures .0, c .before .before .before .before .before .before .before .before .reduce .ensures .1 .0, c .before .before .before .before .before .before .before .before .reduce .ensures .1 .1 .0, c .before .before .before .before .before .before .before .before .reduce .ensures .1 .1 .1, c .before .before .before .before .before .before .before .before .before .binding .ensures) at (c .before .before .before .go-on .ensures .1 .1),
+  ),
+)
 
 pub after-spec : {M : Type 1} → statement M
 after-spec =

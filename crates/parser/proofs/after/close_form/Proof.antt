@@ -40,9 +40,9 @@ same-length c = search needs
 returns : tie.Need-returns
 unfolding close-form
 returns c = (
-      rw (c .complete .ensures, c .before .below2 .ensures, c .before .before .maker .ensures, c .before .before .before .with-bodies .ensures, c .before .before .before .before .bodies-after .ensures, c .before .before .before .before .before .before .write-row .ensures .0),
-      rw (c .before .before .before .before .before .before .write-row .ensures .1, c .before .before .before .before .before .before .before .below .ensures, c .before .before .before .before .before .before .before .before .second-part .ensures, c .before .before .before .before .before .before .before .before .before .first-part .ensures, c .before .before .before .before .before .before .before .before .before .before .form-kind .ensures),
-    )
+  rw (c .complete .ensures, c .before .below2 .ensures, c .before .before .maker .ensures, c .before .before .before .with-bodies .ensures, c .before .before .before .before .bodies-after .ensures, c .before .before .before .before .before .before .write-row .ensures .0),
+  rw (c .before .before .before .before .before .before .write-row .ensures .1, c .before .before .before .before .before .before .before .below .ensures, c .before .before .before .before .before .before .before .before .second-part .ensures, c .before .before .before .before .before .before .before .before .before .first-part .ensures, c .before .before .before .before .before .before .before .before .before .before .form-kind .ensures),
+)
 
 pub close-form-spec : {M : Type 1} → statement M
 close-form-spec =

@@ -19,9 +19,9 @@ same-length c = search needs
 returns : tie.Need-returns
 unfolding close-mark
 returns c = (
-      rw (c .complete .ensures, c .before .below .ensures, c .before .before .before .write-row .ensures .0),
-      c .before .before .before .write-row .ensures .1,
-    )
+  rw (c .complete .ensures, c .before .below .ensures, c .before .before .before .write-row .ensures .0),
+  c .before .before .before .write-row .ensures .1,
+)
 
 pub close-mark-spec : {M : Type 1} → statement M
 close-mark-spec =

@@ -1,20 +1,10 @@
 -- `parser::after::go_on` meets its contract. Assumes nothing.
 use borrow.Author.Needs.{needs}
+use mathlib.Core.Path.{sym, _∙_}
+use borrow.Author.Tests.{eq-eqb, ne-eqb, lt-ltb, le-ltb, le-leb, lt-leb}
+use Rattle.parser.specs.Machine.{go-on, push-infix}
 use Rattle.parser.proofs.after.go_on.Statement.{statement}
 use Rattle.parser.proofs.after.go_on.Tie as tie
-use Rattle.parser.proofs.after.go_on.Reads as reads
-use Rattle.parser.proofs.after.go_on.Lts as lts
-use Rattle.parser.proofs.after.close.Reads as close-reads
-use Rattle.parser.proofs.after.push_infix.Reads as push-infix-reads
-use Rattle.parser.proofs.frames.top_frame.Reads as top-frame-reads
-use Rattle.parser.proofs.sorts.begins.Reads as begins-reads
-use Rattle.parser.proofs.sorts.fits.Reads as fits-reads
-use Rattle.parser.proofs.states.refused.Reads as refused-reads
-use Rattle.parser.proofs.symbols.closing.Reads as closing-reads
-use Rattle.parser.proofs.symbols.end_of.Reads as end-of-reads
-use Rattle.parser.proofs.symbols.hole.Reads as hole-reads
-use Rattle.parser.proofs.symbols.maker.Reads as maker-reads
-use Rattle.parser.proofs.symbols.operand_sort.Reads as operand-sort-reads
 
 top-frame-requires : tie.Need-top-frame-requires
 top-frame-requires c κs = search needs
@@ -38,7 +28,17 @@ same-length : tie.Need-same-length
 same-length c = search needs
 
 returns : tie.Need-returns
-returns c = ?
+unfolding go-on push-infix
+returns c =
+    let t = eq-eqb _ _ (sym (c .before .before .before .before .before .before .before .before .before .before .operand-sort .ensures) ∙ c .before .before .before .before .before .before .before .before .if1 .taken) in
+    let b = rw (c .before .before .before .before .before .before .before .hole .ensures, c .before .before .before .before .before .before .maker .ensures, c .before .before .before .before .before .before .before .before .before .before .before .top-frame .ensures) at (c .before .before .before .before .before .begins .ensures) in
+    let y = sym b ∙ c .before .before .before .before .if2 .taken in (
+      rw (t, y) (c .before .before .push-infix .ensures .0),
+      (
+        rw (t, y) (c .before .before .push-infix .ensures .1),
+        rw (t, y),
+      ),
+    )
 
 refused-requires : tie.Need-refused-requires
 refused-requires c κs = search needs
@@ -47,7 +47,17 @@ same-length-2 : tie.Need-same-length-2
 same-length-2 c = search needs
 
 returns-2 : tie.Need-returns-2
-returns-2 c = ?
+unfolding go-on push-infix
+returns-2 c =
+    let t = eq-eqb _ _ (sym (c .before .before .before .before .before .before .before .operand-sort .ensures) ∙ c .before .before .before .before .before .if1 .taken) in
+    let b = rw (c .before .before .before .before .hole .ensures, c .before .before .before .maker .ensures, c .before .before .before .before .before .before .before .before .top-frame .ensures) at (c .before .before .begins .ensures) in
+    let y = sym b ∙ c .before .if2 .left in (
+      rw (t, y) (c .refused .ensures),
+      (
+        rw (t, y),
+        rw (t, y),
+      ),
+    )
 
 end-of-requires : tie.Need-end-of-requires
 end-of-requires c κs = search needs
@@ -62,7 +72,16 @@ same-length-3 : tie.Need-same-length-3
 same-length-3 c = search needs
 
 returns-3 : tie.Need-returns-3
-returns-3 c = ?
+unfolding go-on push-infix
+returns-3 c =
+    let t = ne-eqb _ _ (λ e. c .before .before .before .before .if1 .left (c .before .before .before .before .before .before .operand-sort .ensures ∙ e)) in
+    let e = ne-eqb _ _ (rw (c .before .before .before .end-of .ensures, c .before .before .before .before .before .before .before .top-frame .ensures, c .before .before .closing .ensures) at (c .before .if3 .taken)) in (
+      rw (t, e) (c .refused2 .ensures),
+      (
+        rw (t, e),
+        rw (t, e),
+      ),
+    )
 
 hole-requires-2 : tie.Need-hole-requires-2
 hole-requires-2 c κs = search needs
@@ -83,13 +102,35 @@ same-length-5 : tie.Need-same-length-5
 same-length-5 c = search needs
 
 returns-4 : tie.Need-returns-4
-returns-4 c = ?
+unfolding go-on push-infix
+returns-4 c =
+    let t = ne-eqb _ _ (λ e. c .before .before .before .before .before .before .before .before .before .before .before .before .if1 .left (c .before .before .before .before .before .before .before .before .before .before .before .before .before .before .operand-sort .ensures ∙ e)) in
+    let e = eq-eqb _ _ (rw (c .before .before .before .before .before .before .before .before .before .before .before .end-of .ensures, c .before .before .before .before .before .before .before .before .before .before .before .before .before .before .before .top-frame .ensures, c .before .before .before .before .before .before .before .before .before .before .closing .ensures) at (c .before .before .before .before .before .before .before .before .before .if3 .left)) in
+    let f = rw (c .before .before .before .before .before .before .before .before .hole2 .ensures, c .before .before .before .before .before .before .before .before .before .before .before .before .before .before .before .top-frame .ensures) at (c .before .before .before .before .before .before .before .fits2 .ensures) in
+    let y = sym f ∙ c .before .before .before .before .before .before .if4 .taken in (
+      rw (t, e, y) (rw (c .before .before .before .before .before .before .before .before .before .before .before .before .before .before .before .top-frame .ensures) at (c .before .before .before .close .ensures .0)),
+      (
+        rw (t, e, y) (rw (c .before .before .before .before .before .before .before .before .before .before .before .before .before .before .before .top-frame .ensures) at (c .before .before .before .close .ensures .1 .0)),
+        rw (t, e, y) (rw (c .before .before .before .before .before .before .before .before .before .before .before .before .before .before .before .top-frame .ensures) at (c .before .before .before .close .ensures .1 .1)),
+      ),
+    )
 
 same-length-6 : tie.Need-same-length-6
 same-length-6 c = search needs
 
 returns-5 : tie.Need-returns-5
-returns-5 c = ?
+unfolding go-on push-infix
+returns-5 c =
+    let t = ne-eqb _ _ (λ e. c .before .before .before .before .before .before .before .if1 .left (c .before .before .before .before .before .before .before .before .before .operand-sort .ensures ∙ e)) in
+    let e = eq-eqb _ _ (rw (c .before .before .before .before .before .before .end-of .ensures, c .before .before .before .before .before .before .before .before .before .before .top-frame .ensures, c .before .before .before .before .before .closing .ensures) at (c .before .before .before .before .if3 .left)) in
+    let f = rw (c .before .before .before .hole2 .ensures, c .before .before .before .before .before .before .before .before .before .before .top-frame .ensures) at (c .before .before .fits2 .ensures) in
+    let y = sym f ∙ c .before .if4 .left in (
+      rw (t, e, y) (c .refused3 .ensures),
+      (
+        rw (t, e, y),
+        rw (t, e, y),
+      ),
+    )
 
 pub go-on-spec : {M : Type 1} → statement M
 go-on-spec =

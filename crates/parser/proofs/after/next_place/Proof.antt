@@ -31,9 +31,9 @@ same-length c = search needs
 returns : tie.Need-returns
 unfolding next-place
 returns c = (
-      rw (c .due .ensures, c .before .before .before .put .ensures .0, c .before .before .before .before .before .before .before .below .ensures),
-      rw (c .before .before .before .put .ensures .1, c .before .before .before .before .frame .ensures, c .before .before .before .before .before .below2 .ensures, c .before .before .before .before .before .before .second-part .ensures, c .before .before .before .before .before .before .before .below .ensures),
-    )
+  rw (c .due .ensures, c .before .before .before .put .ensures .0, c .before .before .before .before .before .before .before .below .ensures),
+  rw (c .before .before .before .put .ensures .1, c .before .before .before .before .frame .ensures, c .before .before .before .before .before .below2 .ensures, c .before .before .before .before .before .before .second-part .ensures, c .before .before .before .before .before .before .before .below .ensures),
+)
 
 pub next-place-spec : {M : Type 1} → statement M
 next-place-spec =

@@ -49,12 +49,12 @@ same-length-2 c = c .before .before .before .before .before .before .before .bef
 returns : tie.Need-returns
 unfolding open-body
 returns c = (
-      rw (c .due .ensures, c .before .with-rows .ensures, c .before .before .with-bodies .ensures, c .before .before .before .before .before .before .put .ensures .0, c .before .before .before .before .before .before .before .before .before .before .below2 .ensures, c .before .before .before .before .before .before .before .before .before .before .before .before .before .write-row .ensures .0),
-      (
-        rw (c .before .before .before .before .before .before .put .ensures .1, c .before .before .before .before .before .before .before .frame .ensures, c .before .before .before .before .before .before .before .before .below3 .ensures, c .before .before .before .before .before .before .before .before .before .first-part .ensures, c .before .before .before .before .before .before .before .before .before .before .below2 .ensures, c .before .before .before .before .before .before .before .before .before .before .before .before .before .write-row .ensures .0),
-        rw (c .before .before .before .before .before .before .before .before .before .before .before .before .before .write-row .ensures .1, c .before .before .before .before .before .before .before .before .before .before .before .before .before .before .below .ensures, c .before .before .before .before .before .before .before .before .before .before .before .before .before .before .before .second-part .ensures),
-      ),
-    )
+  rw (c .due .ensures, c .before .with-rows .ensures, c .before .before .with-bodies .ensures, c .before .before .before .before .before .before .put .ensures .0, c .before .before .before .before .before .before .before .before .before .before .below2 .ensures, c .before .before .before .before .before .before .before .before .before .before .before .before .before .write-row .ensures .0),
+  (
+    rw (c .before .before .before .before .before .before .put .ensures .1, c .before .before .before .before .before .before .before .frame .ensures, c .before .before .before .before .before .before .before .before .below3 .ensures, c .before .before .before .before .before .before .before .before .before .first-part .ensures, c .before .before .before .before .before .before .before .before .before .before .below2 .ensures, c .before .before .before .before .before .before .before .before .before .before .before .before .before .write-row .ensures .0),
+    rw (c .before .before .before .before .before .before .before .before .before .before .before .before .before .write-row .ensures .1, c .before .before .before .before .before .before .before .before .before .before .before .before .before .before .below .ensures, c .before .before .before .before .before .before .before .before .before .before .before .before .before .before .before .second-part .ensures),
+  ),
+)
 
 pub open-body-spec : {M : Type 1} → statement M
 open-body-spec =

@@ -22,9 +22,9 @@ same-length c = search needs
 returns : tie.Need-returns
 unfolding push-infix
 returns c = (
-      rw (c .due .ensures, c .before .before .before .put .ensures .0),
-      rw (c .before .before .before .put .ensures .1, c .before .before .before .before .frame .ensures, c .before .before .before .before .before .below .ensures),
-    )
+  rw (c .due .ensures, c .before .before .before .put .ensures .0),
+  rw (c .before .before .before .put .ensures .1, c .before .before .before .before .frame .ensures, c .before .before .before .before .before .below .ensures),
+)
 
 pub push-infix-spec : {M : Type 1} → statement M
 push-infix-spec =

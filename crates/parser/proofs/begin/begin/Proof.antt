@@ -24,8 +24,7 @@ same-length-2 c = search needs
 returns : tie.Need-returns
 unfolding begin
 returns c =
-    let t = c .before .before .before .before .match .keys1 in
-    (
+    let t = c .before .before .before .before .match .keys1 in (
       rw t (c .before .begin-numeral .ensures .0),
       (
         rw t (numeral-stack _ _ _),
@@ -42,8 +41,7 @@ same-length-4 c = search needs
 returns-2 : tie.Need-returns-2
 unfolding begin
 returns-2 c =
-    let t = c .before .before .before .before .before .before .match .keys2 in
-    (
+    let t = c .before .before .before .before .before .before .match .keys2 in (
       rw t (c .before .before .before .begin-name .ensures .0),
       (
         rw t (c .before .before .before .begin-name .ensures .1 .0),
@@ -61,8 +59,7 @@ returns-3 : tie.Need-returns-3
 unfolding begin
 returns-3 c =
     let a = ne-eqb _ 1 (c .before .before .before .before .before .before .match .rest .0 .1) in
-    let b = ne-eqb _ 2 (c .before .before .before .before .before .before .match .rest .1) in
-    (
+    let b = ne-eqb _ 2 (c .before .before .before .before .before .before .match .rest .1) in (
       rw (a, b) (c .before .before .before .begin-word .ensures .0),
       (
         rw (a, b) (c .before .before .before .begin-word .ensures .1 .0),

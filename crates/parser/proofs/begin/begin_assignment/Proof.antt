@@ -25,9 +25,9 @@ same-length c = search needs
 returns : tie.Need-returns
 unfolding begin-assignment
 returns c = (
-      rw (c .due .ensures, c .before .noted .ensures, c .before .before .before .before .put .ensures .0),
-      rw (c .before .before .before .before .put .ensures .1, c .before .before .before .before .before .frame .ensures, c .before .before .before .before .before .before .kept .ensures),
-    )
+  rw (c .due .ensures, c .before .noted .ensures, c .before .before .before .before .put .ensures .0),
+  rw (c .before .before .before .before .put .ensures .1, c .before .before .before .before .before .frame .ensures, c .before .before .before .before .before .before .kept .ensures),
+)
 
 pub begin-assignment-spec : {M : Type 1} → statement M
 begin-assignment-spec =

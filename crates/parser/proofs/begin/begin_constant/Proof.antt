@@ -32,9 +32,9 @@ same-length c = search needs
 returns : tie.Need-returns
 unfolding begin-constant
 returns c = (
-      rw (c .complete .ensures, c .before .below .ensures, c .before .before .before .noted .ensures, c .before .before .before .before .largest .ensures, c .before .before .before .before .before .before .write-constant .ensures .0, c .before .before .if1 .taken),
-      rw (back (c .before .before .before .before .before .before .before .constant-word .ok), c .before .before .before .before .before .before .before .constant-word .ensures) at (c .before .before .before .before .before .before .write-constant .ensures .1),
-    )
+  rw (c .complete .ensures, c .before .below .ensures, c .before .before .before .noted .ensures, c .before .before .before .before .largest .ensures, c .before .before .before .before .before .before .write-constant .ensures .0, c .before .before .if1 .taken),
+  rw (back (c .before .before .before .before .before .before .before .constant-word .ok), c .before .before .before .before .before .before .before .constant-word .ensures) at (c .before .before .before .before .before .before .write-constant .ensures .1),
+)
 
 same-length-2 : tie.Need-same-length-2
 same-length-2 c = search needs
@@ -42,9 +42,9 @@ same-length-2 c = search needs
 returns-2 : tie.Need-returns-2
 unfolding begin-constant
 returns-2 c = (
-      rw (c .complete2 .ensures, c .before .before .noted .ensures, c .before .before .before .largest .ensures, c .before .before .before .before .before .write-constant .ensures .0, c .before .if1 .left),
-      rw (back (c .before .before .before .before .before .before .constant-word .ok), c .before .before .before .before .before .before .constant-word .ensures) at (c .before .before .before .before .before .write-constant .ensures .1),
-    )
+  rw (c .complete2 .ensures, c .before .before .noted .ensures, c .before .before .before .largest .ensures, c .before .before .before .before .before .write-constant .ensures .0, c .before .if1 .left),
+  rw (back (c .before .before .before .before .before .before .constant-word .ok), c .before .before .before .before .before .before .constant-word .ensures) at (c .before .before .before .before .before .write-constant .ensures .1),
+)
 
 pub begin-constant-spec : {M : Type 1} → statement M
 begin-constant-spec =

@@ -31,9 +31,9 @@ same-length c = search needs
 returns : tie.Need-returns
 unfolding begin-form
 returns c = (
-      rw (c .due .ensures, c .before .due-after .ensures, c .before .before .before .before .put .ensures .0),
-      rw (c .before .before .before .before .put .ensures .1, c .before .before .before .before .before .frame .ensures, c .before .before .before .before .before .before .opened .ensures, c .before .before .before .before .before .before .before .before .hole .ensures, c .before .before .before .before .before .before .before .before .before .top-frame .ensures),
-    )
+  rw (c .due .ensures, c .before .due-after .ensures, c .before .before .before .before .put .ensures .0),
+  rw (c .before .before .before .before .put .ensures .1, c .before .before .before .before .before .frame .ensures, c .before .before .before .before .before .before .opened .ensures, c .before .before .before .before .before .before .before .before .hole .ensures, c .before .before .before .before .before .before .before .before .before .top-frame .ensures),
+)
 
 pub begin-form-spec : {M : Type 1} → statement M
 begin-form-spec =

@@ -19,9 +19,9 @@ same-length c = search needs
 returns : tie.Need-returns
 unfolding begin-leaf
 returns c = (
-      rw (c .complete .ensures, c .before .beginning .ensures, c .before .before .before .write-row .ensures .0),
-      c .before .before .before .write-row .ensures .1,
-    )
+  rw (c .complete .ensures, c .before .beginning .ensures, c .before .before .before .write-row .ensures .0),
+  c .before .before .before .write-row .ensures .1,
+)
 
 pub begin-leaf-spec : {M : Type 1} → statement M
 begin-leaf-spec =

@@ -22,8 +22,7 @@ returns : tie.Need-returns
 unfolding begin-name begin-assignment begin-variable
 returns c =
     let h = rw (c .before .before .before .before .before .before .top-frame .ensures) at (c .before .before .before .before .before .hole .ensures) in
-    let t = eq-eqb _ 83 (sym h ∙ c .before .before .before .before .if1 .taken) in
-    (
+    let t = eq-eqb _ 83 (sym h ∙ c .before .before .before .before .if1 .taken) in (
       rw t (c .before .before .begin-assignment .ensures .0),
       (
         rw t (c .before .before .begin-assignment .ensures .1),
@@ -51,8 +50,7 @@ unfolding begin-name begin-assignment begin-variable
 returns-2 c =
     let h = rw (c .before .before .before .before .before .before .before .top-frame .ensures) at (c .before .before .before .before .before .before .hole .ensures) in
     let n = ne-eqb _ 83 (λ e. c .before .before .before .before .before .if1 .left (h ∙ e)) in
-    let b = sym (rw h at (c .before .before .before .before .begins .ensures)) ∙ c .before .before .before .if2 .taken in
-    (
+    let b = sym (rw h at (c .before .before .before .before .begins .ensures)) ∙ c .before .before .before .if2 .taken in (
       rw (n, b) (c .before .begin-variable .ensures .0),
       (
         rw (n, b),
@@ -68,8 +66,7 @@ unfolding begin-name begin-assignment begin-variable
 returns-3 c =
     let h = rw (c .before .before .before .before .before .top-frame .ensures) at (c .before .before .before .before .hole .ensures) in
     let n = ne-eqb _ 83 (λ e. c .before .before .before .if1 .left (h ∙ e)) in
-    let b = sym (rw h at (c .before .before .begins .ensures)) ∙ c .before .if2 .left in
-    (
+    let b = sym (rw h at (c .before .before .begins .ensures)) ∙ c .before .if2 .left in (
       rw (n, b) (c .refused .ensures),
       (
         rw (n, b),

@@ -22,9 +22,9 @@ same-length c = search needs
 returns : tie.Need-returns
 unfolding begin-variable
 returns c = (
-      rw (c .complete .ensures, c .before .noted .ensures, c .before .before .before .write-row .ensures .0),
-      rw (c .before .before .before .write-row .ensures .1, c .before .before .before .before .kept .ensures),
-    )
+  rw (c .complete .ensures, c .before .noted .ensures, c .before .before .before .write-row .ensures .0),
+  rw (c .before .before .before .write-row .ensures .1, c .before .before .before .before .kept .ensures),
+)
 
 pub begin-variable-spec : {M : Type 1} → statement M
 begin-variable-spec =

@@ -34,8 +34,7 @@ unfolding begin-word begin-leaf begin-form
 returns c =
     let b = rw (c .before .before .before .before .before .before .before .beginning .ensures, c .before .before .before .before .before .before .before .before .hole .ensures, c .before .before .before .before .before .before .before .before .before .top-frame .ensures) at (c .before .before .before .before .before .before .begins .ensures) in
     let n = sym b ∙ c .before .before .before .before .before .if1 .taken in
-    let l = sym (c .before .before .before .before .is-leaf .ensures) ∙ c .before .before .before .if2 .taken in
-    (
+    let l = sym (c .before .before .before .before .is-leaf .ensures) ∙ c .before .before .before .if2 .taken in (
       rw (n, l) (c .before .begin-leaf .ensures .0),
       (
         rw (n, l),
@@ -54,8 +53,7 @@ unfolding begin-word begin-leaf begin-form
 returns-2 c =
     let b = rw (c .before .before .before .before .before .before .before .before .beginning .ensures, c .before .before .before .before .before .before .before .before .before .hole .ensures, c .before .before .before .before .before .before .before .before .before .before .top-frame .ensures) at (c .before .before .before .before .before .before .before .begins .ensures) in
     let n = sym b ∙ c .before .before .before .before .before .before .if1 .taken in
-    let l = sym (c .before .before .before .before .before .is-leaf .ensures) ∙ c .before .before .before .before .if2 .left in
-    (
+    let l = sym (c .before .before .before .before .before .is-leaf .ensures) ∙ c .before .before .before .before .if2 .left in (
       rw (n, l) (c .before .before .begin-form .ensures .0),
       (
         rw (n, l) (c .before .before .begin-form .ensures .1),
@@ -73,8 +71,7 @@ returns-3 : tie.Need-returns-3
 unfolding begin-word begin-leaf begin-form
 returns-3 c =
     let b = rw (c .before .before .before .beginning .ensures, c .before .before .before .before .hole .ensures, c .before .before .before .before .before .top-frame .ensures) at (c .before .before .begins .ensures) in
-    let n = sym b ∙ c .before .if1 .left in
-    (
+    let n = sym b ∙ c .before .if1 .left in (
       rw n (c .refused .ensures),
       (
         rw n,

@@ -1,21 +1,22 @@
 -- `parser::begin::constant_word` meets its contract. Assumes nothing.
 use borrow.Author.Needs.{needs}
 use Prim.Native.Nat.{_-_}
+use lib.IntN.{negsuc}
 use native.Mathlib.Omega.{arith as linear}
 use mir.Facts.{toZ-ofZ}
 use mathlib.Core.Path.{_∙_}
-use Rattle.parser.proofs.Laws.{none-written, out-written, minus-one, minus-written, plain-written, within, within-plain}
+use Rattle.parser.proofs.Laws.{none-written, out-written, minus-one, minus-written, plain-written, within, within-plain, back}
 use Rattle.parser.proofs.begin.constant_word.Statement.{statement}
 use Rattle.parser.proofs.begin.constant_word.Tie as tie
 
 returns : tie.Need-returns
-returns c = none-written _ _ (c .if1 .taken)
+returns c = none-written (c .before .args .minus) _ (c .if1 .taken)
 
 largest-requires : tie.Need-largest-requires
 largest-requires c κs = search needs
 
 returns-2 : tie.Need-returns-2
-returns-2 c = out-written _ _ (rw (c .before .largest .ensures) at (c .if2 .taken))
+returns-2 c = out-written (c .before .before .before .args .minus) _ (rw (c .before .largest .ensures) at (c .if2 .taken))
 
 sub-result : tie.Need-sub-result
 sub-result c = search needs
@@ -38,7 +39,7 @@ cast-result-2 c =
 returns-3 : tie.Need-returns-3
 returns-3 c =
     let a = c .before .before .before .before .args in
-    rw (toZ-ofZ (cast-result c), minus-one (a .n - 1)) (toZ-ofZ (record { sfits = cast-result c .sfits })
+    rw (toZ-ofZ (cast-result c), minus-one (a .n - 1)) (back {z = negsuc (a .n - 1)} (cast-result c .sfits)
     ∙ minus-written (a .minus) (a .n) (c .before .before .before .if1 .left) (rw (c .before .before .largest .ensures) at (c .before .if2 .left)) (c .if3 .taken))
 
 returns-4 : tie.Need-returns-4
