@@ -1,0 +1,51 @@
+-- `scanner::variable_at` meets its contract: digits follow up to the word's end, or there is no token. Assumes nothing.
+use mathlib.Core.Path.{_∙_, sym, ap}
+use native.Mathlib.Omega.{arith}
+use borrow.Author.Needs.{needs}
+use Rattle.grammar.specs.Scanning.{is-word-byte}
+use Rattle.scanner.specs.Lexed.{lexed}
+use Rattle.scanner.proofs.Variables.{no-digit, longer-word, all-digits}
+use Rattle.scanner.proofs.variable_at.Statement.{statement}
+use Rattle.scanner.proofs.variable_at.Tie as tie
+
+returns : tie.Need-returns
+unfolding lexed
+returns c =
+    let start = c .before .before .before .before in
+    rw (c .no-token .ensures, no-digit (start .args .text .now) (start .args .at) (start .pre .0) (start .pre .1) (omega arith))
+
+returns-2 : tie.Need-returns-2
+unfolding lexed
+returns-2 c =
+    let byte = c .before .before .before in
+    let number = byte .before .before in
+    let start = number .before .before in
+    let in-word = ap is-word-byte (sym (byte .byte-at .ensures)) ∙ sym (c .before .before .is-word-byte .ensures) ∙ c .before .if2 .taken in
+    rw (
+      c .no-token2 .ensures,
+      longer-word (start .args .text .now) (start .args .at) (start .pre .0) (start .pre .1) (number .number-at .ensures .0) in-word,
+    )
+
+returns-3 : tie.Need-returns-3
+returns-3 c =
+    let byte = c .before .before in
+    let number = byte .before .before in
+    let start = number .before .before in
+    let after-word = ap is-word-byte (sym (byte .byte-at .ensures)) ∙ sym (c .before .is-word-byte .ensures) ∙ c .if2 .left in
+    all-digits (start .args .text .now) (start .args .at) (start .pre .0) (start .pre .1) (number .number-at .ensures .0)
+    (number .number-at .ensures .1) after-word (omega arith)
+
+pub variable-at-spec : {M : Type 1} → statement M
+variable-at-spec =
+    tie.close
+    (tie.spec
+    (λ c. search needs)
+    (λ c κs. search needs)
+    (λ c. search needs)
+    (λ c κs. search needs)
+    returns
+    (λ c κs. search needs)
+    (λ c κs. search needs)
+    (λ c κs. search needs)
+    returns-2
+    returns-3)

@@ -1,0 +1,26 @@
+-- A word as a number: its bytes as digits to the base 256. The keywords are told by these numbers. Assumes nothing.
+use Prim.Native.Nat.{ℕ, _+_, _*_}
+use mathlib.Core.List.{List, [], _∷_}
+use mathlib.Core.Bool.{Bool, cond}
+use lib.Dec.{eqb}
+use lib.ListN.{take}
+use Rattle.grammar.specs.Scanning.{front, Spelling}
+use Rattle.grammar.specs.Numbers.{token-number}
+
+-- the longest run at the front of bytes that are such
+abbrev pub run : (ℕ → Bool) → List ℕ → List ℕ
+run p bs = take (front p bs) bs
+
+-- the number n with the bytes after it
+abbrev pub packed : ℕ → List ℕ → ℕ
+packed n [] = n
+packed n (b ∷ bs) = packed (256 * n + b) bs
+
+-- the largest number of seven bytes; a longer word's number is told as this one
+abbrev pub longest : ℕ
+longest = 72057594037927935
+
+-- the token of the first spelling with this number, or 0
+unfoldable pub keyword-number : List Spelling → ℕ → ℕ
+keyword-number [] n = 0
+keyword-number (s ∷ ss) n = cond (eqb n (packed 0 (s .bytes))) (token-number (s .token)) (keyword-number ss n)
