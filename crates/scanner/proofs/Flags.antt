@@ -1,4 +1,4 @@
--- What the halves of an `&&` or an `||` tell of the whole, and what tests of a byte tell of its number. Assumes nothing.
+-- What the first half of an `||` tells of the whole, and what the tests of a byte tell of its number. Assumes nothing.
 use Prim.Native.Nat.{ℕ, _≤_}
 use mathlib.Core.Path.{_≡_, refl}
 use mathlib.Core.Bool.{Bool, true, false, _&&_, _||_}
@@ -33,5 +33,8 @@ digit-range b e = within 48 57 b e
 pub word-byte-range : (b : ℕ) → is-word-byte b ≡ true → (48 ≤ b) × (b ≤ 122)
 word-byte-range b e =
     either (is-letter b) (is-digit b) e
-    (λ l. either (leb 65 b && leb b 90) (leb 97 b && leb b 122) l (λ h. omega (arith, within 65 90 b h)) (λ h. omega (arith, within 97 122 b h)))
+    (λ l.
+    either (leb 65 b && leb b 90) (leb 97 b && leb b 122) l
+    (λ h. omega (arith, within 65 90 b h))
+    (λ h. omega (arith, within 97 122 b h)))
     (λ d. omega (arith, within 48 57 b d))

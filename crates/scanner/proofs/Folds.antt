@@ -1,5 +1,5 @@
--- A loop over a run that adds a byte to a number at each turn and keeps the number up to a top: what it has and what is left make
--- the number of the whole run. So for decimal digits, and for a word's bytes. Assumes nothing.
+-- A loop over a run that adds a byte to a number at each turn and keeps the number up to a top: what it has and what is
+-- left make the number of the whole run. So for decimal digits, and for a word's bytes. Assumes nothing.
 use Prim.Native.Nat.{ℕ, _+_, _*_, _-_, _≤_, _<_, min}
 use mathlib.Core.Path.{_≡_, refl, ap, sym, _∙_}
 use mathlib.Core.List.{List, [], _∷_}
@@ -18,11 +18,13 @@ pub record Folds (fold : ℕ → List ℕ → ℕ) (step : ℕ → ℕ → ℕ) 
   pub capped : (n : ℕ) (bs : List ℕ) → min (fold (min n top) bs) top ≡ min (fold n bs) top
 
 -- what is past the top is so after each step
-decimal-capped : (n m : ℕ) (ds : List ℕ) → min n most ≡ min m most → min (decimal n ds) most ≡ min (decimal m ds) most
+decimal-capped : (n m : ℕ) (ds : List ℕ) → min n most ≡ min m most
+    → min (decimal n ds) most ≡ min (decimal m ds) most
 decimal-capped n m [] h = h
 decimal-capped n m (d ∷ ds) h = decimal-capped (10 * n + (d - 48)) (10 * m + (d - 48)) ds (omega arith)
 
-packed-capped : (n m : ℕ) (bs : List ℕ) → min n longest ≡ min m longest → min (packed n bs) longest ≡ min (packed m bs) longest
+packed-capped : (n m : ℕ) (bs : List ℕ) → min n longest ≡ min m longest
+    → min (packed n bs) longest ≡ min (packed m bs) longest
 packed-capped n m [] h = h
 packed-capped n m (b ∷ bs) h = packed-capped (256 * n + b) (256 * m + b) bs (omega arith)
 
@@ -52,7 +54,8 @@ module _ {fold : ℕ → List ℕ → ℕ} {step : ℕ → ℕ → ℕ} {top : �
   at-first = record { place = refl; number = refl; small = omega arith }
 
   -- a turn
-  pub one-more : {end value next : ℕ} → end < length text → p (getD text end 0) ≡ true → next ≡ min (step value (getD text end 0)) top
+  pub one-more : {end value next : ℕ} → end < length text → p (getD text end 0) ≡ true
+      → next ≡ min (step value (getD text end 0)) top
       → Partly p fold top text at end value → Partly p fold top text at (end + 1) next
   one-more {end} {value} {next} h e n t = record {
     place = omega (arith, front-more p text h e, t .place);
@@ -70,5 +73,6 @@ module _ {fold : ℕ → List ℕ → ℕ} {step : ℕ → ℕ → ℕ} {top : �
       → (end ≡ at + front p (drop at text)) × (value ≡ min (fold 0 (run p (drop at text))) top)
   last {end} {value} stop t = (omega (arith, t .place), whole (rw stop at (t .number)))
     where
-      whole : min (fold value []) top ≡ min (fold 0 (run p (drop at text))) top → value ≡ min (fold 0 (run p (drop at text))) top
+      whole : min (fold value []) top ≡ min (fold 0 (run p (drop at text))) top
+          → value ≡ min (fold 0 (run p (drop at text))) top
       whole h = omega (arith, f .none value, t .small)

@@ -1,5 +1,5 @@
--- The longest run of bytes from a place on that pass a test: it goes on by a byte that passes, stops at one that does not, and
--- at the end of the text. Assumes nothing.
+-- The longest run of bytes from a place on that pass a test: it goes on by a byte that passes, stops at one that does
+-- not, and at the end of the text. Assumes nothing.
 use Prim.Native.Nat.{ℕ, suc, _+_, _≤_, _<_}
 use mathlib.Core.Path.{_≡_, refl, ap, _∙_}
 use mathlib.Core.List.{List, [], _∷_}
@@ -12,7 +12,8 @@ use lib.Seq.{drop-cons, getD-take, getD-drop}
 use Rattle.grammar.specs.Scanning.{front}
 use Rattle.scanner.specs.Words.{run}
 
-length-if : (k : Bool) (n b : ℕ) (bs : List ℕ) → length (take n bs) ≡ n → length (take (cond k (suc n) 0) (b ∷ bs)) ≡ cond k (suc n) 0
+length-if : (k : Bool) (n b : ℕ) (bs : List ℕ) → length (take n bs) ≡ n
+    → length (take (cond k (suc n) 0) (b ∷ bs)) ≡ cond k (suc n) 0
 length-if true n b bs h = ap suc h
 length-if false n b bs h = refl
 
@@ -35,7 +36,8 @@ module _ (p : ℕ → Bool) (text : List ℕ) {at : ℕ} where
   pub front-stops : at < length text → p (getD text at 0) ≡ false → front p (drop at text) ≡ 0
   front-stops h e = rw (drop-cons text at 0 h, e)
 
-  pub front-more : at < length text → p (getD text at 0) ≡ true → front p (drop at text) ≡ suc (front p (drop (at + 1) text))
+  pub front-more : at < length text → p (getD text at 0) ≡ true
+      → front p (drop at text) ≡ suc (front p (drop (at + 1) text))
   front-more h e = rw (add-one, drop-cons text at 0 h, e)
 
   pub run-more : at < length text → p (getD text at 0) ≡ true
@@ -44,7 +46,10 @@ module _ (p : ℕ → Bool) (text : List ℕ) {at : ℕ} where
 
 module _ (p : ℕ → Bool) (text : List ℕ) (at : ℕ) (some : 1 ≤ front p (drop at text)) where
   pub run-first : getD (run p (drop at text)) 0 0 ≡ getD text at 0
-  run-first = getD-take (front p (drop at text)) (drop at text) 0 0 some ∙ getD-drop at text 0 0 ∙ ap (λ k. getD text k 0) (add-zero at)
+  run-first =
+      getD-take (front p (drop at text)) (drop at text) 0 0 some
+      ∙ getD-drop at text 0 0
+      ∙ ap (λ k. getD text k 0) (add-zero at)
 
   pub front-within : at < length text
   front-within = omega (arith, front-fits p (drop at text), length-drop at text)

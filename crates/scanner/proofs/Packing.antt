@@ -1,6 +1,6 @@
--- Two words with the same number are the same: the bytes are found again in the number, from the last one on. So a comparison
--- with a word that is no longer than seven bytes is one of their numbers. Assumes nothing.
-use Prim.Native.Nat.{ℕ, zero, suc, _+_, _*_, _/_, _%_, _<_, min}
+-- Two words with the same number are the same: the bytes are found again in the number, from the last one on. So words
+-- are compared by their numbers. Assumes nothing.
+use Prim.Native.Nat.{ℕ, zero, suc, _+_, _*_, _/_, _%_, _<_}
 use mathlib.Core.Path.{_≡_, refl, ap, sym, _∙_}
 use mathlib.Core.List.{List, [], _∷_, _++_, append-nil}
 use mathlib.Core.Bool.{Bool, true, false, cond, _&&_}
@@ -10,7 +10,7 @@ use borrow.Author.Tests.{eqb-true, eq-eqb, ne-eqb, ltb-true}
 use lib.ListN.{length}
 use Rattle.grammar.specs.Tables.{false-is-not}
 use Rattle.grammar.specs.Scanning.{same-bytes}
-use Rattle.scanner.specs.Words.{packed, longest}
+use Rattle.scanner.specs.Words.{packed, longest, word-number}
 
 pub both : (a b : Bool) → (a && b) ≡ true → (a ≡ true) × (b ≡ true)
 both true b e = (refl, e)
@@ -57,7 +57,9 @@ unpacked-packed (b ∷ w) f k n bs h e =
 module _ (v w : List ℕ) (pv : proper v ≡ true) (pw : proper w ≡ true) where
   pub packed-injective : packed 0 v ≡ packed 0 w → v ≡ w
   packed-injective e =
-      sym (found v (length w) pv (omega arith)) ∙ ap (λ n. unpacked (length v + length w) n []) e ∙ found w (length v) pw (omega arith)
+      sym (found v (length w) pv (omega arith))
+      ∙ ap (λ n. unpacked (length v + length w) n []) e
+      ∙ found w (length v) pw (omega arith)
     where
       found : (u : List ℕ) (k : ℕ) → proper u ≡ true → length v + length w ≡ length u + k
           → unpacked (length v + length w) (packed 0 u) [] ≡ u
@@ -78,11 +80,12 @@ same-true (b ∷ v) (c ∷ w) e =
     rw (eqb-true b c (h .0), same-true v w (h .1))
 
 pub same-packed : (v w : List ℕ) → proper v ≡ true → proper w ≡ true → packed 0 w < longest
-    → same-bytes v w ≡ eqb (min (packed 0 v) longest) (packed 0 w)
+    → same-bytes v w ≡ eqb (word-number v) (packed 0 w)
 same-packed v w pv pw l = by-test (same-bytes v w) refl
   where
-    by-test : (t : Bool) → same-bytes v w ≡ t → t ≡ eqb (min (packed 0 v) longest) (packed 0 w)
-    by-test true e =
-        sym (eq-eqb (min (packed 0 v) longest) (packed 0 w) (omega (arith, ap (λ u. packed 0 u) (same-true v w e))))
-    by-test false e =
-        sym (ne-eqb (min (packed 0 v) longest) (packed 0 w) (λ q. false-is-not (sym e ∙ ap (λ u. same-bytes v u) (sym (packed-injective v w pv pw (omega arith))) ∙ same-refl v)))
+    equal : word-number v ≡ packed 0 w → same-bytes v w ≡ true
+    equal q = rw (← packed-injective v w pv pw (omega arith)) (same-refl v)
+
+    by-test : (t : Bool) → same-bytes v w ≡ t → t ≡ eqb (word-number v) (packed 0 w)
+    by-test true e = sym (eq-eqb (word-number v) (packed 0 w) (omega (arith, ap (λ u. packed 0 u) (same-true v w e))))
+    by-test false e = sym (ne-eqb (word-number v) (packed 0 w) (λ q. false-is-not (sym e ∙ equal q)))

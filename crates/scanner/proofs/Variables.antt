@@ -80,9 +80,12 @@ pub other-word : (text : List ℕ) (at : ℕ) → at < length text → (getD tex
     → variable-of (run is-word-byte (drop at text)) ≡ none
 other-word text at h v = rw (drop-cons text at 0 h) (by-test (is-word-byte (getD text at 0)))
   where
+    after-first : List ℕ
+    after-first = drop (suc at) text
+
     by-test : (k : Bool)
-        → variable-of (take (cond k (suc (front is-word-byte (drop (suc at) text))) 0) (getD text at 0 ∷ drop (suc at) text)) ≡ none
-    by-test true = variable-other (getD text at 0) (run is-word-byte (drop (suc at) text)) v
+        → variable-of (take (cond k (suc (front is-word-byte after-first)) 0) (getD text at 0 ∷ after-first)) ≡ none
+    by-test true = variable-other (getD text at 0) (run is-word-byte after-first) v
     by-test false = refl
 
 -- no keyword begins with v
@@ -97,9 +100,12 @@ module _ (text : List ℕ) (at : ℕ) (h : at < length text) (v : getD text at 0
   -- the byte after the digits
   after : (f : ℕ) → getD (drop f (drop (at + 1) text)) 0 0 ≡ getD text (at + 1 + f) 0
   after f =
-      getD-drop f (drop (at + 1) text) 0 0 ∙ getD-drop (at + 1) text (f + 0) 0 ∙ ap (λ k. getD text (at + 1 + k) 0) (add-zero f)
+      getD-drop f (drop (at + 1) text) 0 0
+      ∙ getD-drop (at + 1) text (f + 0) 0
+      ∙ ap (λ k. getD text (at + 1 + k) 0) (add-zero f)
 
-  pub longer-word : {end : ℕ} → end ≡ at + 1 + front is-digit (drop (at + 1) text) → is-word-byte (getD text end 0) ≡ true
+  pub longer-word : {end : ℕ} → end ≡ at + 1 + front is-digit (drop (at + 1) text)
+      → is-word-byte (getD text end 0) ≡ true
       → word-at (drop at text) ≡ none
   longer-word {end} e w =
       let bs = drop (at + 1) text in
@@ -115,12 +121,13 @@ module _ (text : List ℕ) (at : ℕ) (h : at < length text) (v : getD text at 0
 
   pub all-digits : {end value : ℕ} → end ≡ at + 1 + front is-digit (drop (at + 1) text)
       → value ≡ min (number (run is-digit (drop (at + 1) text))) most → is-word-byte (getD text end 0) ≡ false
-      → 0 < front is-digit (drop (at + 1) text) → record { kind = 2; value = value; end = end } ≡ lexed at (word-at (drop at text))
+      → 0 < front is-digit (drop (at + 1) text)
+      → record { kind = 2; value = value; end = end } ≡ lexed at (word-at (drop at text))
   unfolding lexed token-number token-value
   all-digits {end} {value} e n w h =
       let bs = drop (at + 1) text in
-      let same : front is-word-byte bs ≡ front is-digit bs
-      = omega (arith, front-after bs, word-stops (drop (front is-digit bs) bs) (rw (after (front is-digit bs), ← e) w)) in
+      let stops = word-stops (drop (front is-digit bs) bs) (rw (after (front is-digit bs), ← e) w) in
+      let same : front is-word-byte bs ≡ front is-digit bs = omega (arith, front-after bs, stops) in
       let place : end ≡ at + suc (front is-digit bs) = omega arith in
       let whole = variable-whole (run is-word-byte bs) (omega (arith, length-run is-word-byte bs))
       (omega (arith, front-in-run bs, length-run is-word-byte bs)) in

@@ -1,5 +1,5 @@
--- What the scanner tells of a token: its number, the number of a numeral or a variable up to `most`, and the place after it.
--- Assumes nothing.
+-- What the scanner tells of a token: its number, the value of a numeral or a variable up to `most`, and the place
+-- after it. Then the words and the symbols that `token-at` knows, by themselves. Assumes nothing.
 use Prim.Native.Nat.{ℕ, _+_}
 use mathlib.Core.List.{List}
 use mathlib.Core.Option.{Option, none, some}

@@ -1,5 +1,5 @@
 -- A word as a number: its bytes as digits to the base 256. The keywords are told by these numbers. Assumes nothing.
-use Prim.Native.Nat.{ℕ, _+_, _*_}
+use Prim.Native.Nat.{ℕ, _+_, _*_, min}
 use mathlib.Core.List.{List, [], _∷_}
 use mathlib.Core.Bool.{Bool, cond}
 use lib.Dec.{eqb}
@@ -16,9 +16,13 @@ abbrev pub packed : ℕ → List ℕ → ℕ
 packed n [] = n
 packed n (b ∷ bs) = packed (256 * n + b) bs
 
--- the largest number of seven bytes; a longer word's number is told as this one
+-- the largest number of seven bytes, which is no word's
 abbrev pub longest : ℕ
 longest = 72057594037927935
+
+-- a word's number; that of a word with more bytes than seven is told as the largest
+abbrev pub word-number : List ℕ → ℕ
+word-number w = min (packed 0 w) longest
 
 -- the token of the first spelling with this number, or 0
 unfoldable pub keyword-number : List Spelling → ℕ → ℕ

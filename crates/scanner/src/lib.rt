@@ -1,5 +1,5 @@
-// The token that begins at a place of a text: which one it is, its number, and where it ends. Nothing is copied, and each
-// byte of a token is looked at once.
+// The token that begins at a place of a text: which one it is, its value, and where it ends. Nothing is copied, and one
+// loop goes over a token's bytes.
 
 mod bytes;
 mod runs;
@@ -14,8 +14,8 @@ ghost use Rattle.grammar.specs.Scanning.{is-blank, is-digit, numeral-of, token-
 ghost use Rattle.scanner.specs.Words.{run};
 ghost use Rattle.scanner.specs.Lexed.{lexed, none-at, word-at, symbol-at};
 
-// A token's number in `tokens`, the number of a numeral or a variable, else 0, and the place after the token.
-// Where no token begins, the number is `tokens::NONE`, and the end is the place itself.
+// A token by its number in `tokens`, the value of a numeral or a variable, else 0, and the place after the token.
+// Where no token begins, the kind is `tokens::NONE`, and the end is the place itself.
 pub struct Token {
     pub kind: usize,
     pub value: usize,
@@ -78,7 +78,7 @@ fn keyword_at(text: &[u8], at: usize) -> Token
     ensures { λ r. ⌜ r ≡ lexed at (word-at (drop at (now (text .entry)))) ⌝ }
 {
     let word = runs::word_at(text, at);
-    let kind = words::keyword(word.packed);
+    let kind = words::keyword(word.number);
     if kind == tokens::NONE {
         return no_token(at);
     }

@@ -1,4 +1,4 @@
-// The longest run of digits or of a word's bytes from a place on: where it ends, and the number that its bytes make.
+// The longest run of digits, or of letters and digits, from a place on: where it ends, and the number that it makes.
 
 use crate::bytes;
 ghost use mathlib.Core.Path.{_≡_};
@@ -7,25 +7,27 @@ ghost use Prim.Native.Nat.{_+_, _*_, _-_, _≤_, min};
 ghost use lib.ListN.{drop};
 ghost use Rattle.grammar.specs.Scanning.{is-digit, is-word-byte, front, decimal, number};
 ghost use Rattle.grammar.specs.Numbers.{most};
-ghost use Rattle.scanner.specs.Words.{run, packed, longest};
+ghost use Rattle.scanner.specs.Words.{run, longest, word-number};
 
-// The largest number that is told: it is beyond every range.
+// The largest value that is told, which is beyond every range.
 const MOST: usize = 4294967295;
 
-// The largest number of a word that is told: it has a digit more than the longest keyword can have, or none that is a letter.
+// The largest number of seven bytes. No word has it, and a longer word is told as it.
 const LONGEST: u64 = 0xff_ff_ff_ff_ff_ff_ff;
 
+// Where digits end, and their number up to the most.
 pub struct Number {
     pub end: usize,
     pub value: usize,
 }
 
+// Where a word ends, and its bytes as digits to the base 256, up to the longest.
 pub struct Word {
     pub end: usize,
-    pub packed: u64,
+    pub number: u64,
 }
 
-// A number with one decimal digit more, up to the most.
+// A number with one digit more, up to the most.
 fn with_digit(value: usize, byte: u8) -> usize
     requires { ⌜ (value ≤ most) × (is-digit byte ≡ true) ⌝ }
     ensures { λ r. ⌜ r ≡ min (10 * value + (byte - 48)) most ⌝ }
@@ -78,34 +80,34 @@ pub fn number_at(text: &[u8], at: usize) -> Number
 }
 
 // A word's number with one byte more, up to the longest.
-fn with_byte(word: u64, byte: u8) -> u64
-    requires { ⌜ word ≤ longest ⌝ }
-    ensures { λ r. ⌜ r ≡ min (256 * word + byte) longest ⌝ }
+fn with_byte(number: u64, byte: u8) -> u64
+    requires { ⌜ number ≤ longest ⌝ }
+    ensures { λ r. ⌜ r ≡ min (256 * number + byte) longest ⌝ }
 {
-    let next = 256 * word + byte as u64;
+    let next = 256 * number + byte as u64;
     if next < LONGEST { next } else { LONGEST }
 }
 
-// The letters and digits from a place on.
+// The letters and digits from a place on, as a word.
 pub fn word_at(text: &[u8], at: usize) -> Word
     ensures end { λ r. ⌜ r .end ≡ at + front is-word-byte (drop at (now (text .entry))) ⌝ }
-    ensures packed { λ r. ⌜ r .packed ≡ min (packed 0 (run is-word-byte (drop at (now (text .entry))))) longest ⌝ }
+    ensures number { λ r. ⌜ r .number ≡ word-number (run is-word-byte (drop at (now (text .entry)))) ⌝ }
 {
     let mut end = at;
-    let mut packed = 0;
+    let mut number = 0;
     while end < text.len() {
         let byte = text[end];
         if !bytes::is_word_byte(byte) {
             return Word {
                 end: end,
-                packed: packed,
+                number: number,
             };
         }
-        packed = with_byte(packed, byte);
+        number = with_byte(number, byte);
         end += 1;
     }
     Word {
         end: end,
-        packed: packed,
+        number: number,
     }
 }

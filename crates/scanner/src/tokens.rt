@@ -1,4 +1,4 @@
-// The numbers of tokens. A token that makes a row has the kind of that row, and the others have numbers that are no kind.
+// The numbers of tokens. A token that makes a row has the kind of that row; the numbers of the others are no kinds.
 
 use script::kinds;
 

@@ -1,4 +1,4 @@
-// The keywords as numbers: their bytes as digits to the base 256, as `word_at` gives a word.
+// The keywords by their numbers: the bytes as digits to the base 256, as `runs::word_at` tells a word.
 
 use crate::tokens;
 ghost use mathlib.Core.Path.{_≡_};
@@ -50,10 +50,10 @@ pub const TRUE: u64 = 0x74_72_75_65;
 pub const FALSE: u64 = 0x66_61_6c_73_65;
 
 // The token of the keyword with this number, or none.
-pub fn keyword(word: u64) -> usize
-    ensures { λ r. ⌜ r ≡ keyword-number keywords word ⌝ }
+pub fn keyword(number: u64) -> usize
+    ensures { λ r. ⌜ r ≡ keyword-number keywords number ⌝ }
 {
-    match word {
+    match number {
         PRE => tokens::PRE,
         POST => tokens::POST,
         SKIP => tokens::SKIP,

@@ -11,7 +11,8 @@ use Rattle.scanner.proofs.is_blank.Tie as tie
 -- the first two tests
 two : (c : tie.Joined1) → c .if1 .if2 ≡ (eqb (c .before .args .byte) 32 || eqb (c .before .args .byte) 9)
 two c =
-    ⊎-elim (λ w. w .1 ∙ or-first _ (eq-eqb _ 32 (w .0 .taken))) (λ w. w .1 ∙ or-then _ (ne-eqb _ 32 (w .0 .left))) (c .if1 .came)
+    ⊎-elim (λ w. w .1 ∙ or-first _ (eq-eqb _ 32 (w .0 .taken))) (λ w. w .1 ∙ or-then _ (ne-eqb _ 32 (w .0 .left)))
+    (c .if1 .came)
 
 three : (c : tie.Joined2) → c .if2 .if3 ≡ (c .before .if1 .if2 || eqb (c .before .before .args .byte) 13)
 three c =

@@ -18,7 +18,8 @@ returns c =
     let text = start .args .text .now in
     let at = start .args .at in
     let number = c .before .before .keyword .ensures ∙ ap (keyword-number keywords) (word .word-at .ensures .1) in
-    rw (c .no-token .ensures, no-word (drop at text) number (c .before .if1 .taken), other-word text at (start .pre .0) (start .pre .1))
+    let nothing = no-word (drop at text) number (c .before .if1 .taken) in
+    rw (c .no-token .ensures, nothing, other-word text at (start .pre .0) (start .pre .1))
 
 returns-2 : tie.Need-returns-2
 returns-2 c =
@@ -28,4 +29,5 @@ returns-2 c =
     word-told (drop (args .at) (args .text .now)) number (args .at) (c .if1 .left) (word .word-at .ensures .0)
 
 pub keyword-at-spec : {M : Type 1} → statement M
-keyword-at-spec = tie.close (tie.spec (λ c κs. search needs) (λ c κs. search needs) (λ c κs. search needs) returns returns-2)
+keyword-at-spec =
+    tie.close (tie.spec (λ c κs. search needs) (λ c κs. search needs) (λ c κs. search needs) returns returns-2)

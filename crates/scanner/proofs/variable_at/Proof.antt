@@ -1,4 +1,5 @@
--- `scanner::variable_at` meets its contract: digits follow up to the word's end, or there is no token. Assumes nothing.
+-- `scanner::variable_at` meets its contract: digits follow up to the word's end, or there is no token.
+-- Assumes nothing.
 use mathlib.Core.Path.{_∙_, sym, ap}
 use native.Mathlib.Omega.{arith}
 use borrow.Author.Needs.{needs}
@@ -12,7 +13,8 @@ returns : tie.Need-returns
 unfolding lexed
 returns c =
     let start = c .before .before .before .before in
-    rw (c .no-token .ensures, no-digit (start .args .text .now) (start .args .at) (start .pre .0) (start .pre .1) (omega arith))
+    let text = start .args .text .now in
+    rw (c .no-token .ensures, no-digit text (start .args .at) (start .pre .0) (start .pre .1) (omega arith))
 
 returns-2 : tie.Need-returns-2
 unfolding lexed
@@ -20,10 +22,12 @@ returns-2 c =
     let byte = c .before .before .before in
     let number = byte .before .before in
     let start = number .before .before in
-    let in-word = ap is-word-byte (sym (byte .byte-at .ensures)) ∙ sym (c .before .before .is-word-byte .ensures) ∙ c .before .if2 .taken in
+    let text = start .args .text .now in
+    let tested = sym (c .before .before .is-word-byte .ensures) ∙ c .before .if2 .taken in
+    let in-word = ap is-word-byte (sym (byte .byte-at .ensures)) ∙ tested in
     rw (
       c .no-token2 .ensures,
-      longer-word (start .args .text .now) (start .args .at) (start .pre .0) (start .pre .1) (number .number-at .ensures .0) in-word,
+      longer-word text (start .args .at) (start .pre .0) (start .pre .1) (number .number-at .ensures .0) in-word,
     )
 
 returns-3 : tie.Need-returns-3
@@ -31,9 +35,11 @@ returns-3 c =
     let byte = c .before .before in
     let number = byte .before .before in
     let start = number .before .before in
-    let after-word = ap is-word-byte (sym (byte .byte-at .ensures)) ∙ sym (c .before .is-word-byte .ensures) ∙ c .if2 .left in
-    all-digits (start .args .text .now) (start .args .at) (start .pre .0) (start .pre .1) (number .number-at .ensures .0)
-    (number .number-at .ensures .1) after-word (omega arith)
+    let text = start .args .text .now in
+    let tested = sym (c .before .is-word-byte .ensures) ∙ c .if2 .left in
+    let word-ends = ap is-word-byte (sym (byte .byte-at .ensures)) ∙ tested in
+    all-digits text (start .args .at) (start .pre .0) (start .pre .1) (number .number-at .ensures .0)
+    (number .number-at .ensures .1) word-ends (omega arith)
 
 pub variable-at-spec : {M : Type 1} → statement M
 variable-at-spec =

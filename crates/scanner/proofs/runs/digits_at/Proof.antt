@@ -1,4 +1,4 @@
--- `scanner::runs::digits_at` meets its contract. The loop's invariant: the value and the digits that are left make the number.
+-- `scanner::runs::digits_at` meets its contract. The value and the digits that are left make the number.
 -- Assumes nothing.
 use Prim.Native.Nat.{_-_}
 use mathlib.Core.Path.{sym, _∙_}
@@ -32,8 +32,8 @@ returns : tie.Need-returns Inv-loop μ-loop
 returns c =
     let turn = c .before .before .before .before in
     let text = turn .before .before .args .text .now in
-    last decimal-folds is-digit text
-    (front-stops is-digit text (omega arith) (sym (c .before .is-digit .ensures) ∙ not-true _ (c .if1 .taken))) (turn .loop .inv)
+    let stops = sym (c .before .is-digit .ensures) ∙ not-true _ (c .if1 .taken) in
+    last decimal-folds is-digit text (front-stops is-digit text (omega arith) stops) (turn .loop .inv)
 
 with-digit-requires : tie.Need-with-digit-requires Inv-loop μ-loop
 with-digit-requires c κs = (omega arith, sym (c .before .is-digit .ensures) ∙ not-false _ (c .if1 .left))
@@ -47,8 +47,9 @@ loop-less c = search needs
 loop-again : tie.Need-loop-again Inv-loop μ-loop
 loop-again c =
     let turn = c .before .before .before .before .before in
-    one-more decimal-folds is-digit (turn .before .before .args .text .now) (omega arith)
-    (sym (c .before .before .is-digit .ensures) ∙ not-false _ (c .before .if1 .left)) (c .with-digit .ensures) (turn .loop .inv)
+    let passes = sym (c .before .before .is-digit .ensures) ∙ not-false _ (c .before .if1 .left) in
+    one-more decimal-folds is-digit (turn .before .before .args .text .now) (omega arith) passes
+    (c .with-digit .ensures) (turn .loop .inv)
 
 returns-2 : tie.Need-returns-2 Inv-loop μ-loop
 returns-2 c =

@@ -1,4 +1,4 @@
--- `scanner::runs::number_at` meets its contract: a leading zero is told by the first digit of two or more. Assumes nothing.
+-- `scanner::runs::number_at` meets its contract: a leading zero is the first digit of two or more. Assumes nothing.
 use Prim.Native.Nat.{min}
 use mathlib.Core.Path.{ap, sym, _∙_}
 use native.Mathlib.Omega.{arith}
@@ -17,7 +17,8 @@ returns c =
     let digits = c .before .digits-at in
     let start = c .before .before .before in
     let bs = drop (start .args .at) (start .args .text .now) in
-    (digits .ensures .0, digits .ensures .1 ∙ ap (λ n. min n most) (one-digit (run is-digit bs) (omega (arith, length-run is-digit bs))))
+    let one = one-digit (run is-digit bs) (omega (arith, length-run is-digit bs)) in
+    (digits .ensures .0, digits .ensures .1 ∙ ap (λ n. min n most) one)
 
 shared-slice-read-if2 : tie.Need-shared-slice-read-if2
 shared-slice-read-if2 c =
@@ -45,4 +46,6 @@ returns-3 c =
     (digits .ensures .0, digits .ensures .1 ∙ ap (λ n. min n most) plain)
 
 pub number-at-spec : {M : Type 1} → statement M
-number-at-spec = tie.close (tie.spec (λ c κs. search needs) (λ c. search needs) returns shared-slice-read-if2 returns-2 returns-3)
+number-at-spec =
+    tie.close
+    (tie.spec (λ c κs. search needs) (λ c. search needs) returns shared-slice-read-if2 returns-2 returns-3)

@@ -1,4 +1,4 @@
--- `scanner::runs::word_at` meets its contract. The loop's invariant: the number and the bytes that are left make the word.
+-- `scanner::runs::word_at` meets its contract. The number and the bytes that are left make the word's.
 -- Assumes nothing.
 use Prim.Native.Nat.{_-_}
 use mathlib.Core.Path.{sym, _∙_}
@@ -14,10 +14,10 @@ use Rattle.scanner.proofs.runs.word_at.Statement.{statement}
 use Rattle.scanner.proofs.runs.word_at.Tie as tie
 
 abbrev Inv-loop : tie.InvT-loop
-Inv-loop text at end₀ word₀ end word = Partly is-word-byte packed longest text at end word
+Inv-loop text at end₀ number₀ end number = Partly is-word-byte packed longest text at end number
 
 abbrev μ-loop : tie.MeasureT-loop
-μ-loop text at end₀ word₀ end word = length text - end
+μ-loop text at end₀ number₀ end number = length text - end
 
 loop-holds : tie.Need-loop-holds Inv-loop μ-loop
 loop-holds c = at-first packed-folds is-word-byte (c .before .args .text .now)
@@ -32,8 +32,8 @@ returns : tie.Need-returns Inv-loop μ-loop
 returns c =
     let turn = c .before .before .before .before in
     let text = turn .before .before .args .text .now in
-    last packed-folds is-word-byte text
-    (front-stops is-word-byte text (omega arith) (sym (c .before .is-word-byte .ensures) ∙ not-true _ (c .if1 .taken))) (turn .loop .inv)
+    let stops = sym (c .before .is-word-byte .ensures) ∙ not-true _ (c .if1 .taken) in
+    last packed-folds is-word-byte text (front-stops is-word-byte text (omega arith) stops) (turn .loop .inv)
 
 with-byte-requires : tie.Need-with-byte-requires Inv-loop μ-loop
 with-byte-requires c κs = omega arith
@@ -47,8 +47,9 @@ loop-less c = search needs
 loop-again : tie.Need-loop-again Inv-loop μ-loop
 loop-again c =
     let turn = c .before .before .before .before .before in
-    one-more packed-folds is-word-byte (turn .before .before .args .text .now) (omega arith)
-    (sym (c .before .before .is-word-byte .ensures) ∙ not-false _ (c .before .if1 .left)) (c .with-byte .ensures) (turn .loop .inv)
+    let passes = sym (c .before .before .is-word-byte .ensures) ∙ not-false _ (c .before .if1 .left) in
+    one-more packed-folds is-word-byte (turn .before .before .args .text .now) (omega arith) passes
+    (c .with-byte .ensures) (turn .loop .inv)
 
 returns-2 : tie.Need-returns-2 Inv-loop μ-loop
 returns-2 c =
