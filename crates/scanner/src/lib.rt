@@ -29,15 +29,22 @@ pub fn is_blank(byte: u8) -> bool
     byte == b' ' || byte == b'\t' || byte == b'\r' || byte == b'\n'
 }
 
+// A token with no value.
+fn plain(kind: usize, end: usize) -> Token
+    ensures { λ r. ⌜ r ≡ record { kind = kind; value = 0; end = end } ⌝ }
+{
+    Token {
+        kind: kind,
+        value: 0,
+        end: end,
+    }
+}
+
 // No token at a place.
 fn no_token(at: usize) -> Token
     ensures { λ r. ⌜ r ≡ none-at at ⌝ }
 {
-    Token {
-        kind: tokens::NONE,
-        value: 0,
-        end: at,
-    }
+    plain(tokens::NONE, at)
 }
 
 // A numeral.
@@ -82,11 +89,7 @@ fn keyword_at(text: &[u8], at: usize) -> Token
     if kind == tokens::NONE {
         return no_token(at);
     }
-    Token {
-        kind: kind,
-        value: 0,
-        end: word.end,
-    }
+    plain(kind, word.end)
 }
 
 // A symbol that begins with a colon, by the byte after it.
@@ -95,11 +98,7 @@ fn colon_at(next: u8, at: usize) -> Token
     ensures { λ r. ⌜ r ≡ lexed at (symbol-at (58 ∷ next ∷ [])) ⌝ }
 {
     if next == b'=' {
-        Token {
-            kind: tokens::BECOMES,
-            value: 0,
-            end: at + 2,
-        }
+        plain(tokens::BECOMES, at + 2)
     } else {
         no_token(at)
     }
@@ -111,21 +110,9 @@ fn less_at(next: u8, at: usize) -> Token
     ensures { λ r. ⌜ r ≡ lexed at (symbol-at (60 ∷ next ∷ [])) ⌝ }
 {
     match next {
-        b'=' => Token {
-            kind: tokens::AT_MOST,
-            value: 0,
-            end: at + 2,
-        },
-        b'>' => Token {
-            kind: tokens::UNEQUAL,
-            value: 0,
-            end: at + 2,
-        },
-        _ => Token {
-            kind: tokens::LESS,
-            value: 0,
-            end: at + 1,
-        },
+        b'=' => plain(tokens::AT_MOST, at + 2),
+        b'>' => plain(tokens::UNEQUAL, at + 2),
+        _ => plain(tokens::LESS, at + 1),
     }
 }
 
@@ -138,46 +125,14 @@ fn symbol_at(byte: u8, next: u8, at: usize) -> Token
     match byte {
         b':' => colon_at(next, at),
         b'<' => less_at(next, at),
-        b'=' => Token {
-            kind: tokens::EQUAL,
-            value: 0,
-            end: end,
-        },
-        b'+' => Token {
-            kind: tokens::PLUS,
-            value: 0,
-            end: end,
-        },
-        b'-' => Token {
-            kind: tokens::MINUS,
-            value: 0,
-            end: end,
-        },
-        b'*' => Token {
-            kind: tokens::TIMES,
-            value: 0,
-            end: end,
-        },
-        b'(' => Token {
-            kind: tokens::OPEN,
-            value: 0,
-            end: end,
-        },
-        b')' => Token {
-            kind: tokens::CLOSE,
-            value: 0,
-            end: end,
-        },
-        b',' => Token {
-            kind: tokens::COMMA,
-            value: 0,
-            end: end,
-        },
-        b';' => Token {
-            kind: tokens::SEMICOLON,
-            value: 0,
-            end: end,
-        },
+        b'=' => plain(tokens::EQUAL, end),
+        b'+' => plain(tokens::PLUS, end),
+        b'-' => plain(tokens::MINUS, end),
+        b'*' => plain(tokens::TIMES, end),
+        b'(' => plain(tokens::OPEN, end),
+        b')' => plain(tokens::CLOSE, end),
+        b',' => plain(tokens::COMMA, end),
+        b';' => plain(tokens::SEMICOLON, end),
         _ => no_token(at),
     }
 }

@@ -23,11 +23,19 @@ returns c =
 
 returns-2 : tie.Need-returns-2
 returns-2 c =
-    let word = c .before .before in
+    let word = c .before .before .before in
     let args = word .before .before .args in
-    let number = c .before .keyword .ensures ∙ ap (keyword-number keywords) (word .word-at .ensures .1) in
-    word-told (drop (args .at) (args .text .now)) number (args .at) (c .if1 .left) (word .word-at .ensures .0)
+    let number = c .before .before .keyword .ensures ∙ ap (keyword-number keywords) (word .word-at .ensures .1) in
+    c .plain .ensures
+    ∙ word-told (drop (args .at) (args .text .now)) number (args .at) (c .before .if1 .left) (word .word-at .ensures .0)
 
 pub keyword-at-spec : {M : Type 1} → statement M
 keyword-at-spec =
-    tie.close (tie.spec (λ c κs. search needs) (λ c κs. search needs) (λ c κs. search needs) returns returns-2)
+    tie.close
+    (tie.spec
+    (λ c κs. search needs)
+    (λ c κs. search needs)
+    (λ c κs. search needs)
+    returns
+    (λ c κs. search needs)
+    returns-2)

@@ -8,16 +8,28 @@ use Rattle.scanner.proofs.less_at.Tie as tie
 
 returns : tie.Need-returns
 unfolding lexed symbol-at token-number token-value
-returns c = rw (c .match .keys1)
+returns c = rw (c .plain .ensures, c .before .match .keys1)
 
 returns-2 : tie.Need-returns-2
 unfolding lexed symbol-at token-number token-value
-returns-2 c = rw (c .match .keys2)
+returns-2 c = rw (c .plain2 .ensures, c .before .match .keys2)
 
 returns-3 : tie.Need-returns-3
 unfolding lexed symbol-at token-number token-value
-returns-3 c = rw (ne-eqb _ 61 (c .match .rest .0 .1), ne-eqb _ 62 (c .match .rest .1))
+returns-3 c =
+    let rest = c .before .match .rest in
+    rw (c .plain3 .ensures, ne-eqb _ 61 (rest .0 .1), ne-eqb _ 62 (rest .1))
 
 pub less-at-spec : {M : Type 1} → statement M
 less-at-spec =
-    tie.close (tie.spec (λ c. search needs) (λ c. search needs) (λ c. search needs) returns returns-2 returns-3)
+    tie.close
+    (tie.spec
+    (λ c. search needs)
+    (λ c κs. search needs)
+    (λ c. search needs)
+    (λ c κs. search needs)
+    (λ c. search needs)
+    (λ c κs. search needs)
+    returns
+    returns-2
+    returns-3)
