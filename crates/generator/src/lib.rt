@@ -1,4 +1,5 @@
 // The generator: it lists the conditions of a script, for every table, list and scratch.
+use clearing::clear;
 use script::Answer;
 use table::Examined;
 ghost use mathlib.Core.Path.{_≡_};
@@ -10,17 +11,6 @@ ghost use Rattle.script.specs.Generated.{zeros, refusal, outcome, outcome-for};
 ghost use Rattle.script.specs.Generated.{room as Generated·room};
 ghost use Rattle.script.specs.Promise.{Demand-3};
 ghost use Rattle.generator.specs.Outcomes.{fitted};
-
-// Puts a zero into every word.
-fn clear(words: &mut [i32])
-    ensures { λ _. ⌜ now (words .exit) ≡ zeros (length (now (words .entry))) ⌝ }
-{
-    let mut i = 0;
-    while i < words.len() {
-        words[i] = 0;
-        i += 1;
-    }
-}
 
 fn refuse(number: usize, row: usize) -> Answer
     ensures { λ r. ⌜ r ≡ refusal number row ⌝ }

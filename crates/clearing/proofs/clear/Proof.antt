@@ -1,4 +1,4 @@
--- `generator::clear` meets its contract. The loop's invariant: the words below i are cleared, the others as they were.
+-- `clearing::clear` meets its contract. The loop's invariant: the words below i are cleared, the others as they were.
 -- Assumes nothing.
 use Prim.Native.Nat.{_≤_, _-_}
 use mathlib.Core.Path.{_≡_, refl, _∙_}
@@ -7,8 +7,8 @@ use borrow.Author.Needs.{needs}
 use lib.IntN.{pos}
 use lib.ListN.{length, length-set}
 use Rattle.theorems.specs.Clearing.{cleared, cleared-none, cleared-more, cleared-all}
-use Rattle.generator.proofs.clear.Statement.{statement}
-use Rattle.generator.proofs.clear.Tie as tie
+use Rattle.clearing.proofs.clear.Statement.{statement}
+use Rattle.clearing.proofs.clear.Tie as tie
 
 abbrev Inv-loop : tie.InvT-loop
 Inv-loop words₀ i₀ words i = (i ≤ length words₀) × (length words ≡ length words₀) × (words ≡ cleared (pos 0) i words₀)
