@@ -29,3 +29,8 @@ pub mod Lengths
 pub mod Outcome
 pub mod Cases
 pub mod Numbers
+pub mod Pieces
+pub mod Fronts
+pub mod Finding
+pub mod Longest
+pub mod Covers
