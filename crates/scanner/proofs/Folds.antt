@@ -8,7 +8,8 @@ use native.Mathlib.Omega.{arith}
 use lib.ListN.{length, getD, drop}
 use Rattle.grammar.specs.Scanning.{front, decimal}
 use Rattle.grammar.specs.Numbers.{most}
-use Rattle.scanner.specs.Words.{run, packed, longest}
+use Rattle.grammar.specs.Fronts.{run}
+use Rattle.scanner.specs.Words.{packed, longest}
 use Rattle.scanner.proofs.Fronts.{front-more, run-more}
 
 -- the number n with bytes after it, by a step for each byte; what is past the top stays there

@@ -1,33 +1,16 @@
 -- The longest run of bytes from a place on that pass a test: it goes on by a byte that passes, stops at one that does
 -- not, and at the end of the text. Assumes nothing.
 use Prim.Native.Nat.{ℕ, suc, _+_, _≤_, _<_}
-use mathlib.Core.Path.{_≡_, refl, ap, _∙_}
-use mathlib.Core.List.{List, [], _∷_}
-use mathlib.Core.Bool.{Bool, true, false, cond}
+use mathlib.Core.Path.{_≡_, ap, _∙_}
+use mathlib.Core.List.{List, _∷_}
+use mathlib.Core.Bool.{Bool, true, false}
 use native.Mathlib.Nat.{add-zero}
 use native.Mathlib.Numerals.{add-one}
 use native.Mathlib.Omega.{arith}
-use lib.ListN.{length, getD, take, drop, drop-of-length-le, length-drop}
+use lib.ListN.{length, getD, drop, drop-of-length-le, length-drop}
 use lib.Seq.{drop-cons, getD-take, getD-drop}
 use Rattle.grammar.specs.Scanning.{front}
-use Rattle.scanner.specs.Words.{run}
-
-length-if : (k : Bool) (n b : ℕ) (bs : List ℕ) → length (take n bs) ≡ n
-    → length (take (cond k (suc n) 0) (b ∷ bs)) ≡ cond k (suc n) 0
-length-if true n b bs h = ap suc h
-length-if false n b bs h = refl
-
-pub length-run : (p : ℕ → Bool) (bs : List ℕ) → length (run p bs) ≡ front p bs
-length-run p [] = refl
-length-run p (b ∷ bs) = length-if (p b) (front p bs) b bs (length-run p bs)
-
-fits-if : (k : Bool) (n m : ℕ) → n ≤ m → cond k (suc n) 0 ≤ suc m
-fits-if true n m h = omega arith
-fits-if false n m h = omega arith
-
-front-fits : (p : ℕ → Bool) (bs : List ℕ) → front p bs ≤ length bs
-front-fits p [] = omega arith
-front-fits p (b ∷ bs) = fits-if (p b) (front p bs) (length bs) (front-fits p bs)
+use Rattle.grammar.specs.Fronts.{run, front-fits}
 
 module _ (p : ℕ → Bool) (text : List ℕ) {at : ℕ} where
   pub front-past : length text ≤ at → front p (drop at text) ≡ 0

@@ -11,11 +11,10 @@ use borrow.Author.Tests.{eqb-true, eqb-false, not-true, lt-ltb, ltb-true}
 use lib.ListN.{length, take}
 use Rattle.grammar.specs.Scanning.{is-word-byte, front, keywords, Spelling, Found, variable-of, word-of}
 use Rattle.grammar.specs.Numbers.{token-number, token-value}
-use Rattle.scanner.specs.Words.{run, packed, longest, word-number, keyword-number}
+use Rattle.grammar.specs.Fronts.{run, word-byte-range, length-run, both}
+use Rattle.scanner.specs.Words.{packed, longest, word-number, keyword-number}
 use Rattle.scanner.specs.Lexed.{lexed, word-at}
-use Rattle.scanner.proofs.Flags.{word-byte-range}
-use Rattle.scanner.proofs.Fronts.{length-run}
-use Rattle.scanner.proofs.Packing.{both, proper, same-packed}
+use Rattle.scanner.proofs.Packing.{proper, same-packed}
 
 -- a word's bytes are letters and digits
 pub proper-run : (bs : List ℕ) → proper (run is-word-byte bs) ≡ true

@@ -6,15 +6,12 @@ use mathlib.Core.List.{List, [], _∷_, _++_, append-nil}
 use mathlib.Core.Bool.{Bool, true, false, cond, _&&_}
 use native.Mathlib.Omega.{arith}
 use lib.Dec.{eqb, ltb}
-use borrow.Author.Tests.{eqb-true, eq-eqb, ne-eqb, ltb-true}
+use borrow.Author.Tests.{eq-eqb, ne-eqb, ltb-true}
 use lib.ListN.{length}
 use Rattle.grammar.specs.Tables.{false-is-not}
+use Rattle.grammar.specs.Fronts.{both, same-refl, same-true}
 use Rattle.grammar.specs.Scanning.{same-bytes}
 use Rattle.scanner.specs.Words.{packed, longest, word-number}
-
-pub both : (a b : Bool) → (a && b) ≡ true → (a ≡ true) × (b ≡ true)
-both true b e = (refl, e)
-both false b e = false-is-not e
 
 -- every byte is one, and none is 0
 abbrev pub proper : List ℕ → Bool
@@ -66,18 +63,6 @@ module _ (v w : List ℕ) (pv : proper v ≡ true) (pw : proper w ≡ true) wher
       found u k p f = unpacked-packed u (length v + length w) k 0 [] p f ∙ unpacked-none k (u ++ []) ∙ append-nil u
 
 -- ---- the test
-
-same-refl : (w : List ℕ) → same-bytes w w ≡ true
-same-refl [] = refl
-same-refl (b ∷ w) = rw (eq-eqb b b refl, same-refl w)
-
-same-true : (v w : List ℕ) → same-bytes v w ≡ true → v ≡ w
-same-true [] [] e = refl
-same-true [] (c ∷ w) e = false-is-not e
-same-true (b ∷ v) [] e = false-is-not e
-same-true (b ∷ v) (c ∷ w) e =
-    let h = both (eqb b c) (same-bytes v w) e in
-    rw (eqb-true b c (h .0), same-true v w (h .1))
 
 pub same-packed : (v w : List ℕ) → proper v ≡ true → proper w ≡ true → packed 0 w < longest
     → same-bytes v w ≡ eqb (word-number v) (packed 0 w)

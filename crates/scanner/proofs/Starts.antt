@@ -11,7 +11,7 @@ use lib.ListN.{length, getD, drop, drop-of-length-le}
 use lib.Seq.{drop-cons, getD-drop}
 use Rattle.grammar.specs.Scanning.{is-digit, is-letter, Found, numeral-of, token-at}
 use Rattle.scanner.specs.declared.Token.{Token}
-use Rattle.scanner.specs.Words.{run}
+use Rattle.grammar.specs.Fronts.{run}
 use Rattle.scanner.specs.Lexed.{lexed, word-at, symbol-at}
 
 -- what is told of the token, field by field

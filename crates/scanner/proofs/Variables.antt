@@ -14,9 +14,8 @@ use Rattle.grammar.specs.Tables.{false-is-not}
 use Rattle.grammar.specs.Tokens.{variable}
 use Rattle.grammar.specs.Scanning.{is-digit, is-word-byte, front, number, variable-of}
 use Rattle.grammar.specs.Numbers.{token-number, token-value, most}
-use Rattle.scanner.specs.Words.{run}
+use Rattle.grammar.specs.Fronts.{run, length-run}
 use Rattle.scanner.specs.Lexed.{lexed, word-at}
-use Rattle.scanner.proofs.Fronts.{length-run}
 
 -- ---- digits at the front of a word
 
@@ -36,7 +35,8 @@ front-in-run (b ∷ bs) = by-test (is-word-byte b) refl (is-digit b) refl (front
     by-test false i false j h = refl
 
 -- the word goes on after its digits
-front-after : (bs : List ℕ) → front is-word-byte bs ≡ front is-digit bs + front is-word-byte (drop (front is-digit bs) bs)
+front-after : (bs : List ℕ)
+    → front is-word-byte bs ≡ front is-digit bs + front is-word-byte (drop (front is-digit bs) bs)
 front-after [] = refl
 front-after (b ∷ bs) = by-test (is-digit b) refl (front-after bs)
   where

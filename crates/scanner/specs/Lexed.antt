@@ -4,8 +4,8 @@ use Prim.Native.Nat.{ℕ, _+_}
 use mathlib.Core.List.{List}
 use mathlib.Core.Option.{Option, none, some}
 use Rattle.grammar.specs.Scanning.{Found, is-word-byte, keywords, word-of, symbols, symbol-of}
+use Rattle.grammar.specs.Fronts.{run}
 use Rattle.grammar.specs.Numbers.{token-number, token-value}
-use Rattle.scanner.specs.Words.{run}
 use Rattle.scanner.specs.declared.Token.{Token}
 
 -- no token: the place after it is the place itself

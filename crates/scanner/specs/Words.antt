@@ -1,15 +1,10 @@
 -- A word as a number: its bytes as digits to the base 256. The keywords are told by these numbers. Assumes nothing.
 use Prim.Native.Nat.{ℕ, _+_, _*_, min}
 use mathlib.Core.List.{List, [], _∷_}
-use mathlib.Core.Bool.{Bool, cond}
+use mathlib.Core.Bool.{cond}
 use lib.Dec.{eqb}
-use lib.ListN.{take}
-use Rattle.grammar.specs.Scanning.{front, Spelling}
+use Rattle.grammar.specs.Scanning.{Spelling}
 use Rattle.grammar.specs.Numbers.{token-number}
-
--- the longest run at the front of bytes that are such
-abbrev pub run : (ℕ → Bool) → List ℕ → List ℕ
-run p bs = take (front p bs) bs
 
 -- the number n with the bytes after it
 abbrev pub packed : ℕ → List ℕ → ℕ

@@ -11,7 +11,7 @@ ghost use mathlib.Core.List.{[], _∷_};
 ghost use Prim.Native.Nat.{_+_, _^_, _<_};
 ghost use lib.ListN.{length, drop, getD};
 ghost use Rattle.grammar.specs.Scanning.{is-blank, is-digit, numeral-of, token-at};
-ghost use Rattle.scanner.specs.Words.{run};
+ghost use Rattle.grammar.specs.Fronts.{run};
 ghost use Rattle.scanner.specs.Lexed.{lexed, none-at, word-at, symbol-at};
 
 // A token by its number in `tokens`, the value of a numeral or a variable, else 0, and the place after the token.

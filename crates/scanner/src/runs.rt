@@ -6,8 +6,9 @@ ghost use mathlib.Core.Bool.{true};
 ghost use Prim.Native.Nat.{_+_, _*_, _-_, _≤_, min};
 ghost use lib.ListN.{drop};
 ghost use Rattle.grammar.specs.Scanning.{is-digit, is-word-byte, front, decimal, number};
+ghost use Rattle.grammar.specs.Fronts.{run};
 ghost use Rattle.grammar.specs.Numbers.{most};
-ghost use Rattle.scanner.specs.Words.{run, longest, word-number};
+ghost use Rattle.scanner.specs.Words.{longest, word-number};
 
 // The largest value that is told, which is beyond every range.
 const MOST: usize = 4294967295;

@@ -4,7 +4,7 @@ use lib.ListN.{drop}
 use Rattle.grammar.specs.Scanning.{is-digit}
 use Rattle.grammar.specs.Numbers.{token-number, token-value}
 use Rattle.scanner.specs.Lexed.{lexed}
-use Rattle.scanner.proofs.Fronts.{length-run}
+use Rattle.grammar.specs.Fronts.{length-run}
 use Rattle.scanner.proofs.numeral_at.Statement.{statement}
 use Rattle.scanner.proofs.numeral_at.Tie as tie
 

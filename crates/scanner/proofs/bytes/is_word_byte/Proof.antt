@@ -14,7 +14,8 @@ returns c =
 returns-2 : tie.Need-returns-2
 returns-2 c =
     let letter = c .before .before .is-letter .ensures in
-    c .is-digit .ensures ∙ or-then (is-digit (c .before .before .before .args .byte)) (sym letter ∙ c .before .if1 .left)
+    let byte = c .before .before .before .args .byte in
+    c .is-digit .ensures ∙ or-then (is-digit byte) (sym letter ∙ c .before .if1 .left)
 
 pub is-word-byte-spec : {M : Type 1} → statement M
 is-word-byte-spec = tie.close (tie.spec (λ c κs. search needs) (λ c κs. search needs) returns returns-2)

@@ -6,8 +6,8 @@ use borrow.Author.Needs.{needs}
 use lib.ListN.{drop}
 use Rattle.grammar.specs.Scanning.{is-digit}
 use Rattle.grammar.specs.Numbers.{most}
-use Rattle.scanner.specs.Words.{run}
-use Rattle.scanner.proofs.Fronts.{length-run, run-first, front-within}
+use Rattle.grammar.specs.Fronts.{run, length-run}
+use Rattle.scanner.proofs.Fronts.{run-first, front-within}
 use Rattle.scanner.proofs.Numerals.{one-digit, leading-zero, no-leading-zero}
 use Rattle.scanner.proofs.runs.number_at.Statement.{statement}
 use Rattle.scanner.proofs.runs.number_at.Tie as tie

@@ -1,6 +1,6 @@
 -- `scanner::runs::with_digit` meets its contract. Assumes nothing.
 use borrow.Author.Needs.{needs}
-use Rattle.scanner.proofs.Flags.{digit-range}
+use Rattle.grammar.specs.Fronts.{digit-range}
 use Rattle.scanner.proofs.runs.with_digit.Statement.{statement}
 use Rattle.scanner.proofs.runs.with_digit.Tie as tie
 
