@@ -34,3 +34,4 @@ pub mod Fronts
 pub mod Finding
 pub mod Longest
 pub mod Covers
+pub mod Answer
