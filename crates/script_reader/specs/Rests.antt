@@ -10,8 +10,6 @@ use lib.ListN.{length, getD, drop, length-drop}
 use lib.Seq.{drop-drop}
 use Rattle.grammar.specs.Scanning.{is-blank, Found, token-at, Lexeme, Scanned, no-token, lexemes, with-first, at-end, past, scan-from, scan}
 use Rattle.grammar.specs.Scans.{scan-enough}
-use Rattle.grammar.specs.Longest.{Begun, begun, begins-some}
-use Rattle.grammar.specs.Tables.{none-is-not, some-inj}
 use Rattle.grammar.specs.Numbers.{token-number, token-value}
 use Rattle.parser.specs.Machine.{Config, take, run}
 
@@ -49,7 +47,7 @@ first-step zero p b bs h = absurd (omega linear)
 first-step (suc n) p b bs h = let e : n ≡ length bs = omega linear in rw e
 
 module _ (bs : List ℕ) (p : ℕ) (inside : p < length bs) where
-  tail : List ℕ
+  abbrev tail : List ℕ
   tail = drop (p + 1) bs
 
   tail-length : length tail + 1 ≡ length bs - p
@@ -62,32 +60,28 @@ module _ (bs : List ℕ) (p : ℕ) (inside : p < length bs) where
   step = rw (drop-first bs p inside) (first-step (length bs - p) p (getD bs p 0) tail (sym tail-length))
 
   pub rest-blank : is-blank (getD bs p 0) ≡ true → rest bs p ≡ rest bs (p + 1)
+  unfolding rest
   rest-blank e = step ∙ rw e same
     where
       same : scan-from (length tail) (p + 1) tail ≡ rest bs (p + 1)
-      same = unfold rest in scan-enough (length tail) (length bs - (p + 1)) (p + 1) tail (omega linear) (omega (linear, length-drop (p + 1) bs))
+      same = scan-enough (length tail) (length bs - (p + 1)) (p + 1) tail (omega linear) (omega (linear, length-drop (p + 1) bs))
 
   pub rest-none : is-blank (getD bs p 0) ≡ false → token-at (drop p bs) ≡ none → rest bs p ≡ no-token p
   rest-none e n = step ∙ rw (e, n)
 
   pub rest-token : is-blank (getD bs p 0) ≡ false → (f : Found) → 1 ≤ f .size → token-at (drop p bs) ≡ some f
       → rest bs p ≡ with-first (record { token = f .token; place = p }) (rest bs (p + f .size))
-  rest-token e f o n = step ∙ rw (e, n) (ap (λ (r : Scanned). with-first (record { token = f .token; place = p }) r) same)
+  unfolding rest
+  rest-token e f o n = step ∙ rw (e, n, same)
     where
       after : drop (f .size) (drop p bs) ≡ drop (p + f .size) bs
-      after = drop-drop (f .size) p bs ∙ ap (λ (k : ℕ). drop k bs) (omega linear)
+      after = drop-drop (f .size) p bs
 
       same : scan-from (length tail) (p + f .size) (drop (f .size) (drop p bs)) ≡ rest bs (p + f .size)
-      same = unfold rest in rw after (scan-enough (length tail) (length bs - (p + f .size)) (p + f .size) (drop (p + f .size) bs)
-      (omega (linear, length-drop (p + f .size) bs, tail-length)) (omega (linear, length-drop (p + f .size) bs)))
-
--- a token has a byte at least, and lies in the text
-pub token-fits : (bs : List ℕ) (f : Found) → token-at bs ≡ some f → (1 ≤ f .size) × (f .size ≤ length bs)
-token-fits bs f e = at-found (token-at bs) (begun bs) e
-  where
-    at-found : (o : Option Found) → Begun bs o → o ≡ some f → (1 ≤ f .size) × (f .size ≤ length bs)
-    at-found none h q = none-is-not q
-    at-found (some g) h q = let z = some-inj q in rw (← z) (begins-some h, h .longest .within)
+      same =
+          let q = p + f .size in
+          let l = length-drop q bs in
+          rw after (scan-enough (length tail) (length bs - q) q (drop q bs) (omega (linear, l, tail-length)) (omega (linear, l)))
 
 -- ---- what a machine makes of a scan
 
