@@ -25,6 +25,9 @@ pub const BECOMES: usize = 3;
 
 pub const REFUSED: usize = 4;
 
+// The count of rows once there is no room for one.
+pub const FULL: usize = 4095;
+
 // No place of a text.
 pub const NOWHERE: usize = 65535;
 

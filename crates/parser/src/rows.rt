@@ -3,12 +3,10 @@
 ghost use mathlib.Core.Path.{_≡_};
 ghost use mathlib.Core.List.{[], _∷_};
 ghost use Rattle.parser.specs.Machine.{rows-after, with-words, with-row, with-constant, is-single, operator-row};
+use crate::FULL;
 use crate::frames::below;
 use crate::frames::first_part;
 use script::kinds;
-
-// More rows than there are.
-pub const FULL: usize = 4095;
 
 // Writes the four words of a row.
 fn write_words(words: &mut [i32], rows: usize, kind: i32, a: i32, b: i32, c: i32) -> usize

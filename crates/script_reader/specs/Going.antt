@@ -113,3 +113,23 @@ ended bs c₀ c p g h d e l r w q = at-scan (scan bs) (sym (g .comes) ∙ ap (λ
             (w, (q ∙ ap (λ (x : Config). x .state) (sym m), ap (λ (x : Config). x .words) (sym m)));
           size = l ∙ g .words-kept;
         }
+
+-- ---- the same, from what calls tell
+
+config-is : (s : State) (st : List ℕ) (ws : List ℤ) (x : Config) → s ≡ x .state → st ≡ x .stack → ws ≡ x .words → config s st ws ≡ x
+config-is s st ws x a b c = λ i. record { state = a i; stack = b i; words = c i }
+
+module _ (bs : List ℕ) (c₀ c : Config) (p : ℕ) (g : Going bs c₀ c p) where
+  pub token-taken : p < length bs → is-blank (getD bs p 0) ≡ false → (k v e : ℕ) → k ≡ lexed p (token-at (drop p bs)) .kind
+      → v ≡ lexed p (token-at (drop p bs)) .value → e ≡ lexed p (token-at (drop p bs)) .end → (k ≡ 0 → ⊥)
+      → (s : State) (st : List ℕ) (ws : List ℤ) → s ≡ take c k v p .state → st ≡ take c k v p .stack → ws ≡ take c k v p .words
+      → length ws ≡ length (c .words) → length st ≡ length (c .stack) → Going bs c₀ (config s st ws) e
+  token-taken inside other k v e i j m n s st ws a b d l o =
+      let q : config s st ws ≡ take c (kind bs c₀ c p g inside other) (value bs c₀ c p g inside other) p =
+      config-is s st ws (take c k v p) a b d ∙ ap (λ (x : ℕ). take c x v p) i ∙ ap (λ (x : ℕ). take c (lexed p (token-at (drop p bs)) .kind) x p) j in
+      rw m (past-token bs c₀ c p g inside other (λ z. n (i ∙ z)) (config s st ws) q l o)
+
+  pub end-taken : length bs ≤ p → (s : State) (st : List ℕ) (ws : List ℤ) → s ≡ take c 51 0 p .state → st ≡ take c 51 0 p .stack
+      → ws ≡ take c 51 0 p .words → length ws ≡ length (c .words) → Takes (scan bs) c₀ (record { whole = true; place = 0; state = s }) ws
+  end-taken h s st ws a b d l =
+      ended bs c₀ c p g h (config s st ws) (config-is s st ws (take c 51 0 p) a b d) l (record { whole = true; place = 0; state = s }) refl refl

@@ -1,3 +1,4 @@
 pub mod Takes
 pub mod Rests
 pub mod Going
+pub mod Reads

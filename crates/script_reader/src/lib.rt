@@ -9,9 +9,8 @@ ghost use mathlib.Core.Path.{_≡_};
 ghost use Prim.Native.Nat.{_≤_, _<_};
 ghost use lib.ListN.{length};
 ghost use Rattle.script.specs.Generated.{zeros};
-ghost use Rattle.grammar.specs.Scanning.{scan};
 ghost use Rattle.grammar.specs.Answer.{answer};
-ghost use Rattle.script_reader.specs.Takes.{Taken, Told};
+ghost use Rattle.script_reader.specs.Takes.{Taken, Told, Gives};
 
 // What is answered beside the words: number and place, and how many words were used.
 pub struct TextAnswer {
@@ -45,7 +44,7 @@ fn finish(words: &mut [i32], s: State) -> TextAnswer
     if s.out != parser::NOWHERE {
         return refuse(words, 42, s.out);
     }
-    if 2048 < rows {
+    if rows == parser::FULL {
         return refuse(words, 43, 0);
     }
     marks::name_loops(words, rows);
@@ -61,10 +60,7 @@ fn read_on(text: &[u8], stack: &mut [u32], words: &mut [i32]) -> TextAnswer
     requires { ⌜ length (now text) ≤ 32768 ⌝ }
     requires { ⌜ length (now text) < length (now stack) ⌝ }
     requires { ⌜ now words ≡ zeros (length (now words)) ⌝ }
-    ensures number { λ r. ⌜ r .number ≡ answer (now (text .entry)) (length (now (words .entry))) .number ⌝ }
-    ensures place { λ r. ⌜ r .place ≡ answer (now (text .entry)) (length (now (words .entry))) .place ⌝ }
-    ensures used { λ r. ⌜ r .used ≡ answer (now (text .entry)) (length (now (words .entry))) .used ⌝ }
-    ensures words { λ r. ⌜ now (words .exit) ≡ answer (now (text .entry)) (length (now (words .entry))) .words ⌝ }
+    ensures { λ r. ⌜ Gives (answer (now (text .entry)) (length (now (words .entry)))) r (now (words .exit)) ⌝ }
 {
     let passage = tokens::take_tokens(text, stack, words);
     if passage.whole {
@@ -74,14 +70,11 @@ fn read_on(text: &[u8], stack: &mut [u32], words: &mut [i32]) -> TextAnswer
     }
 }
 
-// A stack for short texts, so that little has to be cleared.
+// Short texts have a short stack, so that little is cleared.
 fn read_short(text: &[u8], words: &mut [i32]) -> TextAnswer
     requires { ⌜ length (now text) < 1024 ⌝ }
     requires { ⌜ now words ≡ zeros (length (now words)) ⌝ }
-    ensures number { λ r. ⌜ r .number ≡ answer (now (text .entry)) (length (now (words .entry))) .number ⌝ }
-    ensures place { λ r. ⌜ r .place ≡ answer (now (text .entry)) (length (now (words .entry))) .place ⌝ }
-    ensures used { λ r. ⌜ r .used ≡ answer (now (text .entry)) (length (now (words .entry))) .used ⌝ }
-    ensures words { λ r. ⌜ now (words .exit) ≡ answer (now (text .entry)) (length (now (words .entry))) .words ⌝ }
+    ensures { λ r. ⌜ Gives (answer (now (text .entry)) (length (now (words .entry)))) r (now (words .exit)) ⌝ }
 {
     let mut stack: [u32; 1024] = [0; 1024];
     read_on(text, &mut stack, words)
@@ -90,10 +83,7 @@ fn read_short(text: &[u8], words: &mut [i32]) -> TextAnswer
 fn read_long(text: &[u8], words: &mut [i32]) -> TextAnswer
     requires { ⌜ length (now text) ≤ 32768 ⌝ }
     requires { ⌜ now words ≡ zeros (length (now words)) ⌝ }
-    ensures number { λ r. ⌜ r .number ≡ answer (now (text .entry)) (length (now (words .entry))) .number ⌝ }
-    ensures place { λ r. ⌜ r .place ≡ answer (now (text .entry)) (length (now (words .entry))) .place ⌝ }
-    ensures used { λ r. ⌜ r .used ≡ answer (now (text .entry)) (length (now (words .entry))) .used ⌝ }
-    ensures words { λ r. ⌜ now (words .exit) ≡ answer (now (text .entry)) (length (now (words .entry))) .words ⌝ }
+    ensures { λ r. ⌜ Gives (answer (now (text .entry)) (length (now (words .entry)))) r (now (words .exit)) ⌝ }
 {
     let mut stack: [u32; 32769] = [0; 32769];
     read_on(text, &mut stack, words)
