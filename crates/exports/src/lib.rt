@@ -1,4 +1,4 @@
-// The entries for other languages: the check, the list reader, the generator and the writer of solver scripts, with their
+// The entries for other languages: the reader of text, the check, the list reader, the generator and the writer of solver scripts, with their
 // answers as numbers that the caller lends. A slice is its place and its length.
 
 use editor::Record;
@@ -12,6 +12,7 @@ ghost use Rattle.editor.specs.Flat.{flat};
 ghost use Rattle.script.specs.Listing.{line-at, first-place, step-back, next-place};
 ghost use Rattle.script.specs.Promise.{Demand-3};
 ghost use Rattle.smt.specs.Written.{written};
+ghost use Rattle.grammar.specs.Answer.{answer};
 ghost use Rattle.exports.specs.Told.{Told, answer-of};
 ghost use Rattle.exports.specs.Verdicts.{number-of, row-of};
 
@@ -172,5 +173,25 @@ pub extern "C" fn leqwarti_smt(
 {
     let answer = smt_writer::write_condition(words, index, text);
     *number = answer.number;
+    *used = answer.used;
+}
+
+// Reads a script's text: number and place, how many words of the table were used, and the table.
+#[no_mangle]
+pub extern "C" fn leqwarti_read(
+    text: &[u8],
+    words: &mut [i32],
+    number: &mut usize,
+    place: &mut usize,
+    used: &mut usize,
+)
+    ensures number { λ _. ⌜ now (number .exit) ≡ answer (now (text .entry)) (length (now (words .entry))) .number ⌝ }
+    ensures place { λ _. ⌜ now (place .exit) ≡ answer (now (text .entry)) (length (now (words .entry))) .place ⌝ }
+    ensures used { λ _. ⌜ now (used .exit) ≡ answer (now (text .entry)) (length (now (words .entry))) .used ⌝ }
+    ensures words { λ _. ⌜ now (words .exit) ≡ answer (now (text .entry)) (length (now (words .entry))) .words ⌝ }
+{
+    let answer = script_reader::read_text(text, words);
+    *number = answer.number;
+    *place = answer.place;
     *used = answer.used;
 }
