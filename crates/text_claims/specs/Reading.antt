@@ -1,0 +1,58 @@
+-- What the theorems of this crate speak of: a derivation of a text (`Reading`), that its numbers are in range (`In-range`), that its
+-- rows have room (`Fits`), and a text that is read into a table (`Read`). A text has one derivation at most (`one-reading`), so
+-- what is said of any derivation of a text is said of its script, `text-tree`. Assumes nothing.
+use Prim.Native.Nat.{ℕ, _*_, _≤_}
+use mathlib.Core.Path.{_≡_, sym, ap, _∙_, subst}
+use mathlib.Core.List.{List, []}
+use mathlib.Core.Bool.{false}
+use lib.IntN.{ℤ}
+use lib.ListN.{length}
+use Rattle.grammar.specs.Tokens.{Token}
+use Rattle.grammar.specs.Grammar.{Phrase}
+use Rattle.grammar.specs.Text.{Spells}
+use Rattle.grammar.specs.TextRead.{text-unique}
+use Rattle.grammar.specs.Meaning.{size, text-table}
+use Rattle.grammar.specs.Scanning.{Lexeme, tokens-of, Scanned, no-token, lexemes, scan}
+use Rattle.grammar.specs.InRange.{flags, All}
+
+-- x is a derivation of the text: its tokens are those of the bytes
+pub record Reading (bytes : List ℕ) (x : Phrase) : Type 0 where
+  pub found : List Lexeme
+  pub scanned : scan bytes ≡ lexemes found
+  pub spells : Spells x (tokens-of found)
+
+-- "at most 32,768 bytes"
+abbrev pub Short : List ℕ → Type 0
+Short bytes = length bytes ≤ 32768
+
+-- every numeral, variable and k of a mark: no loops are around, and no unary minus is before
+abbrev pub In-range : Phrase → Type 0
+In-range x = All (flags 0 false x)
+
+-- the rows pass neither the buffer of so many words nor 2,048
+abbrev pub Fits : ℕ → Phrase → Type 0
+Fits room x = (4 * size x ≤ room) × (size x ≤ 2048)
+
+-- the text is read into the table
+pub record Read (room : ℕ) (bytes : List ℕ) (table : List ℤ) : Type 0 where
+  pub short : Short bytes
+  pub of : Phrase
+  pub reading : Reading bytes of
+  pub in-range : In-range of
+  pub fits : Fits room of
+  pub table-of : table ≡ text-table of
+
+-- ---- one derivation
+
+abbrev found-in : Scanned → List Lexeme
+found-in (no-token p) = []
+found-in (lexemes ls) = ls
+
+pub same-lexemes : (ls ms : List Lexeme) → lexemes ls ≡ lexemes ms → ls ≡ ms
+same-lexemes ls ms e = ap found-in e
+
+-- "Each text of the grammar has one reading"
+pub one-reading : (bytes : List ℕ) (x y : Phrase) → Reading bytes x → Reading bytes y → x ≡ y
+one-reading bytes x y r q =
+    let same = same-lexemes (r .found) (q .found) (sym (r .scanned) ∙ q .scanned) in
+    text-unique x y (tokens-of (q .found)) (subst (λ (ls : List Lexeme). Spells x (tokens-of ls)) same (r .spells)) (q .spells)
