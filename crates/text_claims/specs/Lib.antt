@@ -5,3 +5,5 @@ pub mod Stuck
 pub mod Occasions
 pub mod Exactly
 pub mod Numbers
+pub mod Figures
+pub mod Refused
