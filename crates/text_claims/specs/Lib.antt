@@ -7,3 +7,4 @@ pub mod Exactly
 pub mod Numbers
 pub mod Figures
 pub mod Refused
+pub mod Witness
