@@ -1,5 +1,5 @@
--- Figures of 02, P4: texts that are not read, each refusal at its place, and the limits of room and length from both sides, as statements
--- that the prover settles by computing the definitions. Assumes nothing.
+-- Figures of 02, P4: texts that are not read, each refusal at its place, and the limits of room and length from both sides,
+-- as statements that the prover settles by computing the definitions. Assumes nothing.
 use Prim.Native.Nat.{ℕ, zero, suc}
 use Prim.Native.String.{String}
 use mathlib.Core.Path.{_≡_, refl}
@@ -182,6 +182,8 @@ number (refused n p) = n
 number (given ws) = 0
 
 -- 2,048 rows in words enough and in one less; 2,049 rows
-many-hold : map (λ (c : ℕ × List ℕ). number (outcome (c .0) (c .1))) ((8192, many 1022 "true") ∷ (8191, many 1022 "true") ∷ (10000, many 1022 "not true") ∷ []) ≡ 0 ∷ 43 ∷ 43 ∷ []
+many-hold : map (λ (c : ℕ × List ℕ). number (outcome (c .0) (c .1)))
+    ((8192, many 1022 "true") ∷ (8191, many 1022 "true") ∷ (10000, many 1022 "not true") ∷ [])
+    ≡ 0 ∷ 43 ∷ 43 ∷ []
 unfolding ors outcome scan scan-from token-at stuck out-of-range read reduce depth text-table text-rows table size roots flat
 many-hold = refl
