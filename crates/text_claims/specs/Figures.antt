@@ -23,23 +23,23 @@ abbrev pub Holds : List Figure → Type 0
 Holds fs = map (λ (f : Figure). outcome (f .0) (f .1)) fs ≡ map (λ (f : Figure). f .2) fs
 
 -- a row with the constant -n, then the words after it
-abbrev negative : ℕ → List ℤ → List ℤ
+abbrev pub negative : ℕ → List ℤ → List ℤ
 negative n ws = pos 1 ∷ negsuc (n - 1) ∷ pos 0 ∷ pos 0 ∷ ws
 
 -- a constant and a variable
-abbrev n : ℕ → Row4
+abbrev pub n : ℕ → Row4
 n k = (1, k, 0, 0)
 
-abbrev v : ℕ → Row4
+abbrev pub v : ℕ → Row4
 v k = (2, k, 0, 0)
 
-abbrev true-row : Row4
+abbrev pub true-row : Row4
 true-row = (16, 0, 0, 0)
 
-abbrev false-row : Row4
+abbrev pub false-row : Row4
 false-row = (17, 0, 0, 0)
 
-abbrev skip-row : Row4
+abbrev pub skip-row : Row4
 skip-row = (32, 0, 0, 0)
 
 abbrev rows : List ℤ → ℕ
@@ -58,7 +58,7 @@ does s ws = (
   given (true-row ⨾ (ws ++ (true-row ⨾ (48, 0, rows ws, rows ws + 1) ⨾ []))),
 )
 
-abbrev pub gives : String → List ℤ → Figure
+abbrev gives : String → List ℤ → Figure
 gives t ws = (400, bytes t, given ws)
 
 -- ---- formulas

@@ -7,4 +7,5 @@ pub mod Exactly
 pub mod Numbers
 pub mod Figures
 pub mod Refused
+pub mod Recorded
 pub mod Witness
