@@ -5,6 +5,8 @@ pub mod Stuck
 pub mod Occasions
 pub mod Exactly
 pub mod Numbers
+pub mod OpenBodies
+pub mod Bounds
 pub mod Figures
 pub mod Refused
 pub mod Recorded

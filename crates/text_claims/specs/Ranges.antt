@@ -107,7 +107,7 @@ begins-only (form-word f) e = false-is-not e
 begins-only (closer-word c) e = false-is-not e
 
 -- a number has one flag, another token none
-abbrev One-if : Bool → List Bool → Type 0
+abbrev pub One-if : Bool → List Bool → Type 0
 One-if true f = (b : Bool) × (f ≡ b ∷ [])
 One-if false f = f ≡ []
 
@@ -123,7 +123,7 @@ operand-one fs (infix-word o) = refl
 operand-one fs (form-word f) = refl
 operand-one fs (closer-word c) = refl
 
-one-flag : (m : Mode) (fs : List Frame) (t : Token) (r : State) → take (at m fs) t ≡ some r → One-if (is-number t) (flag m fs t)
+pub one-flag : (m : Mode) (fs : List Frame) (t : Token) (r : State) → take (at m fs) t ≡ some r → One-if (is-number t) (flag m fs t)
 one-flag operand fs t r e = operand-one fs t
 one-flag (after x) fs t r e = at-test (is-number t) refl
   where
