@@ -1,7 +1,8 @@
--- "or with a leading zero": such a numeral is scanned as 4294967295 (`leading-zero-out`), and no text that is read has a numeral
--- above 2147483648, a mark's k too, or a variable above 1023 (`read-within`). So none that is read has a leading zero.
--- Argument: a mark's k is at most the number of bodies that are open, a token opens one at most (`opens-one`), and a text of
--- 32,768 bytes has at most 32,769 tokens (`few-tokens`). Assumes nothing.
+-- "or with a leading zero": such a numeral is scanned as 4294967295 (`leading-zero-out`), and no text that is read
+-- has a numeral above 2147483648, a mark's k too, or a variable above 1023 (`read-within`). So none that is read has
+-- a leading zero.
+-- Argument: a mark's k is at most the number of bodies that are open, a token opens one at most (`opens-one`), and a
+-- text of 32,768 bytes has at most 32,769 tokens (`few-tokens`). Assumes nothing.
 use Prim.Native.Nat.{ℕ, zero, suc, _+_, _≤_, _<_}
 use mathlib.Core.Path.{_≡_, sym, ap, _∙_, subst}
 use mathlib.Core.Option.{Option, none, some}
@@ -23,7 +24,8 @@ use Rattle.grammar.specs.Scanning as Scanning
 use Rattle.grammar.specs.InRange.{limit, mark-fits, depth, after-minus, operand-flag, flag, onward, read-flags, All, all-parts}
 use Rattle.grammar.specs.Outcome.{given, outcome, table-given}
 use Rattle.text_claims.specs.Reading.{same-lexemes}
-use Rattle.text_claims.specs.Ranges.{is-number, One-if, one-flag}
+use Rattle.text_claims.specs.FirstOut.{is-number}
+use Rattle.text_claims.specs.Ranges.{One-if, one-flag}
 use Rattle.text_claims.specs.OpenBodies.{open-bodies, opens-one}
 
 -- ---- the statement
@@ -54,7 +56,8 @@ both : (a b : Bool) → (a && b) ≡ true → b ≡ true
 both true b e = e
 both false b e = false-is-not e
 
-numeral-within : (mark minus : Bool) (d n : ℕ) → d ≤ 2147483648 → cond mark (mark-fits d n) (leb n (limit minus)) ≡ true → n ≤ 2147483648
+numeral-within : (mark minus : Bool) (d n : ℕ) → d ≤ 2147483648 → cond mark (mark-fits d n) (leb n (limit minus)) ≡ true
+    → n ≤ 2147483648
 numeral-within true minus d n l e = let k = leb-true n d (both (leb 1 n) (leb n d) e) in omega linear
 numeral-within false true d n l e = leb-true n 2147483648 e
 numeral-within false false d n l e = let k = leb-true n 2147483647 e in omega linear
@@ -102,10 +105,13 @@ all-within [] s r e l h = tt
 all-within (t ∷ ls) s r e l h =
     let k = went-on (take s (t .token)) (λ q. read q (tokens-of ls)) e in
     let q = k .0 in
-    let p = all-parts (flag (s .mode) (s .stack) (t .token)) (onward (take s (t .token)) (λ p. read-flags p (tokens-of ls))) h in
+    let go : State → List Bool = λ p. read-flags p (tokens-of ls) in
+    let p = all-parts (flag (s .mode) (s .stack) (t .token)) (onward (take s (t .token)) go) h in
     let one = opens-one s (t .token) q (k .1) in
-    let later : All (read-flags q (tokens-of ls)) = subst (λ (o : Option State). All (onward o (λ p. read-flags p (tokens-of ls)))) (k .1) (p .1) in
-    (flag-within (s .mode) (s .stack) (t .token) q (k .1) (omega linear) (p .0), all-within ls q r (k .2) (omega linear) later)
+    let later : All (go q) = subst (λ (o : Option State). All (onward o go)) (k .1) (p .1) in (
+      flag-within (s .mode) (s .stack) (t .token) q (k .1) (omega linear) (p .0),
+      all-within ls q r (k .2) (omega linear) later,
+    )
 
 -- ---- tokens of a text
 
@@ -134,7 +140,8 @@ few-from (suc n) p (b ∷ bs) =
     at-test true o here again = few-later (suc n) (scan-from n (p + 1) bs) here
     at-test false none here again = tt
     at-test false (some f) here again = let later = drop (f .size) (b ∷ bs) in
-        few-more (suc n) (record { token = f .token; place = p }) (scan-from n (p + f .size) later) (again (p + f .size) later)
+        let q = p + f .size in
+        few-more (suc n) (record { token = f .token; place = p }) (scan-from n q later) (again q later)
 
 few-tokens : (bytes : List ℕ) (ls : List Lexeme) → scan bytes ≡ lexemes ls → length ls ≤ suc (length bytes)
 unfolding scan
@@ -151,5 +158,5 @@ read-within room bytes table read ls scanned =
     let same = same-lexemes (t .found) ls (sym (t .scanned) ∙ scanned) in
     let few = few-tokens bytes (t .found) (t .scanned) in
     let short = leb-true (length bytes) 32768 (t .short) in
-    subst All-within same
-    (all-within (t .found) start (at (after (g .of)) []) (text-read (g .of) (tokens-of (t .found)) (t .spells)) (omega linear) (t .ranges))
+    let whole = text-read (g .of) (tokens-of (t .found)) (t .spells) in
+    subst All-within same (all-within (t .found) start (at (after (g .of)) []) whole (omega linear) (t .ranges))

@@ -1,6 +1,6 @@
 -- `read-exactly`: every text gets the answer whose occasion arises, and no other (`Occasions`).
--- Argument: the tests of `outcome` are gone through in their order, and each answer comes with its occasion (`told`); an occasion
--- settles the tests in turn (`long-told` to `full-told`). Assumes nothing.
+-- Argument: the tests of `outcome` are gone through in their order, and each answer comes with its occasion (`told`);
+-- an occasion settles the tests in turn (`long-told` to `full-told`). Assumes nothing.
 use Prim.Native.Nat.{ℕ, _*_, _≤_, _<_}
 use mathlib.Core.Path.{_≡_, refl, sym, ap, _∙_, subst}
 use mathlib.Core.Logic.{_↔_}
@@ -21,7 +21,7 @@ use Rattle.grammar.specs.Scanning.{Lexeme, tokens-of, Scanned, no-token, lexeme
 use Rattle.grammar.specs.InRange.{flags, All, text-flags}
 use Rattle.grammar.specs.Outcome.{Outcome, refused, given, out-of-range, has-room, table-out, read-out, range-out, stuck-out, scanned-out, outcome, gives-table, read-to-end}
 use Rattle.text_claims.specs.Reading.{Reading, In-range, Fits, Read}
-use Rattle.text_claims.specs.Ranges.{number-places, First-out, out-exactly, none-out}
+use Rattle.text_claims.specs.Ranges.{out-exactly, none-out}
 use Rattle.text_claims.specs.Stuck.{stuck-iff, derived-not-stuck}
 use Rattle.text_claims.specs.Occasions.{No-token-at, No-text-at, Out-of-range-at, No-room, Read-exactly}
 
@@ -34,7 +34,8 @@ module _ (room : ℕ) (x : Phrase) where
   tested-fits : has-room room (size x) ≡ true → Fits room x
   tested-fits e = at-tests (leb (4 * size x) room) refl (leb (size x) 2048) refl e
     where
-      at-tests : (a : Bool) → leb (4 * size x) room ≡ a → (b : Bool) → leb (size x) 2048 ≡ b → (a && b) ≡ true → Fits room x
+      at-tests : (a : Bool) → leb (4 * size x) room ≡ a → (b : Bool) → leb (size x) 2048 ≡ b
+          → (a && b) ≡ true → Fits room x
       at-tests true h true k q = (leb-true _ room h, leb-true (size x) 2048 k)
       at-tests true h false k q = false-is-not q
       at-tests false h b k q = false-is-not q
@@ -58,14 +59,19 @@ module _ (room : ℕ) (bytes : List ℕ) where
   unfolding outcome
   out-told p h =
       let r = h .reading in
-      rw (le-leb (length bytes) 32768 (h .short), r .scanned, derived-not-stuck (h .of) (r .found) (r .spells), out-exactly (h .of) (r .found) (r .spells) p .1 (h .first))
+      let x = h .of in
+      let free = derived-not-stuck x (r .found) (r .spells) in
+      rw (le-leb (length bytes) 32768 (h .short), r .scanned, free, out-exactly x (r .found) (r .spells) p .1 (h .first))
 
   full-told : No-room room bytes → outcome room bytes ≡ refused 43 0
   unfolding outcome
   full-told h =
       let r = h .reading in
       let x = h .of in
-      rw (le-leb (length bytes) 32768 (h .short), r .scanned, derived-not-stuck x (r .found) (r .spells), none-out x (r .found) (r .spells) .1 (h .in-range), text-read x (tokens-of (r .found)) (r .spells), not-room (has-room room (size x)) refl)
+      let free = derived-not-stuck x (r .found) (r .spells) in
+      let within = none-out x (r .found) (r .spells) .1 (h .in-range) in
+      let whole = text-read x (tokens-of (r .found)) (r .spells) in
+      rw (le-leb (length bytes) 32768 (h .short), r .scanned, free, within, whole, not-room (has-room room (size x)) refl)
     where
       not-room : (k : Bool) → has-room room (size (h .of)) ≡ k → k ≡ false
       not-room true e = absurd (h .full (tested-fits room (h .of) e))
@@ -105,33 +111,36 @@ module _ (room : ℕ) (bytes : List ℕ) where
   module _ (short : length bytes ≤ 32768) where
     at-room : (x : Phrase) → Reading bytes x → In-range x → (k : Bool) → has-room room (size x) ≡ k
         → Occasion (cond k (given (text-table x)) (refused 43 0))
-    at-room x r h true e = record { short = short; of = x; reading = r; in-range = h; fits = tested-fits room x e; table-of = refl }
-    at-room x r h false e = (
+    at-room x r h true e =
+        record { short = short; of = x; reading = r; in-range = h; fits = tested-fits room x e; table-of = refl }
+    at-room x r h false e = let not-fits : ¬ Fits room x = λ f. false-is-not (sym e ∙ fits-tested room x f) in (
       (lit≤ tt, lit≤ tt),
-      (refl, record { short = short; of = x; reading = r; in-range = h; full = λ f. false-is-not (sym e ∙ fits-tested room x f) }),
+      (refl, record { short = short; of = x; reading = r; in-range = h; full = not-fits }),
     )
 
     module _ (ls : List Lexeme) (scanned : scan bytes ≡ lexemes ls) where
-      at-range : (x : Phrase) → read start (tokens-of ls) ≡ some (at (after x) []) → (o : Option ℕ) → out-of-range start ls ≡ o
-          → Occasion (range-out room ls o)
+      at-range : (x : Phrase) → read start (tokens-of ls) ≡ some (at (after x) [])
+          → (o : Option ℕ) → out-of-range start ls ≡ o → Occasion (range-out room ls o)
       at-range x e (some p) h =
           let spells = read-text x (tokens-of ls) e in
           let r : Reading bytes x = record { found = ls; scanned = scanned; spells = spells } in
           ((lit≤ tt, lit≤ tt), record { short = short; of = x; reading = r; first = out-exactly x ls spells p .0 h })
       at-range x e none h =
           let spells = read-text x (tokens-of ls) e in
-          rw e
-          (at-room x (record { found = ls; scanned = scanned; spells = spells }) (none-out x ls spells .0 h) (has-room room (size x)) refl)
+          let r : Reading bytes x = record { found = ls; scanned = scanned; spells = spells } in
+          rw e (at-room x r (none-out x ls spells .0 h) (has-room room (size x)) refl)
 
       at-stuck : (o : Option ℕ) → stuck start ls ≡ o → Occasion (stuck-out room ls o)
-      at-stuck (some p) h = ((lit≤ tt, lit≤ tt), record { short = short; found = ls; scanned = scanned; stuck-at = stuck-iff ls p .0 h })
+      at-stuck (some p) h =
+          ((lit≤ tt, lit≤ tt), record { short = short; found = ls; scanned = scanned; stuck-at = stuck-iff ls p .0 h })
       at-stuck none h = let w = read-to-end bytes ls scanned h in at-range (w .0) (w .1) (out-of-range start ls) refl
 
     at-scan : (o : Scanned) → scan bytes ≡ o → Occasion (scanned-out room o)
     at-scan (no-token p) h = ((lit≤ tt, lit≤ tt), record { short = short; scanned = h })
     at-scan (lexemes ls) h = at-stuck ls h (stuck start ls) refl
 
-  at-length : (k : Bool) → leb (length bytes) 32768 ≡ k → Occasion (cond k (scanned-out room (scan bytes)) (refused 44 0))
+  at-length : (k : Bool) → leb (length bytes) 32768 ≡ k
+      → Occasion (cond k (scanned-out room (scan bytes)) (refused 44 0))
   at-length true h = at-scan (leb-true (length bytes) 32768 h) (scan bytes) refl
   at-length false h = ((lit≤ tt, lit≤ tt), (refl, leb-false (length bytes) 32768 h))
 

@@ -1,6 +1,6 @@
 -- Figures of 02, P4: texts that are read, with their rows, each sentence once at least, as statements that the prover
--- settles by computing the definitions. First formulas, after `pre true; skip; post`; then statements, between `pre true;`
--- and `post true`; then whole texts. `Refused` has the texts that are not read. Assumes nothing.
+-- settles by computing the definitions. First formulas, after `pre true; skip; post`; then statements, between `pre
+-- true;` and `post true`; then whole texts. `Refused` has the texts that are not read. Assumes nothing.
 use Prim.Native.Nat.{ℕ, suc, _+_, _-_, _/_}
 use Prim.Native.String.{String}
 use mathlib.Core.Path.{_≡_, refl}
@@ -142,7 +142,7 @@ formulas-hold = refl
 
 statements : List Figure
 statements =
-    -- statements
+    -- "Statements are"
     does "skip" (skip-row ⨾ [])
     ∷ does "v5 := 1" (n 1 ⨾ (33, 5, 1, 0) ⨾ [])
     ∷ does "assert true" (true-row ⨾ (38, 1, 0, 0) ⨾ [])
@@ -158,7 +158,8 @@ statements =
     ∷ does "if true then skip; skip else skip; skip end; skip"
     (true-row ⨾ skip-row ⨾ skip-row ⨾ (34, 2, 3, 0) ⨾ skip-row ⨾ skip-row ⨾ (34, 5, 6, 0) ⨾ (35, 1, 4, 7)
     ⨾ skip-row ⨾ (34, 8, 9, 0) ⨾ [])
-    -- "mark(k) names the k-th loop, outward from 1, whose body it stands in": by its row; an inner guard and annotations stand outside the inner body
+    -- "mark(k) names the k-th loop, outward from 1, whose body it stands in": by its row. Guard, invariant and variant of an
+    -- inner loop stand in the body of the outer
     ∷ does "while true keep true fall 0 do v0 := mark(1) end"
     (true-row ⨾ true-row ⨾ n 0 ⨾ (37, 2, 3, 0) ⨾ (9, 7, 0, 0) ⨾ (33, 0, 5, 0) ⨾ (36, 1, 4, 6) ⨾ [])
     ∷ does "while true keep true fall 0 do while mark(1) < 2 keep mark(1) < 3 fall mark(1) do v0 := mark(1) + mark(2) end; v1 := mark(1) end"

@@ -1,5 +1,6 @@
 pub mod Reading
 pub mod Runs
+pub mod FirstOut
 pub mod Ranges
 pub mod Stuck
 pub mod Occasions

@@ -1,5 +1,5 @@
--- The numbers of a text that has a derivation (`numbers-exactly`): it gets 42 exactly where one of them is out of range, with the place of
--- the first such numeral or variable. Assumes nothing.
+-- The numbers of a text that has a derivation (`numbers-exactly`): it gets 42 exactly where one of them is out of
+-- range, with the place of the first such numeral or variable. Assumes nothing.
 use Prim.Native.Nat.{ℕ, zero, suc}
 use mathlib.Core.Path.{_≡_, refl, sym, ap, _∙_, subst}
 use mathlib.Core.Logic.{_↔_}
@@ -15,13 +15,15 @@ use Rattle.grammar.specs.Scanning.{Lexeme}
 use Rattle.grammar.specs.InRange.{flags, All}
 use Rattle.grammar.specs.Outcome.{refused, out-of-range, outcome}
 use Rattle.text_claims.specs.Reading.{Reading, Short, In-range, same-lexemes, one-reading}
-use Rattle.text_claims.specs.Ranges.{number-places, First-out, out-exactly, none-out}
+use Rattle.text_claims.specs.FirstOut.{number-places, First-out}
+use Rattle.text_claims.specs.Ranges.{out-exactly, none-out}
 use Rattle.text_claims.specs.Occasions.{Out-of-range-at}
 use Rattle.text_claims.specs.Exactly.{read-exactly}
 
 pub record Numbers-exactly (room : ℕ) (bytes : List ℕ) (x : Phrase) (r : Reading bytes x) : Type 0 where
   pub refused-if-out : ((p : ℕ) × (outcome room bytes ≡ refused 42 p)) ↔ (¬ In-range x)
-  pub first-out : (p : ℕ) → (outcome room bytes ≡ refused 42 p) ↔ First-out (flags 0 false x) (number-places (r .found)) p
+  pub first-out : (p : ℕ)
+      → (outcome room bytes ≡ refused 42 p) ↔ First-out (flags 0 false x) (number-places (r .found)) p
 
 not-all : (bs : List Bool) (n : ℕ) → getElem? bs n ≡ some false → All bs → ⊥
 not-all [] n e h = none-is-not e
@@ -38,7 +40,8 @@ module _ (room : ℕ) (bytes : List ℕ) (short : Short bytes) (x : Phrase) (r :
       same h =
           let q = h .reading in
           let lexemes-same = same-lexemes (q .found) (r .found) (sym (q .scanned) ∙ r .scanned) in
-          subst (λ (y : Phrase). First-out (flags 0 false y) (number-places (r .found)) p) (one-reading bytes (h .of) x q r)
+          subst (λ (y : Phrase). First-out (flags 0 false y) (number-places (r .found)) p)
+          (one-reading bytes (h .of) x q r)
           (subst (λ (ls : List Lexeme). First-out (flags 0 false (h .of)) (number-places ls) p) lexemes-same (h .first))
 
   out-somewhere : ¬ In-range x → (p : ℕ) × (outcome room bytes ≡ refused 42 p)
@@ -50,6 +53,7 @@ module _ (room : ℕ) (bytes : List ℕ) (short : Short bytes) (x : Phrase) (r :
 
   pub numbers-exactly : Numbers-exactly room bytes x r
   numbers-exactly = record {
-    refused-if-out = (λ h a. let f = told (h .0) .0 (h .1) in not-all (flags 0 false x) (f .nth) (f .out) a, out-somewhere);
+    refused-if-out =
+        (λ h a. let f = told (h .0) .0 (h .1) in not-all (flags 0 false x) (f .nth) (f .out) a, out-somewhere);
     first-out = told;
   }

@@ -1,8 +1,8 @@
--- Which texts are read, and which number with which place every other text gets: `Read-exactly`, said here and proved in `Exactly` for
--- every text and every room. Each field says of one answer when it is given, and when not. There are no other answers, and a text has
--- one, so exactly one of the six occasions arises for each text. None of them speaks of the reader. In particular the reader's
--- definition says 41 at 0 for tokens that are all taken and make no script; by `no-text-at` no text gets it so.
--- Assumes nothing.
+-- Which texts are read, and which number with which place every other text gets: `Read-exactly`, said here and proved
+-- in `Exactly` for every text and every room. Each field says of one answer when it is given, and when not. There are
+-- no other answers, and a text has one, so exactly one of the six occasions arises for each text. None of them speaks
+-- of the reader. In particular the reader's definition says 41 at 0 for tokens that are all taken and make no script;
+-- by `no-text-at` no text gets it so. Assumes nothing.
 use Prim.Native.Nat.{ℕ, _≤_, _<_}
 use mathlib.Core.Path.{_≡_}
 use mathlib.Core.Logic.{_↔_}
@@ -16,7 +16,7 @@ use Rattle.grammar.specs.InRange.{flags}
 use Rattle.grammar.specs.Places.{Stuck-at}
 use Rattle.grammar.specs.Outcome.{refused, given, outcome}
 use Rattle.text_claims.specs.Reading.{Reading, Short, In-range, Fits, Read}
-use Rattle.text_claims.specs.Ranges.{number-places, First-out}
+use Rattle.text_claims.specs.FirstOut.{number-places, First-out}
 
 -- 40: "at the first byte that begins no token"
 pub record No-token-at (bytes : List ℕ) (p : ℕ) : Type 0 where

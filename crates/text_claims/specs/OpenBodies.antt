@@ -8,7 +8,7 @@ use native.Mathlib.Omega.{arith as linear}
 use lib.Dec.{leb}
 use Rattle.script.specs.Listing.{guarded}
 use Rattle.theorems.specs.Options.{none-is-not, some-inj, went-on, held}
-use Rattle.grammar.specs.Tokens.{same-sort, takes, begins, Infix, semicolon, connective, relation, operator, infix-makes, not-prefix, minus-prefix, assert-prefix, assign-prefix, Place, next-place, Token, Leaf, constant-leaf, number-leaf, variable-leaf, truth-leaf, skip-leaf, leaf-makes, opening-makes, opening-due, Due, Ending, ends, ending, same-ending, Beginning, leaf-beginning, opening-beginning, no-beginning, beginning}
+use Rattle.grammar.specs.Tokens.{Hole, same-sort, takes, begins, Infix, semicolon, connective, relation, operator, infix-makes, not-prefix, minus-prefix, assert-prefix, assign-prefix, Place, next-place, Token, Leaf, constant-leaf, number-leaf, variable-leaf, truth-leaf, skip-leaf, leaf-makes, opening-makes, opening-due, Due, Ending, ends, ending, same-ending, Beginning, leaf-beginning, opening-beginning, no-beginning, beginning}
 use Rattle.grammar.specs.Grammar.{Phrase, Chain, place, sort}
 use Rattle.grammar.specs.Automaton.{prefix, infix-after, Frame, pending, open-at, wants, holds, apply, hole, Mode, operand, after, due, State, at, Reduced, reduce, reduced, token-binds, infix-at, go-on, shift, close, advance, constant-on, leaf-on, begin, opening-frame, pushed, is-due, step-at, step}
 use Rattle.grammar.specs.Text.{is-post, post, at-post, take}
@@ -31,7 +31,8 @@ unfolding depth
 frame-one (pending f) fs = omega linear
 frame-one (open-at h c) fs = deeper-one (place c) (depth fs) .1
 
-reduce-depth : (fs : List Frame) (n : ℕ) (x : Phrase) (r : Reduced) → reduce n x fs ≡ some r → depth (r .rest) ≡ depth fs
+reduce-depth : (fs : List Frame) (n : ℕ) (x : Phrase) (r : Reduced) → reduce n x fs ≡ some r
+    → depth (r .rest) ≡ depth fs
 unfolding reduce depth
 reduce-depth [] n x r e = ap (λ (q : Reduced). depth (q .rest)) (sym (some-inj e))
 reduce-depth (open-at h c ∷ fs) n x r e = ap (λ (q : Reduced). depth (q .rest)) (sym (some-inj e))
@@ -70,17 +71,24 @@ pushed-depth (some d) f fs = omega linear
 
 begin-depth : (b : Beginning) (fs : List Frame) (r : State) → begin b fs ≡ some r → open-bodies r ≤ suc (depth fs)
 begin-depth no-beginning fs r e = none-is-not e
-begin-depth (leaf-beginning l) fs r e = of-found (leaf-depth l fs) (held (begins (hole fs) (leaf-makes l)) (some (leaf-on l fs)) e .1)
+begin-depth (leaf-beginning l) fs r e =
+    of-found (leaf-depth l fs) (held (begins (hole fs) (leaf-makes l)) (some (leaf-on l fs)) e .1)
 begin-depth (opening-beginning o) fs r e =
     let s = pushed (opening-due o) (opening-frame (hole fs) o) fs in
-    of-found (pushed-depth (opening-due o) (opening-frame (hole fs) o) fs) (held (begins (hole fs) (opening-makes o)) (some s) e .1)
+    let less = pushed-depth (opening-due o) (opening-frame (hole fs) o) fs in
+    of-found less (held (begins (hole fs) (opening-makes o)) (some s) e .1)
 
-advance-depth : (o : Option Place) (h : _) (c : Chain) (x : Phrase) (fs : List Frame) → open-bodies (advance o c x fs) ≤ suc (depth (open-at h c ∷ fs))
+advance-depth : (o : Option Place) (h : Hole) (c : Chain) (x : Phrase) (fs : List Frame)
+    → open-bodies (advance o c x fs) ≤ suc (depth (open-at h c ∷ fs))
 unfolding depth
 advance-depth none h c x fs = let k = deeper-one (place c) (depth fs) in omega linear
-advance-depth (some q) h c x fs = let k = deeper-one (place c) (depth fs) in let j = deeper-one q (depth fs) in omega linear
+advance-depth (some q) h c x fs =
+    let k = deeper-one (place c) (depth fs) in
+    let j = deeper-one q (depth fs) in
+    omega linear
 
-close-depth : (e : Ending) (x : Phrase) (fs : List Frame) (r : State) → close e x fs ≡ some r → open-bodies r ≤ suc (depth fs)
+close-depth : (e : Ending) (x : Phrase) (fs : List Frame) (r : State) → close e x fs ≡ some r
+    → open-bodies r ≤ suc (depth fs)
 close-depth e x [] r q = none-is-not q
 close-depth e x (pending f ∷ fs) r q = none-is-not q
 close-depth e x (open-at h c ∷ fs) r q =
@@ -88,13 +96,16 @@ close-depth e x (open-at h c ∷ fs) r q =
     let fit = held (takes h (sort x)) (guarded (same-ending e (ending (place c))) o) q in
     of-found (advance-depth (next-place (place c)) h c x fs) (held (same-ending e (ending (place c))) o (fit .1) .1)
 
-shift-depth : (t : Token) (o : Option Infix) (x : Phrase) (fs : List Frame) (r : State) → shift t o x fs ≡ some r → open-bodies r ≤ suc (depth fs)
+shift-depth : (t : Token) (o : Option Infix) (x : Phrase) (fs : List Frame) (r : State) → shift t o x fs ≡ some r
+    → open-bodies r ≤ suc (depth fs)
 unfolding depth
 shift-depth t none x fs r e = let k = went-on (ends t) (λ d. close d x fs) e in close-depth (k .0) x fs r (k .2)
 shift-depth t (some o) x fs r e =
-    of-found {s = at operand (pending (infix-after o x) ∷ fs)} (omega linear) (held (begins (hole fs) (infix-makes o)) (some _) e .1)
+    let s = at operand (pending (infix-after o x) ∷ fs) in
+    of-found {s = s} (omega linear) (held (begins (hole fs) (infix-makes o)) (some s) e .1)
 
-step-depth : (m : Mode) (fs : List Frame) (t : Token) (r : State) → step-at m fs t ≡ some r → open-bodies r ≤ suc (depth fs)
+step-depth : (m : Mode) (fs : List Frame) (t : Token) (r : State) → step-at m fs t ≡ some r
+    → open-bodies r ≤ suc (depth fs)
 step-depth operand fs t r e = begin-depth (beginning t (hole fs)) fs r e
 step-depth (after x) fs t r e =
     let k = went-on (reduce (token-binds t) x fs) (go-on t) e in
@@ -118,6 +129,7 @@ at-post-depth (due d f) fs r e = none-is-not e
 pub opens-one : (s : State) (t : Token) (r : State) → take s t ≡ some r → open-bodies r ≤ suc (open-bodies s)
 opens-one s t r e = at-test (is-post t) e
   where
-    at-test : (k : Bool) → cond k (at-post (s .mode) (s .stack)) (step s t) ≡ some r → open-bodies r ≤ suc (open-bodies s)
+    at-test : (k : Bool) → cond k (at-post (s .mode) (s .stack)) (step s t) ≡ some r
+        → open-bodies r ≤ suc (open-bodies s)
     at-test true q = at-post-depth (s .mode) (s .stack) r q
     at-test false q = step-depth (s .mode) (s .stack) t r q

@@ -1,6 +1,7 @@
--- What the theorems of this crate speak of: a derivation of a text (`Reading`), that its numbers are in range (`In-range`), that its
--- rows have room (`Fits`), and a text that is read into a table (`Read`). A text has one derivation at most (`one-reading`), so
--- what is said of any derivation of a text is said of its script, `text-tree`. Assumes nothing.
+-- What the theorems of this crate speak of: a derivation of a text (`Reading`), that its numbers are in range
+-- (`In-range`), that its rows have room (`Fits`), and a text that is read into a table (`Read`). A text has one
+-- derivation at most (`one-reading`), so what is said of any derivation of a text is said of its script, `text-tree`.
+-- Assumes nothing.
 use Prim.Native.Nat.{ℕ, _*_, _≤_}
 use mathlib.Core.Path.{_≡_, sym, ap, _∙_, subst}
 use mathlib.Core.List.{List, []}
@@ -55,4 +56,5 @@ same-lexemes ls ms e = ap found-in e
 pub one-reading : (bytes : List ℕ) (x y : Phrase) → Reading bytes x → Reading bytes y → x ≡ y
 one-reading bytes x y r q =
     let same = same-lexemes (r .found) (q .found) (sym (r .scanned) ∙ q .scanned) in
-    text-unique x y (tokens-of (q .found)) (subst (λ (ls : List Lexeme). Spells x (tokens-of ls)) same (r .spells)) (q .spells)
+    let there = subst (λ (ls : List Lexeme). Spells x (tokens-of ls)) same (r .spells) in
+    text-unique x y (tokens-of (q .found)) there (q .spells)

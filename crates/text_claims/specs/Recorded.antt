@@ -1,5 +1,6 @@
--- Texts with the answers of an independent reading of 02, P4: spread over blanks of each sort, with groups that change nothing, and with
--- one thing wrong. A statement that the prover settles by computing the definitions. Assumes nothing.
+-- Texts with the answers of an independent reading of 02, P4: spread over blanks of each sort, with groups that
+-- change nothing, and with one thing wrong. A statement that the prover settles by computing the definitions. Assumes
+-- nothing.
 use mathlib.Core.Path.{_≡_, refl}
 use mathlib.Core.List.{List, [], _∷_, map}
 use lib.IntN.{pos, negsuc}

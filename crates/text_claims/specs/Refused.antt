@@ -1,5 +1,5 @@
--- Figures of 02, P4: texts that are not read, each refusal at its place, and the limits of room and length from both sides,
--- as statements that the prover settles by computing the definitions. Assumes nothing.
+-- Figures of 02, P4: texts that are not read, each refusal at its place, and the limits of room and length from both
+-- sides, as statements that the prover settles by computing the definitions. Assumes nothing.
 use Prim.Native.Nat.{ℕ, zero, suc}
 use Prim.Native.String.{String}
 use mathlib.Core.Path.{_≡_, refl}

@@ -1,9 +1,10 @@
--- From a text to the runs of its script. If the text is read, the generator plans its table in some room and scratch, and every
--- condition of the list left is true in all states, then every run of the text's script, begun where its precondition holds, fails
--- no assertion, ends, meets the postcondition, and begins loops' bodies no more often than their variants say (`text-runs`).
--- The same if no condition's script has a model (`solved-text-runs`), and from the texts that the writer of scripts left
--- (`refuted-text-runs`). The script is `text-tree x`, x any derivation of the text; there is one (`has-reading`).
--- The table that the text is read into has that tree (`same-script`). Assumes nothing.
+-- From a text to the runs of its script. If the text is read, the generator plans its table in some room and scratch,
+-- and every condition of the list left is true in all states, then every run of the text's script, begun where its
+-- precondition holds, fails no assertion, ends, meets the postcondition, and begins loops' bodies no more often than
+-- their variants say (`text-runs`). The same if no condition's script has a model (`solved-text-runs`), and from the
+-- texts that the writer of scripts left (`refuted-text-runs`). The script is `text-tree x`, x any derivation of the
+-- text; there is one (`has-reading`). The table that the text is read into has that tree (`same-script`). Assumes
+-- nothing.
 use Prim.Native.Nat.{ℕ, _≤_, _<_}
 use mathlib.Core.Path.{_≡_, refl, ap, _∙_, subst}
 use mathlib.Core.Logic.{_≢_}
@@ -85,8 +86,8 @@ module _ (table : List ℤ) (list scratch : ℕ) where
       let cs = conditions (tree table) in
       (h, rw take-append-seam (read-written (list-words cs) cs (well-formed table list h fits)))
 
-  table-keeps : (𝔸 : Arithmetic) → Planned (generated table list scratch) → List-valid 𝔸 (list-left (generated table list scratch))
-      → Keeps-promise 𝔸 (tree table)
+  table-keeps : (𝔸 : Arithmetic) → Planned (generated table list scratch)
+      → List-valid 𝔸 (list-left (generated table list scratch)) → Keeps-promise 𝔸 (tree table)
   table-keeps 𝔸 planned valid =
       let l = outcome-cases Listed table list scratch refused-listed plan-listed planned in
       sound 𝔸 (tree table) (scoped table (l .0)) (valid (conditions (tree table)) (l .1))
@@ -105,11 +106,13 @@ module _ (room : ℕ) (bytes : List ℕ) (table : List ℤ) (read : outcome room
       → (x : Phrase) → Reading bytes x → Keeps-promise whole (text-tree x)
   unfolding Solved
   solved-text-runs unsatisfiable x r =
-      subst (Keeps-promise whole) (same-script room bytes table read x r) (unsatisfiable-correct table list scratch planned unsatisfiable)
+      subst (Keeps-promise whole) (same-script room bytes table read x r)
+      (unsatisfiable-correct table list scratch planned unsatisfiable)
 
   -- for each index below the count a text was written, and its script has no model
-  pub refuted-text-runs
-      : ((i : ℕ) → i < generated table list scratch .answer .conditions → Refuted (list-left (generated table list scratch)) i)
+  pub refuted-text-runs : ((i : ℕ) → i < generated table list scratch .answer .conditions
+      → Refuted (list-left (generated table list scratch)) i)
       → (x : Phrase) → Reading bytes x → Keeps-promise whole (text-tree x)
   refuted-text-runs refuted x r =
-      subst (Keeps-promise whole) (same-script room bytes table read x r) (verdicts-to-runs table list scratch planned refuted)
+      subst (Keeps-promise whole) (same-script room bytes table read x r)
+      (verdicts-to-runs table list scratch planned refuted)

@@ -1,5 +1,6 @@
--- Number 41 without the reader, both ways: the reader is stuck at p exactly where the tokens before p begin some text and with the
--- token at p they begin none (`stuck-iff`); where a text has a derivation it is stuck nowhere (`derived-not-stuck`). Assumes nothing.
+-- Number 41 without the reader, both ways: the reader is stuck at p exactly where the tokens before p begin some text
+-- and with the token at p they begin none (`stuck-iff`); where a text has a derivation it is stuck nowhere
+-- (`derived-not-stuck`). Assumes nothing.
 use Prim.Native.Nat.{ℕ}
 use mathlib.Core.Path.{_≡_, refl, sym, ap, _∙_}
 use mathlib.Core.Logic.{_↔_}
@@ -31,14 +32,16 @@ stuck-past (u ∷ us) ls s r e =
     rw (k .1) (stuck-past us ls (k .0) r (k .2))
 
 -- with a token that no text has there it is refused
-refused-there : (us : List Token) (t : Token) (s : State) → read start us ≡ some s → (Begins (us ++ (t ∷ [])) → ⊥) → take s t ≡ none
+refused-there : (us : List Token) (t : Token) (s : State) → read start us ≡ some s → (Begins (us ++ (t ∷ [])) → ⊥)
+    → take s t ≡ none
 unfolding read
 refused-there us t s e none-begins = at-test (take s t) refl
   where
     at-test : (o : Option State) → take s t ≡ o → o ≡ none
     at-test none k = refl
     at-test (some r) k =
-        absurd (none-begins (text-viable (us ++ (t ∷ [])) r (read-append us (t ∷ []) start ∙ ap (λ (o : Option State). o >>= λ q. read q (t ∷ [])) e ∙ rw k)))
+        let past = ap (λ (o : Option State). o >>= λ q. read q (t ∷ [])) e in
+        absurd (none-begins (text-viable (us ++ (t ∷ [])) r (read-append us (t ∷ []) start ∙ past ∙ rw k)))
 
 pub stuck-iff : (ls : List Lexeme) (p : ℕ) → (stuck start ls ≡ some p) ↔ Stuck-at ls p
 unfolding stuck
@@ -48,7 +51,8 @@ stuck-iff ls p = (stuck-exactly ls p, found)
     found h =
         let s = taken-state (tokens-of (h .taken)) (h .before) in
         let stop = refused-there (tokens-of (h .taken)) (h .lexeme .token) (s .0) (s .1) (h .after-it) in
-        ap (λ (ms : List Lexeme). stuck start ms) (sym (h .parted)) ∙ stuck-past (h .taken) (h .lexeme ∷ h .rest) start (s .0) (s .1)
+        ap (λ (ms : List Lexeme). stuck start ms) (sym (h .parted))
+        ∙ stuck-past (h .taken) (h .lexeme ∷ h .rest) start (s .0) (s .1)
         ∙ ap (λ (o : Option State). or-at o (h .lexeme .place) (λ q. stuck q (h .rest))) stop ∙ ap some (h .placed)
 
 read-not-stuck : (ls : List Lexeme) (s r : State) → read s (tokens-of ls) ≡ some r → stuck s ls ≡ none

@@ -1,6 +1,6 @@
--- The hypotheses of `text-runs` can hold, with a loop: 01's example A as a text is read into 01's rows, planned in 94 words, and its four
--- conditions are true in all states; so every run of its script from a start with 0 <= v0 keeps the promise (`promised`), and there
--- is a start (`run`). Assumes nothing.
+-- The hypotheses of `text-runs` can hold, with a loop: 01's example A as a text is read into 01's rows, planned in 94
+-- words, and its four conditions are true in all states; so every run of its script from a start with 0 <= v0 keeps
+-- the promise (`promised`), and there is a start (`run`). Assumes nothing.
 use Prim.Native.Nat.{ℕ, zero, suc, _-_}
 use mathlib.Core.Path.{_≡_, refl, sym, _∙_, subst}
 use mathlib.Core.Bool.{Bool, true, false, _&&_, _||_}
@@ -59,8 +59,10 @@ body = assign 0 (arith Minus (var 0) (const (pos 1)))
 
 abbrev claims : List Condition
 claims =
-    condition Exit 15 (exit guard invariant (cmp Equal (var 0) (const (pos 0)))) ∷ condition Floor 15 (floor guard invariant (var 0))
-    ∷ condition Step 15 (step 15 guard invariant (var 0) body) ∷ condition Main 19 (join Implies invariant invariant) ∷ []
+    condition Exit 15 (exit guard invariant (cmp Equal (var 0) (const (pos 0))))
+    ∷ condition Floor 15 (floor guard invariant (var 0))
+    ∷ condition Step 15 (step 15 guard invariant (var 0) body)
+    ∷ condition Main 19 (join Implies invariant invariant) ∷ []
 
 is-planned : Planned (generated example-a 94 282) × (read-list (list-left (generated example-a 94 282)) ≡ some claims)
 unfolding example-a example _⨾_ outcome-within outcome-for verdict-within length-test row-test-within script-test unlinked-test target-test reading-test nesting-test lowest row-fault-within linked misread misreads nesting row row-of expr formula stmt expr-at formula-at stmt-at tree conditions walk wp subst-expr subst-formula list-words all-lines line-words expr-words formula-words read-expr-within read-formula-within spelled-within found-within line-before-within lines-before-within lines-within read-list
@@ -81,12 +83,14 @@ floor-true (pos n) = rw (le-leb 0 n (omega linear)) (whatever (ltb 0 n))
     whatever false = tt
 floor-true (negsuc n) = tt
 
-step-true : (v m : ℤ) → T (Bool.not ((leZ (pos 0) v && ltZ (pos 0) v) && eqZ v m) || (leZ (pos 0) (v -ℤ pos 1) && ltZ (v -ℤ pos 1) m))
+step-true : (v m : ℤ)
+    → T (Bool.not ((leZ (pos 0) v && ltZ (pos 0) v) && eqZ v m) || (leZ (pos 0) (v -ℤ pos 1) && ltZ (v -ℤ pos 1) m))
 step-true (pos zero) m = tt
 step-true (negsuc n) m = tt
 step-true (pos (suc n)) (negsuc k) = rw (le-leb 0 (suc n) (omega linear), lt-ltb 0 (suc n) (omega linear)) tt
 step-true (pos (suc n)) (pos k) =
-    rw (le-leb 0 (suc n) (omega linear), lt-ltb 0 (suc n) (omega linear), le-ltb (suc n) 1 (omega linear), le-leb 0 (suc n - 1) (omega linear))
+    let less = le-ltb (suc n) 1 (omega linear) in
+    rw (le-leb 0 (suc n) (omega linear), lt-ltb 0 (suc n) (omega linear), less, le-leb 0 (suc n - 1) (omega linear))
     (at-test (eqb (suc n) k) refl)
   where
     at-test : (b : Bool) → eqb (suc n) k ≡ b → T (Bool.not b || ltb (suc n - 1) k)
@@ -99,7 +103,10 @@ itself false = tt
 
 valid : All-valid whole claims
 unfolding holds value wp subst-expr subst-formula
-valid = (λ s. exit-true (s .var 0), (λ s. floor-true (s .var 0), (λ s. step-true (s .var 0) (s .mark 15), (λ s. itself (leZ (pos 0) (s .var 0)), tt))))
+valid = (
+  λ s. exit-true (s .var 0),
+  (λ s. floor-true (s .var 0), (λ s. step-true (s .var 0) (s .mark 15), (λ s. itself (leZ (pos 0) (s .var 0)), tt))),
+)
 
 list-valid : List-valid whole (list-left (generated example-a 94 282))
 list-valid cs r = subst (All-valid whole) (some-inj (sym (is-planned .1) ∙ r)) valid
@@ -118,4 +125,5 @@ pub run : (x : Phrase) × Reading text x × Total-correctness whole (text-tree x
 run =
     let h = has-reading 80 text example-a is-read in
     let same = same-script 80 text example-a is-read (h .0) (h .1) in
-    (h .0, h .1, promised (h .0) (h .1) zero-state (subst (λ (t : Tree). T (holds whole zero-state (t .pre))) same begins))
+    let meets = subst (λ (t : Tree). T (holds whole zero-state (t .pre))) same begins in
+    (h .0, h .1, promised (h .0) (h .1) zero-state meets)
