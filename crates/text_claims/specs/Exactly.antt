@@ -3,7 +3,6 @@
 -- an occasion settles the tests in turn (`long-told` to `full-told`). Assumes nothing.
 use Prim.Native.Nat.{ℕ, _*_, _≤_, _<_}
 use mathlib.Core.Path.{_≡_, refl, sym, ap, _∙_, subst}
-use mathlib.Core.Logic.{_↔_}
 use mathlib.Core.Option.{Option, none, some}
 use mathlib.Core.List.{List, []}
 use mathlib.Core.Bool.{Bool, true, false, cond, _&&_}
@@ -12,14 +11,14 @@ use borrow.Author.Tests.{leb-true, leb-false, le-leb, lt-leb}
 use lib.IntN.{ℤ}
 use lib.ListN.{length}
 use Rattle.grammar.specs.Grammar.{Phrase}
-use Rattle.grammar.specs.Automaton.{after, State, at, start}
+use Rattle.grammar.specs.Automaton.{after, at, start}
 use Rattle.grammar.specs.Meaning.{size, text-table}
 use Rattle.grammar.specs.Tables.{false-is-not}
 use Rattle.grammar.specs.Text.{read}
 use Rattle.grammar.specs.TextRead.{text-read, read-text}
 use Rattle.grammar.specs.Scanning.{Lexeme, tokens-of, Scanned, no-token, lexemes, scan, stuck}
-use Rattle.grammar.specs.InRange.{flags, All, text-flags}
-use Rattle.grammar.specs.Outcome.{Outcome, refused, given, out-of-range, has-room, table-out, read-out, range-out, stuck-out, scanned-out, outcome, gives-table, read-to-end}
+use Rattle.grammar.specs.InRange.{All, text-flags}
+use Rattle.grammar.specs.Outcome.{Outcome, refused, given, out-of-range, has-room, range-out, stuck-out, scanned-out, outcome, gives-table, read-to-end}
 use Rattle.text_claims.specs.Reading.{Reading, In-range, Fits, Read}
 use Rattle.text_claims.specs.Ranges.{out-exactly, none-out}
 use Rattle.text_claims.specs.Stuck.{stuck-iff, derived-not-stuck}

@@ -1,7 +1,7 @@
 -- Figures of 02, P4: texts that are read, with their rows, each sentence once at least, as statements that the prover
 -- settles by computing the definitions. First formulas, after `pre true; skip; post`; then statements, between `pre
 -- true;` and `post true`; then whole texts. `Refused` has the texts that are not read. Assumes nothing.
-use Prim.Native.Nat.{ℕ, suc, _+_, _-_, _/_}
+use Prim.Native.Nat.{ℕ, _+_, _-_, _/_}
 use Prim.Native.String.{String}
 use mathlib.Core.Path.{_≡_, refl}
 use mathlib.Core.List.{List, [], _∷_, _++_, map}

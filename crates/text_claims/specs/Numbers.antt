@@ -1,7 +1,7 @@
 -- The numbers of a text that has a derivation (`numbers-exactly`): it gets 42 exactly where one of them is out of
 -- range, with the place of the first such numeral or variable. Assumes nothing.
 use Prim.Native.Nat.{ℕ, zero, suc}
-use mathlib.Core.Path.{_≡_, refl, sym, ap, _∙_, subst}
+use mathlib.Core.Path.{_≡_, refl, sym, _∙_, subst}
 use mathlib.Core.Logic.{_↔_}
 use mathlib.Core.Option.{Option, none, some}
 use mathlib.Core.List.{List, [], _∷_}

@@ -13,7 +13,6 @@ use Rattle.grammar.specs.Grammar.{Phrase, Chain, place, sort}
 use Rattle.grammar.specs.Automaton.{prefix, infix-after, Frame, pending, open-at, wants, holds, apply, hole, Mode, operand, after, due, State, at, Reduced, reduce, reduced, token-binds, infix-at, go-on, shift, close, advance, constant-on, leaf-on, begin, opening-frame, pushed, is-due, step-at, step}
 use Rattle.grammar.specs.Text.{is-post, post, at-post, take}
 use Rattle.grammar.specs.Meaning.{begins-body}
-use Rattle.grammar.specs.Scanning as Scanning
 use Rattle.grammar.specs.InRange.{deeper, depth}
 
 abbrev pub open-bodies : State → ℕ

@@ -8,7 +8,6 @@ use mathlib.Core.List.{List, []}
 use mathlib.Core.Bool.{false}
 use lib.IntN.{ℤ}
 use lib.ListN.{length}
-use Rattle.grammar.specs.Tokens.{Token}
 use Rattle.grammar.specs.Grammar.{Phrase}
 use Rattle.grammar.specs.Text.{Spells}
 use Rattle.grammar.specs.TextRead.{text-unique}

@@ -1,9 +1,8 @@
 -- Texts with the answers of an independent reading of 02, P4: spread over blanks of each sort, with groups that
 -- change nothing, and with one thing wrong. A statement that the prover settles by computing the definitions. Assumes
 -- nothing.
-use mathlib.Core.Path.{_≡_, refl}
-use mathlib.Core.List.{List, [], _∷_, map}
-use lib.IntN.{pos, negsuc}
+use mathlib.Core.Path.{refl}
+use mathlib.Core.List.{List, [], _∷_}
 use Rattle.script.specs.Computed.{_⨾_}
 use Rattle.grammar.specs.Automaton.{reduce}
 use Rattle.grammar.specs.Text.{read}

@@ -7,7 +7,7 @@ use mathlib.Core.Logic.{_↔_}
 use mathlib.Core.Option.{Option, none, some}
 use mathlib.Core.List.{List, [], _∷_, _++_}
 use Rattle.script.specs.Listing.{_>>=_}
-use Rattle.theorems.specs.Options.{none-is-not, went-on}
+use Rattle.theorems.specs.Options.{went-on}
 use Rattle.grammar.specs.Tokens.{Token}
 use Rattle.grammar.specs.Grammar.{Phrase}
 use Rattle.grammar.specs.Automaton.{after, State, at, start}

@@ -18,7 +18,7 @@ use Rattle.script.specs.declared.Connective.the-variants.{Implies}
 use Rattle.script.specs.declared.Rule.the-variants.{Exit, Floor, Step, Main}
 use Rattle.script.specs.Computed.{_⨾_, example, example-a, zero-state}
 use Rattle.script.specs.Syntax.{const, var, arith, Formula, cmp, join, Stmt, assign, Tree}
-use Rattle.script.specs.Meaning.{State, whole, eqZ, value, holds}
+use Rattle.script.specs.Meaning.{whole, eqZ, value, holds}
 use Rattle.script.specs.Run.{Total-correctness}
 use Rattle.script.specs.Rows.{row, row-of}
 use Rattle.script.specs.Trees.{expr, formula, stmt, expr-at, formula-at, stmt-at, tree, nesting}
