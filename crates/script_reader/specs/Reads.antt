@@ -20,8 +20,8 @@ use Rattle.grammar.specs.Outcome.{Outcome, refused, given, scanned-out, outcome
 use Rattle.grammar.specs.Answer.{Answer, told, answer}
 use Rattle.parser.specs.declared.State.{State}
 use Rattle.parser.specs.Machine.{Config, start, run}
-use Rattle.parser.specs.DataRows.{room-is}
-use Rattle.parser.specs.Answers.{Table, Answers, text-answers}
+use Rattle.parsing.specs.DataRows.{room-is}
+use Rattle.parsing.specs.Answers.{Table, Answers, text-answers}
 use Rattle.marks.specs.Quads.{marks-named}
 use Rattle.marks.specs.Texts.{text-named}
 use Rattle.script_reader.specs.declared.TextAnswer.{TextAnswer}
