@@ -67,6 +67,15 @@ mod exported {
             number: *mut usize,
             used: *mut usize,
         );
+        pub fn leqwarti_read(
+            text: *const u8,
+            text_length: usize,
+            words: *mut i32,
+            words_length: usize,
+            number: *mut usize,
+            place: *mut usize,
+            used: *mut usize,
+        );
     }
 }
 
@@ -111,6 +120,15 @@ pub struct Line {
 #[derive(Clone, Copy, Debug, Default, PartialEq, Eq)]
 pub struct Written {
     pub number: usize,
+    pub used: usize,
+}
+
+/// What the reader of script text answers: the table stands in the first `used`
+/// words. The place is a byte of the text, and 0 where nothing is refused.
+#[derive(Clone, Copy, Debug, Default, PartialEq, Eq)]
+pub struct ReadAnswer {
+    pub number: usize,
+    pub place: usize,
     pub used: usize,
 }
 
@@ -264,4 +282,23 @@ pub fn smt(words: &[i32], index: i32, text: &mut [u8]) -> Written {
         );
     }
     written
+}
+
+/// The table of a script's text. Whatever the buffer held before the call, after
+/// it the table is followed by zeros; refused, the buffer is all zeros.
+pub fn read_text(text: &[u8], words: &mut [i32]) -> ReadAnswer {
+    let mut answer = ReadAnswer::default();
+    // SAFETY: as in `check`, for all bytes and every length of the buffer.
+    unsafe {
+        exported::leqwarti_read(
+            text.as_ptr(),
+            text.len(),
+            words.as_mut_ptr(),
+            words.len(),
+            from_mut(&mut answer.number),
+            from_mut(&mut answer.place),
+            from_mut(&mut answer.used),
+        );
+    }
+    answer
 }

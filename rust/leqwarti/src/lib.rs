@@ -41,19 +41,22 @@
 //! assert_eq!((refusal.reason, refusal.row), (Reason::UnknownKind, 1));
 //! ```
 //!
-//! A condition is also written as a script for solvers, with [`Plan::smt`].
+//! A condition is also written as a script for solvers, with [`Plan::smt`], and
+//! [`read_text`] makes a table of a script that comes as text.
 //!
-//! The check, the generator, the list reader and the writer of solvers' scripts
-//! are functions of a static library whose contracts are proved; this crate
-//! adds types, and the text of formulas and refusals, which are not. A stack of
-//! 512 KiB is enough for the deepest scripts and lists (a thread of Rust's has
-//! 2 MiB by default); [`smt`] takes a stack of its own where it needs more.
+//! The check, the generator, the list reader, the writer of solvers' scripts and
+//! the reader of text are functions of a static library whose contracts are
+//! proved; this crate adds types, and the text of formulas and refusals, which
+//! are not. A stack of 512 KiB is enough for the deepest scripts and lists (a
+//! thread of Rust's has 2 MiB by default); [`smt`] takes a stack of its own where
+//! it needs more.
 
 mod condition;
 pub mod entries;
 mod formula;
 mod refusal;
 mod smt;
+mod text;
 
 use entries::Answer;
 
@@ -62,9 +65,13 @@ pub use entries::Record;
 pub use formula::Formula;
 pub use refusal::{Reason, Refusal};
 pub use smt::{smt, LONGEST_TEXT};
+pub use text::{read_text, TextRefusal, LONGEST_SCRIPT};
 
 /// How many variables there are; 128 to 255 of them are frozen.
 pub const VARIABLES: usize = 1_024;
+
+/// The most words that a table has: 2,048 rows.
+pub const LARGEST_TABLE: usize = 4 * 2_048;
 
 /// The most words that a list has.
 pub const LONGEST_LIST: usize = 16_384;

@@ -1,4 +1,4 @@
-//! Why there is no plan, no condition, or no text.
+//! Why there is no plan, no condition, no text, or no table.
 
 use std::error::Error;
 use std::fmt;
@@ -44,11 +44,22 @@ pub enum Reason {
     /// The condition's text is longer than its buffer. (Document 02 gives this
     /// number no word.)
     TextTooLong = 30,
+    /// A byte of the script's text begins no token. (Document 02 gives 40 to 44
+    /// no words either.)
+    NoToken = 40,
+    /// No script's text could have the token there, or end there.
+    WrongToken = 41,
+    /// A numeral or a variable is out of range, or has a leading zero.
+    NumberOutOfRange = 42,
+    /// The script's rows are more than the buffer holds, or than 2,048.
+    TooManyRows = 43,
+    /// The script's text is longer than 32,768 bytes.
+    ScriptTooLong = 44,
 }
 
 impl Reason {
     /// All reasons, by number.
-    pub const ALL: [Reason; 15] = [
+    pub const ALL: [Reason; 20] = [
         Reason::TableLength,
         Reason::UnknownKind,
         Reason::FieldOutOfRange,
@@ -64,7 +75,21 @@ impl Reason {
         Reason::TornList,
         Reason::NoSuchLine,
         Reason::TextTooLong,
+        Reason::NoToken,
+        Reason::WrongToken,
+        Reason::NumberOutOfRange,
+        Reason::TooManyRows,
+        Reason::ScriptTooLong,
     ];
+
+    /// The reason of an answer's number: none for 0.
+    pub(crate) fn of(number: usize) -> Option<Reason> {
+        let is_it = |reason: &Reason| usize::from(reason.number()) == number;
+        let reason = Reason::ALL.into_iter().find(is_it);
+        let is_answered = number == 0 || reason.is_some();
+        assert!(is_answered, "no entry answers {number}");
+        reason
+    }
 
     /// The number in documents 01 and 02.
     pub fn number(self) -> u8 {
@@ -74,6 +99,11 @@ impl Reason {
     /// Whether a refusal for this reason points at a row of the table.
     pub fn has_row(self) -> bool {
         (2..=9).contains(&self.number())
+    }
+
+    /// Whether a refusal for this reason points at a byte of a script's text.
+    pub fn has_place(self) -> bool {
+        (40..=42).contains(&self.number())
     }
 
     /// What is wrong, in plain words.
@@ -102,6 +132,15 @@ impl Reason {
             Reason::TornList => "the words are no well-formed list",
             Reason::NoSuchLine => "the list has no condition at that index",
             Reason::TextTooLong => "the condition's text is longer than its buffer",
+            Reason::NoToken => "no word, number or sign of scripts begins here",
+            Reason::WrongToken => "no script can go on like this here",
+            Reason::NumberOutOfRange => {
+                "a constant goes up to 2147483647, or 2147483648 right after a unary minus, \
+                 a variable from v0 to v1023, a mark from 1 to the number of loops whose body \
+                 it stands in; and none of them has a leading zero"
+            }
+            Reason::TooManyRows => "the script has more rows than its buffer holds, or than 2,048",
+            Reason::ScriptTooLong => "a script's text has 32,768 bytes at most",
         }
     }
 }
@@ -117,13 +156,9 @@ pub struct Refusal {
 impl Refusal {
     /// An answer's number as a result: 0 is no refusal.
     pub(crate) fn unless_zero(number: usize, row: usize) -> Result<(), Refusal> {
-        let is_it = |reason: &Reason| usize::from(reason.number()) == number;
-        match Reason::ALL.into_iter().find(is_it) {
+        match Reason::of(number) {
             Some(reason) => Err(Refusal { reason, row }),
-            None => {
-                assert_eq!(number, 0, "a number that no entry answers");
-                Ok(())
-            }
+            None => Ok(()),
         }
     }
 }
