@@ -4,6 +4,7 @@
 use fuzz::scripts::formula_words;
 use fuzz::{seed_from_environment, Prng};
 use leqwarti::Formula;
+use reference::{formula_from_words, read_text, script_of};
 
 /// Reads the text of formulas, by its brackets.
 struct Reading<'a> {
@@ -110,4 +111,31 @@ fn every_formula_is_read_back_from_its_text() {
         let words = formula_words(&mut random, size, 0);
         assert_eq!(words_of(&Formula::new(&words).to_string()), words);
     }
+}
+
+/// The alternate form is that of a script's text, but for marks, which a text
+/// can only name from within a loop.
+#[test]
+fn a_formula_as_text_is_read_as_a_part_of_a_script() {
+    let mut random = Prng::new(seed_from_environment());
+    let mut read = 0;
+    while read < 2_000 {
+        let size = 1 + random.below(20);
+        let words = formula_words(&mut random, size, 0);
+        let formula = Formula::new(&words);
+        if reads_mark(&formula.to_string()) {
+            continue;
+        }
+        let text = format!("pre {formula:#}; skip; post true");
+        let answer = read_text(text.as_bytes(), 8_192);
+        assert_eq!(answer.number, 0, "{text}");
+        let precondition = script_of(&answer.words).precondition;
+        assert_eq!(Some(precondition), formula_from_words(&words), "{text}");
+        read += 1;
+    }
+}
+
+fn reads_mark(formula: &str) -> bool {
+    let mut pieces = formula.split(|letter: char| !letter.is_alphanumeric());
+    pieces.any(|piece| piece.starts_with('m') && piece != "mod")
 }

@@ -14,7 +14,16 @@ use std::fmt::{self, Write};
 /// ```
 ///
 /// A variable is `v` and its number, a frozen one too; the mark of a loop is `m`
-/// and the loop's row.
+/// and the loop's row. The alternate form, `{:#}`, is that of a script's text,
+/// marks apart: unequal is `<>`, and choose is `when`.
+///
+/// ```
+/// use leqwarti::Formula;
+///
+/// let formula = Formula::new(&[21, 10, 16, 2, 0, 1, 5, 2, 1]);
+/// assert_eq!(formula.to_string(), "(if true then v0 else 5) != v1");
+/// assert_eq!(format!("{formula:#}"), "(when(true, v0, 5)) <> v1");
+/// ```
 #[derive(Clone, Copy, Debug, PartialEq, Eq)]
 pub struct Formula<'a> {
     words: &'a [i32],
@@ -106,8 +115,27 @@ fn layout(kind: i32) -> Option<&'static [Next]> {
     })
 }
 
+/// The same in a script's text.
+fn text_layout(kind: i32) -> Option<&'static [Next]> {
+    use Next::{Part, Text, Whole};
+    Some(match kind {
+        10 => &[
+            Text("when("),
+            Whole,
+            Text(", "),
+            Whole,
+            Text(", "),
+            Whole,
+            Text(")"),
+        ],
+        21 => &[Part, Text(" <> "), Part],
+        _ => return layout(kind),
+    })
+}
+
 impl fmt::Display for Formula<'_> {
     fn fmt(&self, f: &mut fmt::Formatter) -> fmt::Result {
+        let layout_of = if f.alternate() { text_layout } else { layout };
         let mut words = self.words.iter();
         let mut awaited = vec![&Next::Whole];
         while let Some(next) = awaited.pop() {
@@ -118,7 +146,7 @@ impl fmt::Display for Formula<'_> {
             let Some(&kind) = words.next() else {
                 return Ok(());
             };
-            let Some(layout) = layout(kind) else {
+            let Some(layout) = layout_of(kind) else {
                 write_leaf(f, kind, &mut words)?;
                 continue;
             };
