@@ -1,58 +1,88 @@
-//! The generator's answer as text.
+//! The answer to a file, as text.
 
 use leqwarti::{Condition, ConditionKind, Formula, Plan, Refusal};
 
-use crate::Source;
+use crate::rows::RowLine;
+use crate::{Fault, RefusedText, Source, Unread};
 
-/// The answer as the proved program writes it.
-pub fn program_text(answer: &Result<Plan, Refusal>) -> String {
-    let mut text = first_line(answer);
-    for condition in answer.iter().flatten() {
-        text += &format!("{} {}", condition.kind.name(), condition.row);
-        for word in condition.formula.words() {
-            text += &format!(" {word}");
+/// What the generator says of a file.
+#[derive(Clone, Debug, PartialEq, Eq)]
+pub enum Answer {
+    /// Of a file that has a table.
+    Table(Source, Result<Plan, Refusal>),
+    /// Of a script's text that is not read.
+    Unread(RefusedText),
+}
+
+impl Answer {
+    /// Answers a whole file; or says which line is none of a file.
+    pub fn to(file: &[u8]) -> Result<Answer, Fault> {
+        match Source::read(file) {
+            Ok(source) => {
+                let answer = leqwarti::plan(source.words());
+                Ok(Answer::Table(source, answer))
+            }
+            Err(Unread::Refused(text)) => Ok(Answer::Unread(text)),
+            Err(Unread::Fault(fault)) => Err(fault),
         }
-        text.push('\n');
     }
-    text
-}
 
-/// The answer for a person, with what the file says at the rows it names.
-pub fn text(answer: &Result<Plan, Refusal>, source: &Source) -> String {
-    let rest = match answer {
-        Ok(plan) => plan
-            .conditions()
-            .map(|condition| condition_text(&condition, source))
-            .collect(),
-        Err(refusal) => refusal_text(refusal, source),
-    };
-    first_line(answer) + &rest
-}
-
-fn first_line(answer: &Result<Plan, Refusal>) -> String {
-    match answer {
-        Ok(plan) => {
-            let conditions = plan.conditions().len();
-            format!("planned {conditions} {}\n", plan.words().len())
+    pub fn plan(&self) -> Option<&Plan> {
+        match self {
+            Answer::Table(_, answer) => answer.as_ref().ok(),
+            Answer::Unread(_) => None,
         }
-        Err(refusal) => format!("refused {} {}\n", refusal.reason.number(), refusal.row),
+    }
+
+    /// The answer as the proved program writes it.
+    pub fn words(&self) -> String {
+        let mut text = self.first_line();
+        for condition in self.plan().into_iter().flatten() {
+            text += &format!("{} {}", condition.kind.name(), condition.row);
+            for word in condition.formula.words() {
+                text += &format!(" {word}");
+            }
+            text.push('\n');
+        }
+        text
+    }
+
+    /// The answer for a person, with what the file says at the rows it names.
+    pub fn text(&self) -> String {
+        let rest = match self {
+            Answer::Table(source, Ok(plan)) => plan
+                .conditions()
+                .map(|condition| condition_text(&condition, source))
+                .collect(),
+            Answer::Table(source, Err(refusal)) => refusal_text(refusal, source),
+            Answer::Unread(text) => text.explanation(),
+        };
+        self.first_line() + &rest
+    }
+
+    fn first_line(&self) -> String {
+        match self {
+            Answer::Table(_, Ok(plan)) => {
+                let conditions = plan.conditions().len();
+                format!("planned {conditions} {}\n", plan.words().len())
+            }
+            Answer::Table(_, Err(refusal)) => {
+                format!("refused {} {}\n", refusal.reason.number(), refusal.row)
+            }
+            Answer::Unread(text) => text.first_line(),
+        }
     }
 }
 
 fn condition_text(condition: &Condition, source: &Source) -> String {
-    let Condition { kind, row, formula } = condition;
-    let (name, meaning) = (kind.name(), meaning(*kind));
-    let place = &source.rows[*row];
-    let said = if place.comment.is_empty() {
-        &place.text
-    } else {
-        &place.comment
+    let Condition { kind, row, formula } = *condition;
+    let (name, meaning) = (kind.name(), meaning(kind));
+    let (line, said) = match source {
+        Source::Rows(rows) => (rows.lines[row].line, rows.lines[row].said().to_string()),
+        Source::Text(text) => (text.point(row).line, text.head(row)),
     };
-    let formula = source.names.put_into(&formula_text(*formula));
-    format!(
-        "\n{name} {row}: {meaning}\nline {}: {said}\n{formula}",
-        place.line
-    )
+    let formula = source.names().put_into(&formula_text(formula, source));
+    format!("\n{name} {row}: {meaning}\nline {line}: {said}\n{formula}")
 }
 
 fn meaning(kind: ConditionKind) -> &'static str {
@@ -65,34 +95,55 @@ fn meaning(kind: ConditionKind) -> &'static str {
 }
 
 /// A formula, the two sides of an implication on lines of their own.
-fn formula_text(formula: Formula) -> String {
+fn formula_text(formula: Formula, source: &Source) -> String {
+    let written = |formula| match source {
+        Source::Rows(_) => format!("{formula}"),
+        Source::Text(_) => format!("{formula:#}"),
+    };
     match formula.implication() {
-        Some((given, wanted)) => format!("    {given}\n  implies\n    {wanted}\n"),
-        None => format!("    {formula}\n"),
+        Some(sides) => {
+            let (given, wanted) = (written(sides.0), written(sides.1));
+            format!("    {given}\n  implies\n    {wanted}\n")
+        }
+        None => format!("    {}\n", written(formula)),
     }
 }
 
 fn refusal_text(refusal: &Refusal, source: &Source) -> String {
-    let words = refusal.reason.words();
-    if !refusal.reason.has_row() {
+    let Refusal { reason, row } = *refusal;
+    let words = reason.words();
+    if !reason.has_row() {
         return format!("{words}\n");
     }
-    let row = refusal.row;
-    let place = &source.rows[row];
-    format!(
-        "row {row}, line {}: {words}\n    {}\n",
-        place.line, place.text
-    )
+    match source {
+        Source::Rows(rows) => {
+            let RowLine { line, text, .. } = &rows.lines[row];
+            format!("row {row}, line {line}: {words}\n    {text}\n")
+        }
+        Source::Text(text) => {
+            let (point, words) = (text.point(row), words_for_text(text.words[4 * row]));
+            format!("{point}: {words}\n{}", point.shown())
+        }
+    }
+}
+
+/// What is wrong with a row of a text, by its kind. Of what has a row, only 8
+/// and 9 can be wrong with a text that is read.
+fn words_for_text(kind: i32) -> &'static str {
+    match kind {
+        33 => "a frozen name (v128 to v255) is assigned to",
+        9 => "a guard or an assigned expression reads a mark",
+        _ => "a guard or an assigned expression reads a frozen name (v128 to v255)",
+    }
 }
 
 #[cfg(test)]
 mod tests {
     use super::*;
 
-    fn both(text: &str) -> (String, String) {
-        let source = Source::read(text).unwrap();
-        let answer = leqwarti::plan(&source.words);
-        (super::text(&answer, &source), program_text(&answer))
+    fn both(file: &str) -> (String, String) {
+        let answer = Answer::to(file.as_bytes()).unwrap();
+        (answer.text(), answer.words())
     }
 
     #[test]

@@ -8,7 +8,7 @@ use std::io::{self, Read, Write};
 use std::path::Path;
 use std::process::ExitCode;
 
-use cli::{scripts, Script, Source, HELP};
+use cli::{scripts, Answer, Script, HELP};
 use leqwarti::Plan;
 use request::{request, Request, Wanted};
 
@@ -37,13 +37,13 @@ fn main() -> ExitCode {
 fn carry_out(request: Request) -> Result<u8, Failure> {
     match request {
         Request::Help => print(HELP).map(|()| 0),
-        Request::List { file, as_words } => list(&read(file)?, as_words),
-        Request::Smt { file, wanted } => smt(&read(file)?, wanted).map(|()| 0),
+        Request::List { file, as_words } => list(&answer(file)?, as_words),
+        Request::Smt { file, wanted } => smt(&answer(file)?, wanted).map(|()| 0),
     }
 }
 
-/// The rows of a file, or what is wrong with it and where.
-fn read(file: &str) -> Result<Source, Failure> {
+/// The answer to a file, or which line is none of a file.
+fn answer(file: &str) -> Result<Answer, Failure> {
     let bytes = match file {
         "-" => {
             let mut bytes = Vec::new();
@@ -53,8 +53,7 @@ fn read(file: &str) -> Result<Source, Failure> {
     };
     let name = if file == "-" { "standard input" } else { file };
     let bytes = bytes.map_err(|error| no_file(Path::new(name), error))?;
-    let text = String::from_utf8_lossy(&bytes);
-    Source::read(&text)
+    Answer::to(&bytes)
         .map_err(|fault| unreadable(format!("{name}:{}: {}\n", fault.line, fault.problem)))
 }
 
@@ -63,31 +62,32 @@ fn unreadable(told: String) -> Failure {
     Failure { told, status }
 }
 
-fn list(source: &Source, as_words: bool) -> Result<u8, Failure> {
-    let answer = leqwarti::plan(&source.words);
+fn list(answer: &Answer, as_words: bool) -> Result<u8, Failure> {
     let text = if as_words {
-        cli::program_text(&answer)
+        answer.words()
     } else {
-        cli::text(&answer, source)
+        answer.text()
     };
     print(&text)?;
-    Ok(if answer.is_ok() { 0 } else { REFUSED })
+    Ok(match answer.plan() {
+        Some(_) => 0,
+        None => REFUSED,
+    })
 }
 
-fn smt(source: &Source, wanted: Wanted) -> Result<(), Failure> {
-    let answer = leqwarti::plan(&source.words);
-    let plan = answer.map_err(|refusal| refused(cli::text(&Err(refusal), source)))?;
+fn smt(answer: &Answer, wanted: Wanted) -> Result<(), Failure> {
+    let plan = answer.plan().ok_or_else(|| refused(answer.text()))?;
     match wanted {
         Wanted::At(index) => {
             let text = leqwarti::smt(plan.words(), index);
             print(&text.map_err(|refusal| refused(format!("index {index}: {refusal}\n")))?)
         }
-        Wanted::All => each_text(&plan, |script, text| {
+        Wanted::All => each_text(plan, |script, text| {
             print(&format!("; {}\n{text}", script.name()))
         }),
         Wanted::Into(folder) => {
             fs::create_dir_all(folder).map_err(|error| no_file(folder, error))?;
-            each_text(&plan, |script, text| {
+            each_text(plan, |script, text| {
                 write_file(&folder.join(script.file_name()), &text)
             })
         }

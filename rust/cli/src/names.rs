@@ -15,12 +15,15 @@ const TAKEN: [&str; 11] = [
     "and", "div", "else", "false", "if", "implies", "mod", "not", "or", "then", "true",
 ];
 
+const FORM: &str =
+    "a line that names a variable is like `v0 is x`, and a script's text begins with `pre`";
+
 impl Names {
     /// Reads a line such as `v0 is x`.
     pub fn add(&mut self, line: &str) -> Result<(), String> {
         let words: Vec<&str> = line.split_whitespace().collect();
         let [variable, "is", name] = words[..] else {
-            return Err("a line that names a variable is like `v0 is x`".to_string());
+            return Err(FORM.to_string());
         };
         let no_variable = || {
             format!(
@@ -53,6 +56,13 @@ impl Names {
             self.name(token).unwrap_or(token).to_string() + separator
         };
         text.split_inclusive(is_separator).map(named).collect()
+    }
+
+    /// The number of the variable that has the name.
+    pub fn variable(&self, name: &str) -> Option<usize> {
+        let mut named = self.of.iter();
+        let (number, _) = named.find(|(_, other)| *other == name)?;
+        Some(*number)
     }
 
     fn name(&self, token: &str) -> Option<&str> {
@@ -95,6 +105,8 @@ mod tests {
         );
         assert_eq!(names.put_into(""), "");
         assert_eq!(names.put_into("v0"), "x");
+        assert_eq!(names.variable("old_x"), Some(128));
+        assert_eq!(names.variable("old"), None);
     }
 
     #[test]
@@ -118,9 +130,8 @@ mod tests {
 
     #[test]
     fn lines_that_name_nothing_are_told() {
-        let form = "a line that names a variable is like `v0 is x`";
-        for line in ["v0", "v0 is", "v0 = x", "v0 is two words", "v 0 is x"] {
-            assert_eq!(Names::default().add(line), Err(form.to_string()), "{line}");
+        for line in ["v0", "v0 is", "v0 := 1;", "v0 is two words", "v 0 is x"] {
+            assert_eq!(Names::default().add(line), Err(FORM.to_string()), "{line}");
         }
     }
 

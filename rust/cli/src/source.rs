@@ -1,26 +1,20 @@
-//! A file of rows as a person writes it.
+//! A file as a person writes it: the text of a script, or rows.
 
-use crate::Names;
+use crate::{Names, RefusedText, Rows, Text};
 
-/// The rows of a file, where each of them stands in it, and names for the
-/// variables.
-#[derive(Clone, Debug, Default, PartialEq, Eq)]
-pub struct Source {
-    /// The table, four words to a row.
-    pub words: Vec<i32>,
-    pub rows: Vec<SourceRow>,
-    pub names: Names,
+#[derive(Clone, Debug, PartialEq, Eq)]
+pub enum Source {
+    Rows(Rows),
+    Text(Text),
 }
 
-/// Where a row stands, and what the file says there.
+/// Why there is no table of a file.
 #[derive(Clone, Debug, PartialEq, Eq)]
-pub struct SourceRow {
-    /// The line, from 1.
-    pub line: usize,
-    /// The whole line but for the space around it.
-    pub text: String,
-    /// What follows the first `#`, or nothing.
-    pub comment: String,
+pub enum Unread {
+    /// What the command reads by itself: rows, and the header of a text.
+    Fault(Fault),
+    /// What the proved reader refuses.
+    Refused(RefusedText),
 }
 
 /// A line that cannot be read.
@@ -31,155 +25,102 @@ pub struct Fault {
     pub problem: String,
 }
 
+const BYTE_ORDER_MARK: &[u8] = "\u{feff}".as_bytes();
+
 impl Source {
-    /// Reads a whole file; the first line that cannot be read decides.
-    pub fn read(text: &str) -> Result<Source, Fault> {
-        let mut source = Source::default();
-        let text = text.strip_prefix('\u{feff}').unwrap_or(text);
-        for (before, line_text) in text.lines().enumerate() {
-            let line = before + 1;
-            let faulty = |problem| Fault { line, problem };
-            source.add_line(line, line_text.trim()).map_err(faulty)?;
+    /// Reads a whole file. Both forms may begin with comments and with names
+    /// for the variables; the first other line tells them apart.
+    pub fn read(file: &[u8]) -> Result<Source, Unread> {
+        let file = file.strip_prefix(BYTE_ORDER_MARK).unwrap_or(file);
+        match start_of_text(file) {
+            Some(start) => Text::read(file, start).map(Source::Text),
+            None => {
+                let rows = Rows::read(&String::from_utf8_lossy(file));
+                rows.map(Source::Rows).map_err(Unread::Fault)
+            }
         }
-        Ok(source)
     }
 
-    fn add_line(&mut self, line: usize, text: &str) -> Result<(), String> {
-        let (content, comment) = text.split_once('#').unwrap_or((text, ""));
-        let content = content.trim();
-        if content.is_empty() {
-            return Ok(());
+    /// The table, four words to a row.
+    pub fn words(&self) -> &[i32] {
+        match self {
+            Source::Rows(rows) => &rows.words,
+            Source::Text(text) => &text.words,
         }
-        if content.starts_with('v') {
-            return self.names.add(content);
+    }
+
+    pub fn names(&self) -> &Names {
+        match self {
+            Source::Rows(rows) => &rows.names,
+            Source::Text(text) => &text.names,
         }
-        let numbers = without_label(content, self.rows.len())?;
-        self.words.extend(words_of_row(numbers)?);
-        self.rows.push(SourceRow {
-            line,
-            text: text.to_string(),
-            comment: comment.trim().to_string(),
-        });
-        Ok(())
     }
 }
 
-/// What follows the label of a row, which must be the row's own number.
-fn without_label(content: &str, row: usize) -> Result<&str, String> {
-    let Some((label, numbers)) = content.split_once(':') else {
-        return Ok(content);
-    };
-    let label = label.trim();
-    if label.parse() == Ok(row) {
-        Ok(numbers)
-    } else {
-        Err(format!("row {row} is labelled `{}`", label.escape_debug()))
+/// Where the first line begins that is no comment and names no variable. None
+/// where that line begins as rows do, with a digit or a sign, and where there
+/// is no such line: an empty file is an empty table.
+fn start_of_text(file: &[u8]) -> Option<usize> {
+    let mut start = 0;
+    for line in file.split_inclusive(|byte| *byte == b'\n') {
+        let line_text = String::from_utf8_lossy(line);
+        match line_text.trim_start().chars().next() {
+            None | Some('#' | 'v') => start += line.len(),
+            Some('0'..='9' | '+' | '-') => return None,
+            Some(_) => return Some(start),
+        }
     }
-}
-
-fn words_of_row(numbers: &str) -> Result<[i32; 4], String> {
-    let words: Result<Vec<i32>, String> = numbers.split_whitespace().map(word).collect();
-    <[i32; 4]>::try_from(words?).map_err(|words| {
-        let found = words.len();
-        format!("a row is four numbers (kind first second third), and here are {found}")
-    })
-}
-
-fn word(text: &str) -> Result<i32, String> {
-    text.parse().map_err(|_| {
-        let (least, greatest) = (i32::MIN, i32::MAX);
-        let text = text.escape_debug();
-        format!("`{text}` is no whole number from {least} to {greatest}")
-    })
+    None
 }
 
 #[cfg(test)]
 mod tests {
     use super::*;
 
-    fn words(text: &str) -> Vec<i32> {
-        Source::read(text).unwrap().words
-    }
+    const TEXT: &str = "pre true; skip; post true";
 
-    fn fault(text: &str) -> (usize, String) {
-        let fault = Source::read(text).unwrap_err();
-        (fault.line, fault.problem)
-    }
-
-    #[test]
-    fn rows_are_read_with_and_without_labels() {
-        let text = "1 0 0 0\n 1: 2 0 0 0\n2:19 0 1 0\n";
-        assert_eq!(words(text), [1, 0, 0, 0, 2, 0, 0, 0, 19, 0, 1, 0]);
-    }
-
-    #[test]
-    fn comments_blank_lines_and_line_ends_of_all_sorts_are_passed_over() {
-        let text = "\u{feff}# one\r\n\r\n\t1  -5\t0 0 # 2: no row # 3\r\n   \n#\n";
-        assert_eq!(words(text), [1, -5, 0, 0]);
-        assert_eq!(words("1 2 3 4#close"), [1, 2, 3, 4]);
-    }
-
-    #[test]
-    fn no_rows_are_an_empty_table() {
-        assert_eq!(Source::read(""), Ok(Source::default()));
-        assert_eq!(words("# nothing\n\n"), []);
-    }
-
-    #[test]
-    fn a_row_keeps_its_line_and_its_comment() {
-        let source = Source::read("# head\n\n  0: 1 7 0 0  #  seven\n1 8 0 0\n").unwrap();
-        let row = |line, text: &str, comment: &str| SourceRow {
-            line,
-            text: text.to_string(),
-            comment: comment.to_string(),
-        };
-        let rows = [
-            row(3, "0: 1 7 0 0  #  seven", "seven"),
-            row(4, "1 8 0 0", ""),
-        ];
-        assert_eq!(source.rows, rows);
-    }
-
-    #[test]
-    fn every_word_of_32_bits_is_read_and_no_other() {
-        let text = "-2147483648 2147483647 0 0";
-        assert_eq!(words(text), [i32::MIN, i32::MAX, 0, 0]);
-        let range = "is no whole number from -2147483648 to 2147483647";
-        for wrong in [
-            "2147483648",
-            "-2147483649",
-            "x",
-            "1.5",
-            "0x10",
-            "1,",
-            "--1",
-            "−1",
-        ] {
-            let text = format!("# head\n1 {wrong} 0 0\n");
-            assert_eq!(fault(&text), (2, format!("`{wrong}` {range}")));
+    fn is_text(file: &str) -> bool {
+        match Source::read(file.as_bytes()) {
+            Ok(source) => matches!(source, Source::Text(_)),
+            Err(unread) => matches!(unread, Unread::Refused(_)),
         }
     }
 
     #[test]
-    fn a_row_has_four_numbers() {
-        let told = |found| {
-            format!("a row is four numbers (kind first second third), and here are {found}")
-        };
-        assert_eq!(fault("1 0 0"), (1, told(3)));
-        assert_eq!(fault("\n1 0 0 0 0"), (2, told(5)));
-        assert_eq!(fault("0:"), (1, told(0)));
+    fn the_first_line_that_is_no_header_tells() {
+        for header in ["", "# pre\n", "v0 is x\n\n \t\r\n", "\u{feff}", "#\n#\n"] {
+            assert!(is_text(&format!("{header}{TEXT}")), "{header}");
+            assert!(is_text(&format!("{header}  \t{TEXT}")), "{header}");
+            assert!(!is_text(&format!("{header}16 0 0 0\n")), "{header}");
+            assert!(!is_text(&format!("{header} 0: 1 -5 0 0\n")), "{header}");
+        }
     }
 
     #[test]
-    fn a_label_is_the_number_of_its_row() {
-        assert_eq!(
-            fault("0: 1 0 0 0\n2: 1 0 0 0"),
-            (2, "row 1 is labelled `2`".to_string())
-        );
-        assert_eq!(
-            fault("a: 1 0 0 0"),
-            (1, "row 0 is labelled `a`".to_string())
-        );
-        assert_eq!(fault(": 1 0 0 0"), (1, "row 0 is labelled ``".to_string()));
+    fn only_a_digit_or_a_sign_begins_rows() {
+        for rows in ["7", "-1 0 0 0", "+0: 16 0 0 0", "1x", "--"] {
+            assert!(!is_text(rows), "{rows}");
+        }
+        for text in ["Pre", "pre", "(", "// no comment", "{", ":", "skip", "é"] {
+            assert!(is_text(text), "{text}");
+        }
+    }
+
+    #[test]
+    fn nothing_is_an_empty_table() {
+        for nothing in ["", "\n", " \r\n\t", "# pre", "v0 is x", "\u{feff}\n"] {
+            let source = Source::read(nothing.as_bytes()).unwrap();
+            assert!(matches!(source, Source::Rows(_)), "{nothing}");
+            assert_eq!(source.words(), []);
+        }
+    }
+
+    #[test]
+    fn both_forms_have_names() {
+        for rest in [TEXT, "16 0 0 0"] {
+            let file = format!("v3 is x # the third\n{rest}");
+            let source = Source::read(file.as_bytes()).unwrap();
+            assert_eq!(source.names().put_into("v3 < v30"), "x < v30");
+        }
     }
 }

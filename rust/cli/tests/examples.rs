@@ -4,31 +4,33 @@
 mod command;
 mod files;
 
-use cli::Source;
+use cli::{Rows, Source};
 use command::{vcgen, written};
-use files::{examples, name, text, top};
+use files::{expected, name, rows, text, texts, top};
 
 #[test]
 fn every_example_gives_what_is_stored_beside_it() {
-    for file in examples() {
-        let expected = text(&file.with_extension("expected"));
+    for file in [rows(), texts()].concat() {
+        let expected = expected(&file);
         let status = i32::from(expected.starts_with("refused"));
         let path = file.to_str().unwrap();
         for arguments in [&[path][..], &["list", path]] {
             let output = vcgen(arguments, "");
             let wanted = (Some(status), &expected[..], "");
-            assert_eq!(written(&output), wanted, "{}", name(&file));
+            assert_eq!(written(&output), wanted, "{}", file.display());
         }
     }
 }
 
 #[test]
 fn the_words_are_those_of_the_second_implementation() {
-    for file in examples() {
-        let rows = text(&file);
-        let source = Source::read(&rows).unwrap();
+    for file in [rows(), texts()].concat() {
+        let content = text(&file);
+        let Ok(source) = Source::read(content.as_bytes()) else {
+            continue;
+        };
         let bytes: Vec<u8> = source
-            .words
+            .words()
             .iter()
             .flat_map(|word| word.to_le_bytes())
             .collect();
@@ -39,16 +41,16 @@ fn the_words_are_those_of_the_second_implementation() {
             name(&file)
         );
         for arguments in [&["--words", "-"][..], &["list", "--words", "-"]] {
-            let output = vcgen(arguments, &rows);
-            assert_eq!(written(&output).1, expected, "{}", name(&file));
+            let output = vcgen(arguments, &content);
+            assert_eq!(written(&output).1, expected, "{}", file.display());
         }
     }
 }
 
 #[test]
 fn every_label_and_every_row_of_an_example_is_there_to_be_read() {
-    for file in examples() {
-        for row in Source::read(&text(&file)).unwrap().rows {
+    for file in rows() {
+        for row in Rows::read(&text(&file)).unwrap().lines {
             let place = format!("{}, line {}", name(&file), row.line);
             assert!(row.text.contains(':') && !row.comment.is_empty(), "{place}");
         }
@@ -58,7 +60,7 @@ fn every_label_and_every_row_of_an_example_is_there_to_be_read() {
 #[test]
 fn the_list_of_examples_names_each() {
     let list = text(&top().join("examples/README.md"));
-    for file in examples() {
+    for file in rows() {
         let link = format!("[{0}]({0}.rows)", name(&file));
         assert!(list.contains(&link), "{link}");
     }

@@ -41,7 +41,7 @@ fn faulty_example() -> Example {
 }
 
 fn planned_examples() -> Vec<Example> {
-    let files = files::examples();
+    let files = files::rows();
     files
         .iter()
         .filter_map(|file| planned_example(file))
@@ -49,7 +49,8 @@ fn planned_examples() -> Vec<Example> {
 }
 
 fn planned_example(file: &Path) -> Option<Example> {
-    let words = Source::read(&files::text(file)).unwrap().words;
+    let source = Source::read(files::text(file).as_bytes()).unwrap();
+    let words = source.words().to_vec();
     let plan = leqwarti::plan(&words).ok()?;
     let formula = |condition: Condition| formula_from_words(condition.formula.words());
     Some(Example {

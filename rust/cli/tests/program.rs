@@ -1,7 +1,7 @@
 //! Any table, written as a file of rows, against the program of the second
 //! implementation.
 
-use cli::Source;
+use cli::Answer;
 use fuzz::mutate::change_words;
 use fuzz::scripts::{script_words, Shape};
 use fuzz::{seed_from_environment, Prng};
@@ -46,23 +46,23 @@ fn any_file_gives_the_output_of_the_program() {
     let [mut planned, mut refused] = [0, 0];
     for _ in 0..TABLES {
         let words = any_table(&mut random);
-        let source = Source::read(&file_of(&words)).unwrap();
-        assert_eq!(source.words, words);
+        let Ok(Answer::Table(source, answer)) = Answer::to(file_of(&words).as_bytes()) else {
+            panic!("a line is none of a file: {words:?}");
+        };
+        assert_eq!(source.words(), words);
         let bytes: Vec<u8> = words.iter().flat_map(|word| word.to_le_bytes()).collect();
         let expected = String::from_utf8(reference::program_output(&bytes)).unwrap();
-        let answer = leqwarti::plan(&words);
         // The program has room 512 only.
         if expected == "refused 12 0\n" && answer.is_ok() {
             continue;
         }
-        assert_eq!(cli::program_text(&answer), expected, "{words:?}");
-        assert_eq!(
-            cli::text(&answer, &source).lines().next(),
-            expected.lines().next()
-        );
-        match answer {
-            Ok(_) => planned += 1,
-            Err(_) => refused += 1,
+        let is_planned = answer.is_ok();
+        let answer = Answer::Table(source, answer);
+        assert_eq!(answer.words(), expected, "{words:?}");
+        assert_eq!(answer.text().lines().next(), expected.lines().next());
+        match is_planned {
+            true => planned += 1,
+            false => refused += 1,
         }
     }
     println!("{planned} planned, {refused} refused");

@@ -7,7 +7,7 @@ use std::fs;
 use std::path::{Path, PathBuf};
 
 use command::{vcgen, written};
-use files::{examples, name, text, top};
+use files::{expected, rows, text, texts, top};
 
 /// The scripts of the countdown, document 01's example A, each with its name.
 const COUNTDOWN: [(&str, &str); 4] = [
@@ -139,12 +139,12 @@ fn a_file_for_each_condition() {
 /// forms give the same texts.
 #[test]
 fn the_forms_agree_on_every_example() {
-    for file in &examples() {
+    for file in &[rows(), texts()].concat() {
         let path = file.to_str().unwrap();
-        let folder = new_folder(&format!("{} of all", name(file)));
+        let folder = new_folder(&format!("{} of all", file.file_name().unwrap().display()));
         let all = vcgen(&["smt", path], "");
         let files = vcgen(&["smt", "--into", folder.to_str().unwrap(), path], "");
-        if text(&file.with_extension("expected")).starts_with("refused") {
+        if expected(file).starts_with("refused") {
             assert!(!folder.exists());
             continue;
         }

@@ -18,9 +18,9 @@ use solver::{contradict, verdicts, Effort, Model, Verdict};
 /// The conditions of all examples, as `fleet-join: exit 45`, with their texts.
 fn example_scripts() -> Vec<(String, String)> {
     let mut named = Vec::new();
-    for file in files::examples() {
-        let source = Source::read(&files::text(&file)).unwrap();
-        let Ok(plan) = leqwarti::plan(&source.words) else {
+    for file in files::rows() {
+        let source = Source::read(files::text(&file).as_bytes()).unwrap();
+        let Ok(plan) = leqwarti::plan(source.words()) else {
             continue;
         };
         for script in scripts(&plan) {

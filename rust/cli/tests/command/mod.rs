@@ -5,6 +5,10 @@ use std::process::{Command, Output, Stdio};
 
 /// Runs the command on what it is to read.
 pub fn vcgen(arguments: &[&str], input: &str) -> Output {
+    vcgen_on_bytes(arguments, input.as_bytes())
+}
+
+pub fn vcgen_on_bytes(arguments: &[&str], input: &[u8]) -> Output {
     let mut child = Command::new(env!("CARGO_BIN_EXE_vcgen"))
         .args(arguments)
         .stdin(Stdio::piped())
@@ -12,12 +16,7 @@ pub fn vcgen(arguments: &[&str], input: &str) -> Output {
         .stderr(Stdio::piped())
         .spawn()
         .unwrap();
-    child
-        .stdin
-        .take()
-        .unwrap()
-        .write_all(input.as_bytes())
-        .unwrap();
+    child.stdin.take().unwrap().write_all(input).unwrap();
     child.wait_with_output().unwrap()
 }
 

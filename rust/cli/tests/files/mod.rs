@@ -1,4 +1,6 @@
-//! The files that the tests read.
+//! The files that the tests read. No test uses all of this.
+
+#![allow(dead_code)]
 
 use std::fs;
 use std::path::{Path, PathBuf};
@@ -8,14 +10,31 @@ pub fn top() -> &'static Path {
     Path::new(concat!(env!("CARGO_MANIFEST_DIR"), "/../.."))
 }
 
-/// The files of rows, by name.
-pub fn examples() -> Vec<PathBuf> {
+/// The examples of rows, by name.
+pub fn rows() -> Vec<PathBuf> {
+    examples("rows")
+}
+
+/// The examples of text, by name.
+pub fn texts() -> Vec<PathBuf> {
+    examples("script")
+}
+
+fn examples(extension: &str) -> Vec<PathBuf> {
     let folder = fs::read_dir(top().join("examples")).unwrap();
     let mut files: Vec<PathBuf> = folder.map(|entry| entry.unwrap().path()).collect();
-    files.retain(|file| file.extension().is_some_and(|end| end == "rows"));
+    files.retain(|file| file.extension().is_some_and(|end| end == extension));
     files.sort();
     assert!(files.len() >= 12);
     files
+}
+
+/// What the command is to print of an example.
+pub fn expected(file: &Path) -> String {
+    match file.extension().and_then(|extension| extension.to_str()) {
+        Some("rows") => text(&file.with_extension("expected")),
+        _ => text(&file.with_extension("script.expected")),
+    }
 }
 
 pub fn name(file: &Path) -> &str {

@@ -1,0 +1,139 @@
+//! Why a script's text is not read, for its writer.
+
+use leqwarti::{Reason, TextRefusal};
+
+use crate::tokens::{tokens, Token};
+use crate::{Names, Point};
+
+/// A text that the proved reader refuses.
+#[derive(Clone, Debug, PartialEq, Eq)]
+pub struct RefusedText {
+    pub refusal: TextRefusal,
+    pub names: Names,
+    pub text: Vec<u8>,
+}
+
+/// A token of each sort.
+const SORTS: &str = "1 v0 skip assert if while pre post true false not when mark ( + - * div mod \
+    < <= = <> and or implies := ) , ; then else end keep fall do";
+
+impl RefusedText {
+    /// The number, and the place as a byte of the file.
+    pub fn first_line(&self) -> String {
+        let TextRefusal { reason, place, .. } = self.refusal;
+        format!("refused {} {place}\n", reason.number())
+    }
+
+    /// What is wrong and where; and what may stand there instead.
+    pub fn explanation(&self) -> String {
+        let problem = self.problem();
+        if !self.refusal.reason.has_place() {
+            return format!("{problem}\n");
+        }
+        let point = Point::of(&self.text, self.place_to_show());
+        let instead = self.instead();
+        format!("{point}: {problem}\n{}{instead}", point.shown())
+    }
+
+    /// The place; where a text must not end yet, the end of its last token.
+    fn place_to_show(&self) -> usize {
+        let place = self.refusal.place;
+        if place == self.text.len() {
+            self.text.trim_ascii_end().len()
+        } else {
+            place
+        }
+    }
+
+    fn problem(&self) -> String {
+        let TextRefusal { reason, place, .. } = self.refusal;
+        let tokens = tokens(&self.text);
+        let (before, after) = tokens.split_at(tokens.partition_point(|token| token.place < place));
+        match (reason, after.first()) {
+            (Reason::NoToken, Some(token)) => self.no_token(token),
+            (Reason::WrongToken, Some(token)) => format!("no script has {} here", quoted(token)),
+            (Reason::WrongToken, None) => "no script ends here".to_string(),
+            (Reason::NumberOutOfRange, Some(token)) => out_of_range(before, token),
+            _ => reason.words().to_string(),
+        }
+    }
+
+    fn no_token(&self, token: &Token) -> String {
+        let name = String::from_utf8_lossy(token.text);
+        match self.names.variable(&name) {
+            Some(variable) => format!("{name} is written v{variable} in a script"),
+            None if name == "#" => "comments stand before `pre` only".to_string(),
+            None => format!("{} is no word and no sign of scripts", quoted(token)),
+        }
+    }
+
+    /// The tokens with which the text up to the place can go on, found by asking
+    /// the reader about one of each sort.
+    fn instead(&self) -> String {
+        if self.refusal.reason == Reason::NumberOutOfRange {
+            return String::new();
+        }
+        let sorts = SORTS.split(' ').filter(|token| self.can_go_on_with(token));
+        let shown: Vec<&str> = sorts.map(shown).collect();
+        if shown.is_empty() {
+            return String::new();
+        }
+        format!("here may stand: {}\n", shown.join(" "))
+    }
+
+    fn can_go_on_with(&self, token: &str) -> bool {
+        let before = &self.text[..self.refusal.place];
+        let text = [before, b" ", token.as_bytes()].concat();
+        !leqwarti::read_text(&text).is_err_and(|refusal| match refusal.reason {
+            Reason::WrongToken => refusal.place <= before.len() + 1,
+            reason => reason == Reason::ScriptTooLong,
+        })
+    }
+}
+
+/// A token in backquotes, a long one in part.
+fn quoted(token: &Token) -> String {
+    let text = String::from_utf8_lossy(token.text);
+    let (part, rest) = match text.char_indices().nth(40) {
+        Some((cut, _)) => (&text[..cut], ".."),
+        None => (&text[..], ""),
+    };
+    format!("`{}{rest}`", part.escape_debug())
+}
+
+fn shown(token: &str) -> &str {
+    match token {
+        "1" => "number",
+        "v0" => "variable",
+        _ => token,
+    }
+}
+
+fn out_of_range(before: &[Token], token: &Token) -> String {
+    let is_mark = matches!(before, [.., word, _] if word.text == b"mark");
+    let problem = match token.text {
+        [b'0', _, ..] | [b'v', b'0', _, ..] => "a number has no zeros in front",
+        [b'v', ..] => "variables are v0 to v1023",
+        _ if is_mark => return wrong_mark(bodies_around(before)),
+        _ => "constants go up to 2147483647, or 2147483648 right after a unary minus",
+    };
+    problem.to_string()
+}
+
+fn wrong_mark(bodies: usize) -> String {
+    format!("mark(k) names the k-th loop outward in whose body it stands, and here are {bodies}")
+}
+
+/// In how many loops' bodies stands what follows these tokens.
+fn bodies_around(before: &[Token]) -> usize {
+    let mut open = Vec::new();
+    for token in before {
+        match token.text {
+            b"if" | b"while" => open.push(0),
+            b"do" => *open.last_mut().expect("the loop") = 1,
+            b"end" => drop(open.pop()),
+            _ => (),
+        }
+    }
+    open.into_iter().sum()
+}

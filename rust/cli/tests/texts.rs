@@ -1,0 +1,191 @@
+//! Scripts as text: the examples beside their rows, random scripts, and what
+//! the command prints of a text that is refused.
+
+mod command;
+mod files;
+
+use cli::{Source, Text};
+use command::{vcgen, written};
+use files::{expected, rows, text, texts};
+use fuzz::scripts::{script_words, Shape};
+use fuzz::{seed_from_environment, Prng};
+use leqwarti::ConditionKind;
+use reference::{read_text, script_of, write_text};
+use reference::{Brackets, Formula, Loop, Statement};
+
+fn source(file: &str) -> Source {
+    Source::read(file.as_bytes()).unwrap()
+}
+
+fn as_text(file: &str) -> Text {
+    match source(file) {
+        Source::Text(text) => text,
+        Source::Rows(_) => panic!("rows: {file}"),
+    }
+}
+
+/// The conditions of a table, each loop by its place among the loops instead of
+/// its row. (Of the rows of an example and of its text these are the same, but
+/// sequences may be grouped otherwise, and then rows have other numbers.)
+fn conditions(words: &[i32]) -> Vec<(ConditionKind, usize, String)> {
+    let rows = words.iter().step_by(4).enumerate();
+    let loops: Vec<usize> = rows
+        .filter(|(_, kind)| **kind == 36)
+        .map(|(row, _)| row)
+        .collect();
+    let loop_at = |row| {
+        loops
+            .iter()
+            .position(|other| *other == row)
+            .unwrap_or(loops.len())
+    };
+    let plan = leqwarti::plan(words).unwrap();
+    let conditions = plan.conditions().map(|condition| {
+        let mut formula = format!(" {} ", condition.formula);
+        for (place, row) in loops.iter().enumerate() {
+            formula = formula.replace(&format!("m{row})"), &format!("loop {place})"));
+        }
+        (condition.kind, loop_at(condition.row), formula)
+    });
+    conditions.collect()
+}
+
+#[test]
+fn a_text_has_the_conditions_of_its_rows() {
+    let mut compared = 0;
+    for file in rows() {
+        let words = source(&text(&file)).words().to_vec();
+        let script = text(&file.with_extension("script"));
+        if leqwarti::plan(&words).is_ok() {
+            let read = source(&script);
+            assert_eq!(
+                conditions(read.words()),
+                conditions(&words),
+                "{}",
+                file.display()
+            );
+            compared += 1;
+        }
+    }
+    assert!(compared >= 12);
+}
+
+#[test]
+fn the_second_implementation_reads_the_same_table() {
+    for file in texts() {
+        let text = text(&file);
+        let Ok(source) = Source::read(text.as_bytes()) else {
+            continue;
+        };
+        let pre = text.find("\npre ").unwrap() + 1;
+        assert_eq!(
+            source.words(),
+            read_text(&text.as_bytes()[pre..], 8_192).words
+        );
+    }
+}
+
+#[test]
+fn line_ends_and_a_byte_order_mark_change_no_answer() {
+    for file in texts() {
+        let (unix, expected) = (text(&file), expected(&file));
+        // In a refusal's first line the place counts bytes.
+        let told = |answer: &str| match answer.starts_with("refused 4") {
+            true => answer.split_once('\n').unwrap().1.to_string(),
+            false => answer.to_string(),
+        };
+        for other in [
+            unix.replace('\n', "\r\n"),
+            format!("\u{feff}{unix}"),
+            unix.trim_end().to_string(),
+            format!("\n{unix}").replacen('\n', "", 1),
+        ] {
+            let output = vcgen(&["-"], &other);
+            assert_eq!(
+                told(written(&output).1),
+                told(&expected),
+                "{}",
+                file.display()
+            );
+        }
+    }
+}
+
+/// The loops of a statement.
+fn loops<'a>(statement: &'a Statement, found: &mut Vec<&'a Loop>) {
+    match statement {
+        Statement::Sequence(first, second) | Statement::If(_, first, second) => {
+            loops(first, found);
+            loops(second, found);
+        }
+        Statement::While(parts) => {
+            found.push(parts);
+            loops(&parts.body, found);
+        }
+        _ => (),
+    }
+}
+
+/// The formula of a head such as `while F`.
+fn formula_of(head: &str, keyword: &str) -> Formula {
+    let formula = head.strip_prefix(keyword).unwrap();
+    let answer = read_text(format!("pre {formula}; skip; post true").as_bytes(), 8_192);
+    assert_eq!(answer.number, 0, "{head}");
+    script_of(&answer.words).precondition
+}
+
+/// What stands in a file from a row's place on.
+fn beginning<'a>(file: &'a str, text: &Text, row: usize) -> &'a str {
+    let point = text.point(row);
+    &file.lines().nth(point.line - 1).unwrap()[point.column - 1..]
+}
+
+/// Random scripts, and blanks of all sorts between their tokens.
+#[test]
+fn rows_are_found_in_their_text() {
+    let mut random = Prng::new(seed_from_environment());
+    let (mut found_loops, mut texts) = (0, 0);
+    while texts < 2_000 {
+        let rows = 4 + random.below(90);
+        let shape = Shape {
+            rows,
+            ..Shape::any(&mut random)
+        };
+        let brackets = [Brackets::Fewest, Brackets::Full][random.below(2)];
+        let Some(written) = write_text(&script_words(&mut random, shape), brackets) else {
+            continue;
+        };
+        let blanks = |piece: &str| format!("{piece}{}", ["", "\n", "\t", "\r\n"][random.below(4)]);
+        let file: String = written.split_inclusive(' ').map(blanks).collect();
+        let text = as_text(&file);
+        assert_eq!(text.words, read_text(written.as_bytes(), 8_192).words);
+
+        let script = script_of(&text.words);
+        let last = text.words.len() / 4 - 1;
+        assert_eq!(formula_of(&text.head(last), "pre "), script.precondition);
+        let mut all = Vec::new();
+        loops(&script.statement, &mut all);
+        for parts in &all {
+            assert_eq!(
+                formula_of(&text.head(parts.row.0), "while "),
+                parts.guard,
+                "{file}"
+            );
+        }
+        for (row, words) in text.words.chunks(4).enumerate() {
+            let wanted = match words[0] {
+                2 | 33 => format!("v{}", words[1]),
+                9 => "mark".to_string(),
+                36 => "while".to_string(),
+                48 => "pre".to_string(),
+                _ => continue,
+            };
+            let beginning = beginning(&file, &text, row);
+            assert!(beginning.starts_with(&wanted), "row {row} of {file}");
+        }
+        found_loops += all.len();
+        texts += 1;
+    }
+    println!("{found_loops} loops in {texts} texts");
+    assert!(found_loops > 1_000);
+}
