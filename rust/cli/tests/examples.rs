@@ -60,21 +60,26 @@ fn every_label_and_every_row_of_an_example_is_there_to_be_read() {
 #[test]
 fn the_list_of_examples_names_each() {
     let list = text(&top().join("examples/README.md"));
-    for file in rows() {
-        let link = format!("[{0}]({0}.rows)", name(&file));
+    for file in [rows(), texts()].concat() {
+        let link = format!("]({})", file.file_name().unwrap().display());
         assert!(list.contains(&link), "{link}");
     }
 }
 
-/// README.md shows the countdown in full.
+/// README.md shows the countdown in full, and what is printed of a text that is
+/// refused.
 #[test]
-fn the_readme_shows_an_example_as_it_is() {
+fn the_readme_shows_examples_as_they_are() {
     let readme = text(&top().join("README.md"));
-    for end in ["rows", "expected"] {
-        let shown = text(&top().join("examples/countdown").with_extension(end));
+    for file in [
+        "countdown.script",
+        "countdown.script.expected",
+        "no-invariant.script.expected",
+    ] {
+        let shown = text(&top().join("examples").join(file));
         let indented = |line: &str| format!("    {line}").trim_end().to_string() + "\n";
         let shown: String = shown.lines().map(indented).collect();
-        assert!(readme.contains(&shown), "countdown.{end}");
+        assert!(readme.contains(&shown), "{file}");
     }
 }
 
