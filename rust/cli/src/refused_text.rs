@@ -26,12 +26,12 @@ impl RefusedText {
 
     /// What is wrong and where; and what may stand there instead.
     pub fn explanation(&self) -> String {
-        let problem = self.problem();
-        if !self.refusal.reason.has_place() {
-            return format!("{problem}\n");
+        let reason = self.refusal.reason;
+        if !reason.has_place() {
+            return format!("{}\n", reason.words());
         }
         let point = Point::of(&self.text, self.place_to_show());
-        let instead = self.instead();
+        let (problem, instead) = (self.problem(), self.instead());
         format!("{point}: {problem}\n{}{instead}", point.shown())
     }
 

@@ -4,7 +4,7 @@
 mod command;
 mod files;
 
-use cli::{Source, Text};
+use cli::{Answer, Source, Text};
 use command::{vcgen, written};
 use files::{expected, rows, text, texts};
 use fuzz::scripts::{script_words, Shape};
@@ -82,6 +82,10 @@ fn a_text_has_the_conditions_of_its_rows() {
     assert!(compared >= 12);
 }
 
+fn without_header(example: &str) -> &str {
+    &example[example.find("\npre ").unwrap() + 1..]
+}
+
 #[test]
 fn the_second_implementation_reads_the_same_table() {
     for file in texts() {
@@ -89,11 +93,8 @@ fn the_second_implementation_reads_the_same_table() {
         let Ok(source) = Source::read(text.as_bytes()) else {
             continue;
         };
-        let pre = text.find("\npre ").unwrap() + 1;
-        assert_eq!(
-            source.words(),
-            read_text(&text.as_bytes()[pre..], 8_192).words
-        );
+        let read = read_text(without_header(&text).as_bytes(), 8_192);
+        assert_eq!(source.words(), read.words);
     }
 }
 
@@ -199,5 +200,52 @@ fn rows_are_found_in_their_text() {
         texts += 1;
     }
     println!("{found_loops} loops in {texts} texts");
-    assert!(found_loops > 1_000);
+    assert!(found_loops > 500);
+}
+
+/// The text with one or two of its pieces taken out, doubled or put elsewhere,
+/// or with a byte or a digit more in them; the first piece stays.
+fn changed(text: &str, random: &mut Prng) -> Vec<u8> {
+    let pieces = text.split_inclusive(char::is_whitespace);
+    let mut pieces: Vec<Vec<u8>> = pieces.map(|piece| piece.as_bytes().to_vec()).collect();
+    for _ in 0..1 + random.below(2) {
+        let at = 1 + random.below(pieces.len() - 1);
+        let piece = pieces[1 + random.below(pieces.len() - 1)].clone();
+        let within = random.below(pieces[at].len());
+        match random.below(5) {
+            0 => drop(pieces.remove(at)),
+            1 => pieces.insert(at, pieces[at].clone()),
+            2 => pieces[at] = piece,
+            3 => pieces[at].insert(within, random.below(256) as u8),
+            _ => pieces[at].insert(within, b'0' + random.below(10) as u8),
+        }
+    }
+    pieces.concat()
+}
+
+/// The place of a refusal is that of the second implementation, and there is an
+/// answer to every text.
+#[test]
+fn every_text_is_answered() {
+    let mut random = Prng::new(seed_from_environment());
+    let examples: Vec<String> = texts().iter().map(|file| text(file)).collect();
+    let mut numbers = [0; 45];
+    for _ in 0..2_000 {
+        let example = &examples[random.below(examples.len())];
+        let text = changed(without_header(example), &mut random);
+        let answer = Answer::to(&text).unwrap();
+        let read = read_text(&text, 8_192);
+        let shown = String::from_utf8_lossy(&text).into_owned();
+        match read.number {
+            0 => assert!(!answer.words().starts_with("refused 4"), "{shown}"),
+            number => {
+                let wanted = format!("refused {number} {}\n", read.place);
+                assert_eq!(answer.words(), wanted, "{shown}");
+            }
+        }
+        assert!(answer.text().lines().count() > 1, "{shown}");
+        numbers[read.number as usize] += 1;
+    }
+    println!("by number: {numbers:?}");
+    assert!([0, 40, 41, 42].iter().all(|number| numbers[*number] > 10));
 }

@@ -153,10 +153,10 @@ line 1, column 32: mark(k) names the k-th loop outward in whose body it stands, 
     (
         "pre true;
 while true keep true fall 0 do
-  while true keep true fall 0 do skip end;
+  while true keep true fall 0 do skip end; if true then skip else skip end;
   if true then assert mark( 2 ) = 0 else skip end
 end; post true",
-        "refused 42 112
+        "refused 42 145
 line 4, column 29: mark(k) names the k-th loop outward in whose body it stands, and here are 1
       if true then assert mark( 2 ) = 0 else skip end
                                 ^
