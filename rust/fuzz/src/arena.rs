@@ -104,6 +104,37 @@ impl Arena {
         )
     }
 
+    /// Regroups what nodes of this kind join, so that none has another one as its
+    /// first part.
+    pub fn group_to_the_right(&mut self, kind: i32) {
+        let mut is_changed = true;
+        while is_changed {
+            is_changed = false;
+            for node in (0..self.len()).map(Node) {
+                while let Some((first, [a, b, c])) = self.grouped_to_the_left(kind, node) {
+                    self.set(first, kind, [b, c, Field::Unused]);
+                    self.set(node, kind, [a, Field::Link(first), Field::Unused]);
+                    is_changed = true;
+                }
+            }
+        }
+    }
+
+    /// Where the node joins a node of its kind, which joins two parts, and a third
+    /// part: that node and the three.
+    fn grouped_to_the_left(&self, kind: i32, node: Node) -> Option<(Node, [Field; 3])> {
+        let (Field::Link(first), c) = self.joined(kind, node)? else {
+            return None;
+        };
+        let (a, b) = self.joined(kind, first)?;
+        Some((first, [a, b, c]))
+    }
+
+    fn joined(&self, kind: i32, node: Node) -> Option<(Field, Field)> {
+        let (found, [first, second, _]) = self.nodes[node.0];
+        (found == kind).then_some((first, second))
+    }
+
     fn links(&self, node: Node) -> Vec<Node> {
         let fields = self.nodes[node.0].1;
         let link = |field| match field {

@@ -53,30 +53,41 @@ pub struct Tally {
     pub line_at: BTreeMap<u8, u64>,
     pub walk: BTreeMap<u8, u64>,
     pub smt: BTreeMap<u8, u64>,
+    pub read_text: BTreeMap<u8, u64>,
 }
+
+/// Makes an input of a source of chance.
+pub type Making = fn(&mut Prng) -> Input;
 
 fn count(numbers: &mut BTreeMap<u8, u64>, number: u8) {
     *numbers.entry(number).or_default() += 1;
 }
 
 /// Compares the subject with the reference on `cases` inputs.
-pub fn compare(subject: &mut dyn Subject, seed: u64, cases: u64) -> Result<(), Difference> {
-    compare_counting(subject, seed, cases, &mut Tally::default())
+pub fn compare(
+    subject: &mut dyn Subject,
+    making: Making,
+    seed: u64,
+    cases: u64,
+) -> Result<(), Difference> {
+    compare_counting(subject, making, seed, cases, &mut Tally::default())
 }
 
 /// `compare`, counting the numbers that the reference gave.
 pub fn compare_counting(
     subject: &mut dyn Subject,
+    making: Making,
     seed: u64,
     cases: u64,
     tally: &mut Tally,
 ) -> Result<(), Difference> {
-    (0..cases).try_for_each(|case| compare_case(subject, seed, case, tally))
+    (0..cases).try_for_each(|case| compare_case(subject, making, seed, case, tally))
 }
 
 /// One case of `compare`, to be repeated alone.
 pub fn compare_case(
     subject: &mut dyn Subject,
+    making: Making,
     seed: u64,
     case: u64,
     tally: &mut Tally,
@@ -84,7 +95,7 @@ pub fn compare_case(
     if std::env::var_os(TRACE_VARIABLE).is_some() {
         println!("seed {seed}, case {case}");
     }
-    let input = Input::any(&mut Prng::for_case(seed, case));
+    let input = making(&mut Prng::for_case(seed, case));
     compare_input(subject, &input, tally).map_err(|what| {
         let file = write_input(seed, case, &what, &input);
         let difference = Difference {
@@ -123,6 +134,7 @@ pub fn compare_input(
         Input::List(list) => compare_list(subject, list, tally),
         Input::Text { list, index, room } => compare_text(subject, list, *index, *room, tally),
         Input::Bytes(bytes) => compare_program(subject, bytes),
+        Input::Script { text, room } => compare_reading(subject, text, *room, tally),
     }
 }
 
@@ -251,6 +263,24 @@ fn compare_text(
     let name = format!("text at {index} in {room} bytes");
     same(&name, expected, found)?;
     text.same(&name, &written.buffer)
+}
+
+/// Counts a reading only where the subject reads texts.
+fn compare_reading(
+    subject: &mut dyn Subject,
+    text: &[u8],
+    room: usize,
+    tally: &mut Tally,
+) -> Result<(), String> {
+    let mut words = Lent::new(room);
+    let Some(found) = subject.read_text(text, words.cells()) else {
+        return Ok(());
+    };
+    let mut buffer = vec![0; room];
+    let expected = Reference.read_text(text, &mut buffer).expect("an answer");
+    count(&mut tally.read_text, expected.number);
+    same("script's text", expected, found)?;
+    words.same("script's text, table", &buffer)
 }
 
 fn compare_program(subject: &mut dyn Subject, bytes: &[u8]) -> Result<(), String> {

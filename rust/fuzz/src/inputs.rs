@@ -7,6 +7,7 @@ use reference::{conditions, list_words, need, script_of, LONGEST_LIST};
 use crate::limits::{limit_words, list_of_length};
 use crate::mutate::{change_words, list_with_length, made_up_list, random_words, tear, tiny_list};
 use crate::prng::Prng;
+use crate::script_texts::{any_room_for_table, any_script_text};
 use crate::scripts::{script_words, Shape};
 use crate::texts::{any_index, any_room, dividing_list};
 
@@ -29,6 +30,9 @@ pub enum Input {
     },
     /// The standard input of the program.
     Bytes(Vec<u8>),
+    /// A script's text and the words lent for its table. These are not among
+    /// those of [`Input::any`].
+    Script { text: Vec<u8>, room: usize },
 }
 
 impl Input {
@@ -39,6 +43,12 @@ impl Input {
             30..=31 => Input::Bytes(any_bytes(random)),
             _ => any_text(random),
         }
+    }
+
+    pub fn any_script(random: &mut Prng) -> Input {
+        let text = any_script_text(random);
+        let room = any_room_for_table(&text, random);
+        Input::Script { text, room }
     }
 
     /// The whole input as text, for the file of a difference.
@@ -61,6 +71,9 @@ impl Input {
                 format!("text at {index} in {room} bytes\n{}", spaced(list))
             }
             Input::Bytes(bytes) => format!("bytes of standard input\n{}", spaced(bytes)),
+            Input::Script { text, room } => {
+                format!("script's text, {room} words\n{}\n", text.escape_ascii())
+            }
         }
     }
 }

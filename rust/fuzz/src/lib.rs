@@ -12,16 +12,21 @@ pub mod inputs;
 pub mod lent;
 pub mod limits;
 pub mod mutate;
+pub mod mutate_text;
+pub mod nests;
 pub mod prng;
+pub mod script_texts;
 pub mod scripts;
 pub mod subject;
 pub mod templates;
 pub mod texts;
+pub mod tokens;
 
-pub use compare::{compare, compare_case, compare_counting, compare_input, Difference, Tally};
+pub use compare::{compare, compare_case, compare_counting, compare_input};
+pub use compare::{Difference, Making, Tally};
 pub use inputs::Input;
 pub use prng::{seed_from_environment, Prng};
-pub use subject::{Answer, Reference, Subject, Written};
+pub use subject::{Answer, ReadAnswer, Reference, Subject, Written};
 
 /// Writes a line to standard error, which a test that passes shows too.
 pub fn tell(text: impl std::fmt::Display) {

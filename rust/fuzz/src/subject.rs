@@ -18,6 +18,15 @@ pub struct Written {
     pub used: usize,
 }
 
+/// What request P4's entry answers beside its table: number, place and words
+/// used.
+#[derive(Clone, Copy, Debug, PartialEq, Eq)]
+pub struct ReadAnswer {
+    pub number: u8,
+    pub place: usize,
+    pub used: usize,
+}
+
 /// An implementation of document 01 and of the requests as its callers see it.
 pub trait Subject {
     /// The check of a table, numbers 1 to 10.
@@ -48,6 +57,12 @@ pub trait Subject {
     /// that holds anything before the call; a subject without it answers
     /// nothing.
     fn smt(&mut self, _list: &[i32], _index: i64, _text: &mut [u8]) -> Option<Written> {
+        None
+    }
+
+    /// Request P4: the table of a script's text, into a buffer that holds anything
+    /// before the call; a subject without it answers nothing.
+    fn read_text(&mut self, _text: &[u8], _words: &mut [i32]) -> Option<ReadAnswer> {
         None
     }
 
@@ -103,6 +118,18 @@ impl Subject for Reference {
         Some(Written {
             number: written.number,
             used: written.used,
+        })
+    }
+
+    fn read_text(&mut self, text: &[u8], words: &mut [i32]) -> Option<ReadAnswer> {
+        let answer = reference::read_text(text, words.len());
+        let used = answer.words.len();
+        words[..used].copy_from_slice(&answer.words);
+        words[used..].fill(0);
+        Some(ReadAnswer {
+            number: answer.number as u8,
+            place: answer.place,
+            used,
         })
     }
 

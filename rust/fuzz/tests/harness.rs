@@ -1,24 +1,29 @@
 //! The harness tried on the reference itself and on broken subjects.
 
 mod misnumbered;
+mod misread;
 mod misspelt;
 
 use fuzz::mutate::{list_with_length, made_up_list};
 use fuzz::scripts::{script_words, Shape};
 use fuzz::texts::dividing_list;
 use fuzz::{compare, compare_counting, limits, seed_from_environment};
-use fuzz::{Answer, Prng, Reference, Subject, Tally};
+use fuzz::{Answer, Input, Making, Prng, Reference, Subject, Tally};
+use misread::{Misread, ReadFault, READ_FAULTS};
 use misspelt::{Misspelt, TextFault, TEXT_FAULTS};
 use reference::{check, lines, need, Line, Variable, Verdict};
 
 const CASES: u64 = 30_000;
+
+/// A fault is found within so many.
+const MOST_CASES: u64 = 4 * CASES;
 
 #[test]
 fn the_reference_agrees_with_itself_and_every_number_occurs() {
     let seed = seed_from_environment();
     let mut tally = Tally::default();
     let begun = std::time::Instant::now();
-    let result = compare_counting(&mut Reference, seed, CASES, &mut tally);
+    let result = compare_counting(&mut Reference, Input::any, seed, CASES, &mut tally);
     let seconds = begun.elapsed().as_secs_f64();
     println!("{:.0} cases per second; {tally:?}", CASES as f64 / seconds);
     assert!(result.is_ok(), "{}", result.unwrap_err());
@@ -313,8 +318,8 @@ impl Subject for Broken {
     }
 }
 
-fn assert_found(fault: String, subject: &mut dyn Subject, seed: u64) {
-    let difference = compare(subject, seed, CASES);
+fn assert_found(fault: String, subject: &mut dyn Subject, making: Making, seed: u64) {
+    let difference = compare(subject, making, seed, MOST_CASES);
     let difference = difference.expect_err(&format!("{fault} was not found"));
     println!("{fault}: {difference}");
     let text = std::fs::read_to_string(&difference.file).expect("the file of the difference");
@@ -326,7 +331,7 @@ fn assert_found(fault: String, subject: &mut dyn Subject, seed: u64) {
 fn every_broken_subject_is_found() {
     let seed = seed_from_environment();
     for fault in FAULTS {
-        assert_found(format!("{fault:?}"), &mut Broken(fault), seed);
+        assert_found(format!("{fault:?}"), &mut Broken(fault), Input::any, seed);
     }
 }
 
@@ -334,10 +339,15 @@ fn every_broken_subject_is_found() {
 fn every_mistake_about_numbers_is_found() {
     // Another seed: two tests are not to write the same files.
     let seed = seed_from_environment().wrapping_add(2);
-    let faultless = compare(&mut { misnumbered::FAULTLESS }, seed, CASES / 10);
+    let faultless = compare(
+        &mut { misnumbered::FAULTLESS },
+        Input::any,
+        seed,
+        CASES / 10,
+    );
     assert!(faultless.is_ok(), "{}", faultless.unwrap_err());
     for mut misnumbered in misnumbered::all() {
-        assert_found(misnumbered.to_string(), &mut misnumbered, seed);
+        assert_found(misnumbered.to_string(), &mut misnumbered, Input::any, seed);
     }
 }
 
@@ -345,9 +355,31 @@ fn every_mistake_about_numbers_is_found() {
 fn every_misspelt_text_is_found() {
     // Another seed: two tests are not to write the same files.
     let seed = seed_from_environment().wrapping_add(1);
-    let faultless = compare(&mut Misspelt(TextFault::Nothing), seed, CASES / 10);
+    let faultless = compare(
+        &mut Misspelt(TextFault::Nothing),
+        Input::any,
+        seed,
+        CASES / 10,
+    );
     assert!(faultless.is_ok(), "{}", faultless.unwrap_err());
     for fault in TEXT_FAULTS {
-        assert_found(format!("{fault:?}"), &mut Misspelt(fault), seed);
+        assert_found(format!("{fault:?}"), &mut Misspelt(fault), Input::any, seed);
+    }
+}
+
+#[test]
+fn every_misread_text_is_found() {
+    // Another seed: two tests are not to write the same files.
+    let seed = seed_from_environment().wrapping_add(3);
+    let faultless = compare(
+        &mut Misread(ReadFault::Nothing),
+        Input::any_script,
+        seed,
+        CASES / 10,
+    );
+    assert!(faultless.is_ok(), "{}", faultless.unwrap_err());
+    for fault in READ_FAULTS {
+        let mut misread = Misread(fault);
+        assert_found(format!("{fault:?}"), &mut misread, Input::any_script, seed);
     }
 }

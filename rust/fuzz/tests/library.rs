@@ -18,7 +18,7 @@ const CASES: u64 = 360_000;
 fn not_one_difference() {
     let seed = seed_from_environment();
     let mut tally = Tally::default();
-    let result = compare_counting(&mut Proved, seed, CASES, &mut tally);
+    let result = compare_counting(&mut Proved, Input::any, seed, CASES, &mut tally);
     tell(format!("{CASES} cases: {tally:?}"));
     assert!(result.is_ok(), "{}", result.unwrap_err());
     assert!(tally.smt.values().sum::<u64>() >= 100_000);

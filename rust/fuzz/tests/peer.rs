@@ -10,6 +10,9 @@ use leqwarti::entries;
 /// About 21 in 48 are tables, 9 are lists, and 16 are for the text of a condition.
 const CASES: u64 = 150_000;
 
+/// Beside these, texts of scripts.
+const SCRIPTS: u64 = 100_000;
+
 /// How often each number was given.
 type Tally = BTreeMap<usize, u64>;
 
@@ -116,6 +119,41 @@ fn compare_text(list: &[i32], index: i32, room: usize, texts: &mut Tally) -> Res
     peer_text.same(&name, text.cells())
 }
 
+fn compare_reading(script: &[u8], room: usize, scripts: &mut Tally) -> Result<(), String> {
+    let (mut words, mut peer_words) = (Lent::new(room), Lent::new(room));
+    let expected = entries::read_text(script, words.cells());
+    *scripts.entry(expected.number).or_default() += 1;
+    let peer::ReadAnswer {
+        number,
+        place,
+        used,
+    } = peer::read_text(script, peer_words.cells());
+    let found = entries::ReadAnswer {
+        number,
+        place,
+        used,
+    };
+    same("script's text", expected, found)?;
+    peer_words.same("table", words.cells())
+}
+
+#[test]
+fn not_one_difference_in_scripts() {
+    let seed = seed_from_environment();
+    let mut scripts = Tally::new();
+    for case in 0..SCRIPTS {
+        let input = Input::any_script(&mut Prng::for_case(seed, case));
+        let Input::Script { text, room } = &input else {
+            continue;
+        };
+        if let Err(what) = compare_reading(text, *room, &mut scripts) {
+            panic!("seed {seed}, case {case}: {what}\n{}", input.text());
+        }
+    }
+    tell(format!("scripts {scripts:?}"));
+    assert!(scripts.keys().copied().eq([0, 40, 41, 42, 43, 44]));
+}
+
 #[test]
 fn not_one_difference() {
     let seed = seed_from_environment();
@@ -133,7 +171,7 @@ fn not_one_difference() {
                 let index = i32::try_from(*index).expect("an index of 32 bits");
                 compare_text(list, index, *room, &mut texts)
             }
-            Input::Bytes(_) => Ok(()),
+            Input::Bytes(_) | Input::Script { .. } => Ok(()),
         };
         if let Err(what) = result {
             panic!("seed {seed}, case {case}: {what}\n{}", input.text());

@@ -9,9 +9,10 @@ use std::process::{Command, Stdio};
 
 use deep::{cases, tables_by_chance, Case, Input};
 use fuzz::tell;
-use leqwarti::{entries, Plan, Record, LARGEST_SCRATCH, LONGEST_LIST};
+use leqwarti::{entries, Plan, Record, LARGEST_SCRATCH, LARGEST_TABLE};
+use leqwarti::{LONGEST_LIST, LONGEST_SCRIPT};
 
-/// What every entry must run on but the one that writes text.
+/// What every entry must run on but those that write and read text.
 const STACK: usize = 512 << 10;
 
 /// What the text of a condition must be written on.
@@ -20,80 +21,157 @@ const TEXT_STACK: usize = 2560 << 10;
 /// The bytes for that text. The longest that does not double takes 131,052.
 const TEXT_ROOM: usize = 1 << 20;
 
+/// What a script's text must be read on: a thread of Rust's has as much by
+/// default.
+const READ_STACK: usize = 2 << 20;
+
 /// Names one run: the stack's bytes, the entry, the case.
 const RUN_VARIABLE: &str = "VCGEN_STACK_RUN";
 
-/// An entry, called with words, that must answer this number.
-type Entry = (&'static str, fn(&[i32], usize));
+/// An entry's name, and a call of it that must answer this number.
+type Entry = (&'static str, Call);
+
+#[derive(Clone, Copy)]
+enum Call {
+    OnWords(fn(&[i32], usize)),
+    OnText(fn(&[u8], usize)),
+}
+
+use Call::{OnText, OnWords};
+
+/// What an entry is called with.
+enum Given {
+    Words(Vec<i32>),
+    Text(Vec<u8>),
+}
+
+impl Call {
+    fn make(self, given: &Given, number: usize) {
+        match (self, given) {
+            (OnWords(call), Given::Words(words)) => call(words, number),
+            (OnText(call), Given::Text(text)) => call(text, number),
+            _ => panic!("an entry of another input"),
+        }
+    }
+}
 
 const TABLE_ENTRIES: [Entry; 4] = [
-    ("check", |table, number| {
-        // The check knows nothing of rooms.
-        let expected = if number > 10 { 0 } else { number };
-        assert_eq!(entries::check(table).number, expected);
-    }),
-    ("generate", |table, number| {
-        let (mut list, mut scratch) = buffers();
-        let answer = entries::generate(table, &mut list, &mut scratch);
-        assert_eq!(answer.number, number);
-    }),
-    ("generate_records", |table, number| {
-        let record = |&[kind, first, second, third]: &[i32; 4]| Record {
-            kind,
-            first,
-            second,
-            third,
-        };
-        let records: Vec<Record> = table.as_chunks().0.iter().map(record).collect();
-        let (mut list, mut scratch) = buffers();
-        let answer = entries::generate_records(&records, &mut list, &mut scratch);
-        assert_eq!(answer.number, number);
-    }),
-    ("plan", |table, number| match leqwarti::plan(table) {
-        Ok(plan) => {
-            assert_eq!(number, 0);
-            write_out(&plan);
-        }
-        Err(refusal) => assert_eq!(usize::from(refusal.reason.number()), number),
-    }),
+    (
+        "check",
+        OnWords(|table, number| {
+            // The check knows nothing of rooms.
+            let expected = if number > 10 { 0 } else { number };
+            assert_eq!(entries::check(table).number, expected);
+        }),
+    ),
+    (
+        "generate",
+        OnWords(|table, number| {
+            let (mut list, mut scratch) = buffers();
+            let answer = entries::generate(table, &mut list, &mut scratch);
+            assert_eq!(answer.number, number);
+        }),
+    ),
+    (
+        "generate_records",
+        OnWords(|table, number| {
+            let record = |&[kind, first, second, third]: &[i32; 4]| Record {
+                kind,
+                first,
+                second,
+                third,
+            };
+            let records: Vec<Record> = table.as_chunks().0.iter().map(record).collect();
+            let (mut list, mut scratch) = buffers();
+            let answer = entries::generate_records(&records, &mut list, &mut scratch);
+            assert_eq!(answer.number, number);
+        }),
+    ),
+    (
+        "plan",
+        OnWords(|table, number| match leqwarti::plan(table) {
+            Ok(plan) => {
+                assert_eq!(number, 0);
+                write_out(&plan);
+            }
+            Err(refusal) => assert_eq!(usize::from(refusal.reason.number()), number),
+        }),
+    ),
 ];
 
 /// The entry that writes text.
 const TEXT_ENTRY: &str = "smt";
 
 const LIST_ENTRIES: [Entry; 5] = [
-    ("line_at", |list, number| {
-        assert_eq!(entries::line_at(list, 0).number, number);
-    }),
-    ("first_place", |list, number| {
-        let place = if number == 0 { list.len() - 1 } else { 1 };
-        assert_eq!(entries::first_place(list), place);
-    }),
-    ("step", |list, number| {
-        let mut place = list.len() - 1;
-        assert_eq!(entries::step(list, &mut place).number, number);
-    }),
-    ("Plan::read", |list, number| {
-        let plan = Plan::read(list.to_vec());
-        assert_eq!(plan.is_ok(), number == 0);
-        if let Ok(plan) = plan {
-            write_out(&plan);
-        }
-    }),
-    (TEXT_ENTRY, |list, _| {
-        // The reference keeps a stack of its own.
-        let expected = reference::smt(list, 0, TEXT_ROOM);
-        let mut text = vec![b'?'; TEXT_ROOM];
-        let written = entries::smt(list, 0, &mut text);
-        assert_eq!(written.number, usize::from(expected.number));
-        assert_eq!(written.used, expected.used);
-        assert!(text == expected.buffer);
-    }),
+    (
+        "line_at",
+        OnWords(|list, number| {
+            assert_eq!(entries::line_at(list, 0).number, number);
+        }),
+    ),
+    (
+        "first_place",
+        OnWords(|list, number| {
+            let place = if number == 0 { list.len() - 1 } else { 1 };
+            assert_eq!(entries::first_place(list), place);
+        }),
+    ),
+    (
+        "step",
+        OnWords(|list, number| {
+            let mut place = list.len() - 1;
+            assert_eq!(entries::step(list, &mut place).number, number);
+        }),
+    ),
+    (
+        "Plan::read",
+        OnWords(|list, number| {
+            let plan = Plan::read(list.to_vec());
+            assert_eq!(plan.is_ok(), number == 0);
+            if let Ok(plan) = plan {
+                write_out(&plan);
+            }
+        }),
+    ),
+    (
+        TEXT_ENTRY,
+        OnWords(|list, _| {
+            // The reference keeps a stack of its own.
+            let expected = reference::smt(list, 0, TEXT_ROOM);
+            let mut text = vec![b'?'; TEXT_ROOM];
+            let written = entries::smt(list, 0, &mut text);
+            assert_eq!(written.number, usize::from(expected.number));
+            assert_eq!(written.used, expected.used);
+            assert!(text == expected.buffer);
+        }),
+    ),
+];
+
+/// The entries that read a script's text.
+const READ_ENTRIES: [Entry; 2] = [
+    (
+        "entries::read_text",
+        OnText(|text, number| {
+            let mut words = vec![7; LARGEST_TABLE];
+            let answer = entries::read_text(text, &mut words);
+            assert_eq!(answer.number, number);
+            assert!(words[answer.used..].iter().all(|&word| word == 0));
+        }),
+    ),
+    (
+        "read_text",
+        OnText(|text, number| {
+            let refusal = leqwarti::read_text(text).err();
+            let found = refusal.map_or(0, |refusal| refusal.reason.number());
+            assert_eq!(usize::from(found), number);
+        }),
+    ),
 ];
 
 fn stack_of(entry: &Entry) -> usize {
-    match entry.0 {
-        TEXT_ENTRY => TEXT_STACK,
+    match entry {
+        (TEXT_ENTRY, _) => TEXT_STACK,
+        (_, OnText(_)) => READ_STACK,
         _ => STACK,
     }
 }
@@ -113,17 +191,24 @@ impl Input {
         match self {
             Input::Table { .. } | Input::TablesByChance => &TABLE_ENTRIES,
             Input::List { .. } => &LIST_ENTRIES,
+            Input::Script(_) => &READ_ENTRIES,
         }
     }
 
-    /// The words to call an entry with, and the number that it must answer.
-    fn calls(self) -> Vec<(Vec<i32>, usize)> {
+    /// What to call an entry with, and the number that it must answer.
+    fn calls(self) -> Vec<(Given, usize)> {
         match self {
-            Input::Table { words, number } | Input::List { words, number } => vec![(words, number)],
+            Input::Table { words, number } | Input::List { words, number } => {
+                vec![(Given::Words(words), number)]
+            }
+            Input::Script(text) => {
+                let number = peer::read_text(&text, &mut vec![0; LARGEST_TABLE]).number;
+                vec![(Given::Text(text), number)]
+            }
             Input::TablesByChance => {
                 let with_number = |words: Vec<i32>| {
                     let number = number_by_peer(&words);
-                    (words, number)
+                    (Given::Words(words), number)
                 };
                 tables_by_chance().map(with_number).collect()
             }
@@ -145,6 +230,12 @@ fn the_cases_are_what_they_say() {
             Input::List { words, number } => {
                 assert_eq!(words.len(), LONGEST_LIST, "{name}");
                 assert_eq!(peer::line_at(&words, 0).number, number, "{name}");
+            }
+            Input::Script(text) => {
+                let expected = reference::read_text(&text, LARGEST_TABLE).number;
+                let found = peer::read_text(&text, &mut vec![0; LARGEST_TABLE]).number;
+                assert_eq!(found, expected as usize, "{name}");
+                assert!(text.len() <= LONGEST_SCRIPT, "{name}");
             }
             Input::TablesByChance => {}
         }
@@ -175,8 +266,10 @@ fn one_run() {
         .collect();
     let calls = input.calls();
     let work = move || {
-        for (words, number) in &calls {
-            entries.iter().for_each(|(_, call)| call(words, *number));
+        for (given, number) in &calls {
+            entries
+                .iter()
+                .for_each(|(_, call)| call.make(given, *number));
         }
     };
     let thread = std::thread::Builder::new().stack_size(stack);
@@ -218,7 +311,7 @@ fn ended_on(case: &Case, stack: usize) -> Vec<&'static str> {
 fn every_entry_runs_on_its_stack() {
     let mut ended = Vec::new();
     for case in cases() {
-        for stack in [STACK, TEXT_STACK] {
+        for stack in [STACK, TEXT_STACK, READ_STACK] {
             let entries = ended_on(&case, stack);
             if !entries.is_empty() {
                 let kibibytes = stack >> 10;

@@ -1,5 +1,5 @@
-//! A yardstick for the proved library: document 01 and requests P1 and P2 written
-//! by hand for speed.
+//! A yardstick for the proved library: document 01 and requests P1, P2 and P4
+//! written by hand for speed.
 //!
 //! Nothing of it is proved. `fuzz/tests/peer.rs` compares it with the proved
 //! library word for word, and the benchmark times the library beside it; it has
@@ -9,15 +9,16 @@
 //! occurs. [`generate`] writes the list from front to back, keeps no formula,
 //! and copies what stands in the list already. The reader goes over the words
 //! of a line once. [`smt`] writes a part once and copies it where it stands
-//! again. Nothing is taken from the heap, and working memory is cleared only as
-//! far as the table has rows, or assigns to variables; the module `stack` has the
-//! only `unsafe` code.
+//! again. [`read_text`] goes over the text once. Nothing is taken from the heap,
+//! and working memory is cleared only as far as the table has rows, or assigns to
+//! variables; the module `stack` has the only `unsafe` code.
 
 mod check;
 mod faults;
 mod generate;
 mod names;
 mod reader;
+mod script;
 mod spell;
 mod stack;
 mod text;
@@ -26,6 +27,7 @@ mod weakest;
 pub use check::check;
 pub use generate::generate;
 pub use reader::{first_place, line_at, step};
+pub use script::read_text;
 pub use text::smt;
 
 /// A row of the table: kind, first, second, third.
@@ -73,5 +75,13 @@ pub struct Line {
 #[derive(Clone, Copy, Debug, Default, PartialEq, Eq)]
 pub struct Written {
     pub number: usize,
+    pub used: usize,
+}
+
+/// What the reader of a script's text answers beside the table.
+#[derive(Clone, Copy, Debug, Default, PartialEq, Eq)]
+pub struct ReadAnswer {
+    pub number: usize,
+    pub place: usize,
     pub used: usize,
 }

@@ -3,7 +3,7 @@
 use std::io::Write;
 use std::process::{Command, Stdio};
 
-use fuzz::{Answer, Subject, Written};
+use fuzz::{Answer, ReadAnswer, Subject, Written};
 use leqwarti::entries;
 use leqwarti::Record;
 use reference::{Line, Verdict};
@@ -79,6 +79,15 @@ impl Subject for Proved {
         let found = entries::smt(list, index, text);
         Some(Written {
             number: found.number as u8,
+            used: found.used,
+        })
+    }
+
+    fn read_text(&mut self, text: &[u8], words: &mut [i32]) -> Option<ReadAnswer> {
+        let found = entries::read_text(text, words);
+        Some(ReadAnswer {
+            number: found.number as u8,
+            place: found.place,
             used: found.used,
         })
     }

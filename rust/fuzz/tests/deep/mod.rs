@@ -5,6 +5,7 @@ mod lists;
 mod rows;
 mod sequences;
 mod tables;
+mod texts;
 
 use fuzz::limits::limit_words;
 use fuzz::Prng;
@@ -19,11 +20,13 @@ pub enum Input {
     Table { words: Vec<i32>, number: usize },
     List { words: Vec<i32>, number: usize },
     TablesByChance,
+    Script(Vec<u8>),
 }
 
 pub fn cases() -> Vec<Case> {
     let mut cases = tables::cases();
     cases.extend(lists::cases());
+    cases.extend(texts::cases());
     cases.push(Case {
         name: "tables at limits, by chance".to_string(),
         input: Input::TablesByChance,
