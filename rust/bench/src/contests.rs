@@ -1,8 +1,8 @@
-//! What the contestants do: generate, check, read, write text.
+//! What the contestants do: generate, check, read, write text, read text.
 
 use std::hint::black_box;
 
-use leqwarti::{entries, LONGEST_LIST};
+use leqwarti::{entries, LARGEST_TABLE, LONGEST_LIST};
 
 use crate::timing::{Contestants, Stopwatch};
 
@@ -162,6 +162,40 @@ pub fn time_writing(watch: &Stopwatch, name: &str, list: &[i32], index: i32) {
             floor: &mut || {
                 black_box(&mut floor_text).fill(0);
                 black_box(&mut floor_text).copy_from_slice(written);
+            },
+        },
+    );
+}
+
+/// A script's text, in just the room that its table needs, or the largest where it
+/// is refused. The floor adds up the bytes, clears the room and copies the table.
+pub fn time_reading_text(watch: &Stopwatch, name: &str, text: &[u8]) {
+    let expected = reference::read_text(text, LARGEST_TABLE);
+    let table = expected.words;
+    let (outcome, room) = match expected.number {
+        0 => (format!("{} rows", table.len() / 4), table.len()),
+        number => (format!("refused {number}"), LARGEST_TABLE),
+    };
+    let buffer = || vec![0; room];
+    let (mut words, mut peer_words, mut floor_words) = (buffer(), buffer(), buffer());
+    watch.print_rates(
+        &format!("{name} ({outcome})"),
+        text.len(),
+        Contestants {
+            proved: &mut || {
+                black_box(entries::read_text(black_box(text), &mut words));
+            },
+            peer: &mut || {
+                black_box(peer::read_text(black_box(text), &mut peer_words));
+            },
+            second: &mut || {
+                black_box(reference::read_text(black_box(text), room));
+            },
+            floor: &mut || {
+                let sum = |sum: u8, byte: &u8| sum.wrapping_add(*byte);
+                black_box(black_box(text).iter().fold(0, sum));
+                black_box(&mut floor_words).fill(0);
+                black_box(&mut floor_words)[..table.len()].copy_from_slice(&table);
             },
         },
     );

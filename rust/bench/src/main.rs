@@ -6,21 +6,23 @@
 //!
 //! The floor is what any of them must do: clear both buffers and copy the words
 //! of the list; for what only reads, add up all words once; for the text of a
-//! condition, clear its room and copy it.
+//! condition, clear its room and copy it; for a script's text, add up its bytes,
+//! clear the room of its table and copy the table.
 //!
 //! `--rounds N` for fewer rounds or more.
 
 mod clock;
 mod contests;
 mod scripts;
+mod texts;
 mod timing;
 
 use contests::{
     time_checking, time_generating, time_generating_at_the_need, time_reading_at,
-    time_reading_back, time_writing,
+    time_reading_back, time_reading_text, time_writing,
 };
 use fuzz::scripts::EXAMPLE_A;
-use leqwarti::{LARGEST_SCRATCH, LONGEST_LIST};
+use leqwarti::{LARGEST_SCRATCH, LONGEST_LIST, LONGEST_SCRIPT};
 use timing::Stopwatch;
 
 const USUAL_ROUNDS: usize = 31;
@@ -154,6 +156,29 @@ fn time_texts(watch: &Stopwatch) {
     }
 }
 
+/// Texts of each kind at four lengths: the rates tell whether the time grows as
+/// the text does.
+fn time_scripts(watch: &Stopwatch) {
+    let kinds: [(&str, fn(usize) -> Vec<u8>); 6] = [
+        ("loops", texts::loops),
+        ("short assignments", texts::assignments),
+        ("brackets", texts::brackets),
+        ("sums in brackets", texts::nested_sums),
+        ("blanks", texts::blanks),
+        ("loops after a wrong token", texts::loops_refused),
+    ];
+    for (name, text) in kinds {
+        for bytes in [
+            LONGEST_SCRIPT / 32,
+            LONGEST_SCRIPT / 8,
+            LONGEST_SCRIPT / 2,
+            LONGEST_SCRIPT,
+        ] {
+            time_reading_text(watch, name, &text(bytes));
+        }
+    }
+}
+
 fn main() {
     let arguments: Vec<String> = std::env::args().skip(1).collect();
     let Some(rounds) = rounds(&arguments) else {
@@ -166,6 +191,8 @@ fn main() {
     time_exponential_lists(&watch);
     time_refusals(&watch);
     time_readings(&watch);
-    watch.print_head_of_rates();
+    watch.print_head_of_rates("Text of a condition");
     time_texts(&watch);
+    watch.print_head_of_rates("Script's text");
+    time_scripts(&watch);
 }

@@ -53,9 +53,9 @@ impl Stopwatch {
         self.print_row(&format!("{case:<48}"), contestants, microseconds);
     }
 
-    pub fn print_head_of_rates(&self) {
+    pub fn print_head_of_rates(&self, what: &str) {
         println!();
-        println!("Text of a condition: megabytes per second; the ratios are of times, as above.");
+        println!("{what}: megabytes per second; the ratios are of times, as above.");
         println!();
         println!(
             "| case | bytes | proved | peer | proved / peer | floor | second | proved / second |"
@@ -63,7 +63,7 @@ impl Stopwatch {
         println!("|---|--:|--:|--:|--:|--:|--:|--:|");
     }
 
-    /// A row for contestants that each write so many bytes.
+    /// A row for contestants that each write, or read, so many bytes.
     pub fn print_rates(&self, case: &str, bytes: usize, contestants: Contestants) {
         let label = format!("{case:<48} | {bytes:>7}");
         self.print_row(&label, contestants, |time| {

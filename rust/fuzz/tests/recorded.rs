@@ -22,66 +22,16 @@
 //! library from before P2, also that of group 5, where some inputs hold such
 //! numbers and are refused as they were.
 
+mod digest;
 mod frozen;
 
-use std::collections::BTreeMap;
-
+use digest::{compare, expect, junk, Digest};
 use frozen::limits::script_at_a_limit;
 use frozen::lists::{few_words, list, tear};
 use frozen::numbers::{list_has_new_number, put_at_edges, renumbered_script, table_has_new_number};
 use frozen::tables::{altered_script, faulty_script, random_rows, script, Script};
 use frozen::Chance;
-use fuzz::tell;
 use leqwarti::{entries, Record, LONGEST_LIST};
-
-/// FNV-1a, a word at a time in place of a byte.
-struct Digest {
-    hash: u64,
-    inputs: u64,
-    /// How often each number was answered, for those who read the log.
-    numbers: BTreeMap<usize, u64>,
-}
-
-impl Digest {
-    fn new() -> Digest {
-        Digest {
-            hash: 0xCBF2_9CE4_8422_2325,
-            inputs: 0,
-            numbers: BTreeMap::new(),
-        }
-    }
-
-    fn add(&mut self, number: u64) {
-        self.hash = (self.hash ^ number).wrapping_mul(0x100_0000_01B3);
-    }
-
-    fn add_words(&mut self, words: &[i32]) {
-        self.add(words.len() as u64);
-        words.iter().for_each(|&word| self.add(word as u64));
-    }
-
-    fn add_answer(&mut self, answer: entries::Answer) {
-        *self.numbers.entry(answer.number).or_default() += 1;
-        for part in [answer.number, answer.row, answer.conditions, answer.words] {
-            self.add(part as u64);
-        }
-    }
-
-    fn add_text(&mut self, written: entries::Written, text: &[u8]) {
-        *self.numbers.entry(written.number).or_default() += 1;
-        for part in [written.number, written.used, text.len()] {
-            self.add(part as u64);
-        }
-        text.iter().for_each(|&byte| self.add(u64::from(byte)));
-    }
-
-    fn add_line(&mut self, line: entries::Line) {
-        *self.numbers.entry(line.number).or_default() += 1;
-        for part in [line.number, line.kind, line.row, line.start, line.end] {
-            self.add(part as u64);
-        }
-    }
-}
 
 /// The digests of a split group: of the inputs that hold none of the variable
 /// numbers that P2 made ordinary, and of the others.
@@ -100,16 +50,6 @@ impl Digests {
         digest.inputs += 1;
         digest
     }
-}
-
-/// Runs the inputs of a group and compares the digest with the one recorded.
-fn compare(group: u64, inputs: u64, recorded: u64, run: fn(&mut Chance, &mut Digest)) {
-    let mut digest = Digest::new();
-    for input in 0..inputs {
-        run(&mut Chance::of_input(group, input), &mut digest);
-        digest.inputs += 1;
-    }
-    expect(&format!("group {group}"), recorded, digest);
 }
 
 /// Runs inputs of a group until so many hold none of the numbers that P2 made
@@ -133,27 +73,6 @@ fn compare_split(group: u64, inputs: u64, recorded: [u64; 2], run: fn(&mut Chanc
         digests.from_before_p2,
     );
     expect(&name("since P2"), since_p2, digests.since_p2);
-}
-
-/// Tells what a digest is of, and compares it with the one recorded.
-fn expect(name: &str, recorded: u64, digest: Digest) {
-    let Digest {
-        hash,
-        inputs,
-        numbers,
-    } = digest;
-    tell(format!(
-        "{name}, {inputs} inputs: {hash:#018x}, numbers {numbers:?}"
-    ));
-    assert_eq!(
-        hash, recorded,
-        "{name}: {hash:#018x} in place of {recorded:#018x}"
-    );
-}
-
-/// What stands in a buffer before a call.
-fn junk(length: usize) -> Vec<i32> {
-    vec![0x5A5A_5A5A; length]
 }
 
 fn digest_table(words: &[i32], list_len: usize, scratch_len: usize, digest: &mut Digest) {

@@ -2,11 +2,15 @@
 //! every digest, so new inputs go to a group of their own. Nothing here is used
 //! by another test, and nothing is taken from one.
 
+#![allow(dead_code)] // each file of recorded answers uses a part of it
+
 pub mod formulas;
 pub mod limits;
 pub mod lists;
+pub mod noise;
 pub mod numbers;
 pub mod tables;
+pub mod texts;
 
 /// A source of numbers that are the same for ever (SplitMix64).
 pub struct Chance(u64);
@@ -36,6 +40,10 @@ impl Chance {
     }
 
     pub fn pick(&mut self, from: &[i32]) -> i32 {
+        self.any_of(from)
+    }
+
+    pub fn any_of<T: Copy>(&mut self, from: &[T]) -> T {
         from[self.below(from.len())]
     }
 

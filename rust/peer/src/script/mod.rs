@@ -80,11 +80,13 @@ impl Reader<'_> {
         number
     }
 
+    #[inline(always)]
     fn note_out_of_range(&mut self) {
         self.out_of_range = self.out_of_range.min(self.tokens.place);
     }
 
     /// The row of the mark whose numeral is at hand.
+    #[inline(always)]
     pub fn mark(&mut self) -> u16 {
         let outward = self.tokens.number as usize;
         let body = self.bodies.len().wrapping_sub(outward);
@@ -101,11 +103,13 @@ impl Reader<'_> {
         self.put(9, [before, 0, 0])
     }
 
+    #[inline(always)]
     pub fn open_body(&mut self) {
         self.bodies.push(NO_MARK);
     }
 
     /// The marks of the innermost body name the row of its loop.
+    #[inline(always)]
     pub fn close_body(&mut self, row: u16) {
         let mut mark = self.bodies.pop().unwrap_or(NO_MARK);
         while let Some(place) = self.rows.get_mut(mark as usize) {

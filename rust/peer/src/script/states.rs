@@ -24,6 +24,7 @@ pub type Step = Result<State, Wrong>;
 
 impl Reader<'_> {
     /// The whole text. Where it is none, the token at hand is the first wrong one.
+    #[inline(always)]
     pub fn script(&mut self) -> Result<(), Wrong> {
         self.tokens.advance();
         self.expect(Token::Pre)?;

@@ -218,7 +218,7 @@ impl<'a> Tokens<'a> {
 
     /// The first place from here on that begins no token.
     #[cold]
-    pub fn first_that_is_none(&mut self) -> Option<usize> {
+    pub fn first_that_is_none(mut self) -> Option<usize> {
         while self.token != Token::End {
             if self.token == Token::Nothing {
                 return Some(self.place);

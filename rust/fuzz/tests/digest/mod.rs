@@ -1,0 +1,98 @@
+//! Digests of recorded answers.
+
+#![allow(dead_code)] // each file of recorded answers uses a part of it
+
+use std::collections::BTreeMap;
+
+use fuzz::tell;
+use leqwarti::entries;
+
+use crate::frozen::Chance;
+
+/// FNV-1a, a word at a time in place of a byte.
+pub struct Digest {
+    hash: u64,
+    pub inputs: u64,
+    /// How often each number was answered, for those who read the log.
+    numbers: BTreeMap<usize, u64>,
+}
+
+impl Digest {
+    pub fn new() -> Digest {
+        Digest {
+            hash: 0xCBF2_9CE4_8422_2325,
+            inputs: 0,
+            numbers: BTreeMap::new(),
+        }
+    }
+
+    pub fn add(&mut self, number: u64) {
+        self.hash = (self.hash ^ number).wrapping_mul(0x100_0000_01B3);
+    }
+
+    pub fn add_words(&mut self, words: &[i32]) {
+        self.add(words.len() as u64);
+        words.iter().for_each(|&word| self.add(word as u64));
+    }
+
+    pub fn add_answer(&mut self, answer: entries::Answer) {
+        *self.numbers.entry(answer.number).or_default() += 1;
+        for part in [answer.number, answer.row, answer.conditions, answer.words] {
+            self.add(part as u64);
+        }
+    }
+
+    pub fn add_text(&mut self, written: entries::Written, text: &[u8]) {
+        *self.numbers.entry(written.number).or_default() += 1;
+        for part in [written.number, written.used, text.len()] {
+            self.add(part as u64);
+        }
+        text.iter().for_each(|&byte| self.add(u64::from(byte)));
+    }
+
+    pub fn add_table(&mut self, answer: entries::ReadAnswer, words: &[i32]) {
+        *self.numbers.entry(answer.number).or_default() += 1;
+        for part in [answer.number, answer.place, answer.used] {
+            self.add(part as u64);
+        }
+        self.add_words(words);
+    }
+
+    pub fn add_line(&mut self, line: entries::Line) {
+        *self.numbers.entry(line.number).or_default() += 1;
+        for part in [line.number, line.kind, line.row, line.start, line.end] {
+            self.add(part as u64);
+        }
+    }
+}
+
+/// Runs the inputs of a group and compares the digest with the one recorded.
+pub fn compare(group: u64, inputs: u64, recorded: u64, run: fn(&mut Chance, &mut Digest)) {
+    let mut digest = Digest::new();
+    for input in 0..inputs {
+        run(&mut Chance::of_input(group, input), &mut digest);
+        digest.inputs += 1;
+    }
+    expect(&format!("group {group}"), recorded, digest);
+}
+
+/// Tells what a digest is of, and compares it with the one recorded.
+pub fn expect(name: &str, recorded: u64, digest: Digest) {
+    let Digest {
+        hash,
+        inputs,
+        numbers,
+    } = digest;
+    tell(format!(
+        "{name}, {inputs} inputs: {hash:#018x}, numbers {numbers:?}"
+    ));
+    assert_eq!(
+        hash, recorded,
+        "{name}: {hash:#018x} in place of {recorded:#018x}"
+    );
+}
+
+/// What stands in a buffer before a call.
+pub fn junk(length: usize) -> Vec<i32> {
+    vec![0x5A5A_5A5A; length]
+}
