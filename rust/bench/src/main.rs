@@ -159,15 +159,7 @@ fn time_texts(watch: &Stopwatch) {
 /// Texts of each kind at four lengths: the rates tell whether the time grows as
 /// the text does.
 fn time_scripts(watch: &Stopwatch) {
-    let kinds: [(&str, fn(usize) -> Vec<u8>); 6] = [
-        ("loops", texts::loops),
-        ("short assignments", texts::assignments),
-        ("brackets", texts::brackets),
-        ("sums in brackets", texts::nested_sums),
-        ("blanks", texts::blanks),
-        ("loops after a wrong token", texts::loops_refused),
-    ];
-    for (name, text) in kinds {
+    for (name, text) in texts::KINDS {
         for bytes in [
             LONGEST_SCRIPT / 32,
             LONGEST_SCRIPT / 8,

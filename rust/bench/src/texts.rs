@@ -1,5 +1,17 @@
 //! The scripts' texts that are read.
 
+/// Makes a text of so many bytes.
+type Making = fn(usize) -> Vec<u8>;
+
+pub const KINDS: [(&str, Making); 6] = [
+    ("loops", loops),
+    ("short assignments", assignments),
+    ("brackets", brackets),
+    ("sums in brackets", nested_sums),
+    ("blanks", blanks),
+    ("loops after a wrong token", loops_refused),
+];
+
 const FIRST: &str = "pre 0 <= v0;\n";
 const LAST: &str = "post v0 = 0\n";
 
@@ -29,17 +41,17 @@ fn filled(first: &str, each: &str, last: &str, bytes: usize) -> Vec<u8> {
 }
 
 /// Loops one after the other.
-pub fn loops(bytes: usize) -> Vec<u8> {
+fn loops(bytes: usize) -> Vec<u8> {
     filled(FIRST, LOOP, LAST, bytes)
 }
 
 /// The shortest assignments, one after the other.
-pub fn assignments(bytes: usize) -> Vec<u8> {
+fn assignments(bytes: usize) -> Vec<u8> {
     filled(FIRST, "v1:=v1+1;", LAST, bytes)
 }
 
 /// A formula in as many brackets as there is room for.
-pub fn brackets(bytes: usize) -> Vec<u8> {
+fn brackets(bytes: usize) -> Vec<u8> {
     let (first, last) = ("pre ", ";skip;post true");
     let depth = (bytes - first.len() - last.len() - 6) / 2;
     let (open, close) = ("(".repeat(depth), ")".repeat(depth));
@@ -47,7 +59,7 @@ pub fn brackets(bytes: usize) -> Vec<u8> {
 }
 
 /// A sum in as many brackets: each holds what stands before it.
-pub fn nested_sums(bytes: usize) -> Vec<u8> {
+fn nested_sums(bytes: usize) -> Vec<u8> {
     let (first, last) = ("pre 0<", ";skip;post true");
     let depth = (bytes - first.len() - last.len() - 6) / 4;
     let (open, close) = ("(".repeat(depth), "+1)".repeat(depth));
@@ -55,12 +67,12 @@ pub fn nested_sums(bytes: usize) -> Vec<u8> {
 }
 
 /// Blanks alone, which no text may be.
-pub fn blanks(bytes: usize) -> Vec<u8> {
+fn blanks(bytes: usize) -> Vec<u8> {
     vec![b' '; bytes]
 }
 
 /// Loops with one thing too many in front: what follows is looked at for bytes
 /// that begin no token.
-pub fn loops_refused(bytes: usize) -> Vec<u8> {
+fn loops_refused(bytes: usize) -> Vec<u8> {
     filled("skip;", LOOP, LAST, bytes)
 }
