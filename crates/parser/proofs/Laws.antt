@@ -4,7 +4,8 @@ use mathlib.Core.Path.{_≡_, refl, sym, ap, _∙_}
 use mathlib.Core.Bool.{Bool, true, false, cond, _&&_, _||_}
 use mathlib.Core.List.{List, [], _∷_}
 use native.Mathlib.Omega.{arith as linear}
-use borrow.Author.Tests.{lt-ltb, le-ltb, le-leb, lt-leb, eq-eqb, ne-eqb}
+use borrow.Author.Tests.{lt-ltb, le-ltb, le-leb, lt-leb, eq-eqb, ne-eqb, leb-true}
+use Rattle.grammar.specs.Fronts.{both}
 use lib.Dec.{eqb, leb, ltb}
 use lib.IntN.{ℤ, pos, negsuc, _-ℤ_}
 use lib.Signed.{mag}
@@ -138,3 +139,14 @@ module _ (st : List ℕ) (b : ℕ) where
 -- what is left, field by field
 pub left-fields : (x y : Reduced) → x ≡ y → (x .sort ≡ y .sort) × ((x .rows ≡ y .rows) × ((x .top ≡ y .top) × (x .words ≡ y .words)))
 left-fields x y e = (ap (λ (z : Reduced). z .sort) e, (ap (λ (z : Reduced). z .rows) e, (ap (λ (z : Reduced). z .top) e, ap (λ (z : Reduced). z .words) e)))
+
+-- ---- letters are small: a test that is computed over a table
+
+abbrev all-small : List ℕ → Bool
+all-small [] = true
+all-small (l ∷ ls) = leb l 255 && all-small ls
+
+pub small : (ls : List ℕ) (n : ℕ) → all-small ls ≡ true → getD ls n 0 ≤ 255
+small [] n h = omega linear
+small (l ∷ ls) zero h = leb-true l 255 (both (leb l 255) (all-small ls) h .0)
+small (l ∷ ls) (suc n) h = small ls n (both (leb l 255) (all-small ls) h .1)

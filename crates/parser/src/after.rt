@@ -33,13 +33,13 @@ ghost use Rattle.parser.specs.Machine.{reduce as Machine·reduce, close 
 
 // What is left when operators have taken a part: its sort, rows written, frames.
 pub struct Reduction {
-    pub sort: u8,
+    pub sort: usize,
     pub rows: usize,
     pub top: usize,
 }
 
 // Operators that hold the part at least so tight take it, and their rows are written. The sort 0 says that one did not fit.
-fn reduce(stack: &[u32], words: &mut [i32], tight: u8, start: Reduction) -> Reduction
+fn reduce(stack: &[u32], words: &mut [i32], tight: usize, start: Reduction) -> Reduction
     ensures sort { λ r. ⌜ r .sort ≡ Machine·reduce (now (stack .entry)) tight (start .top) (start .sort) (start .rows) (now (words .entry)) .sort ⌝ }
     ensures rows { λ r. ⌜ r .rows ≡ Machine·reduce (now (stack .entry)) tight (start .top) (start .sort) (start .rows) (now (words .entry)) .rows ⌝ }
     ensures top { λ r. ⌜ r .top ≡ Machine·reduce (now (stack .entry)) tight (start .top) (start .sort) (start .rows) (now (words .entry)) .top ⌝ }
@@ -131,7 +131,7 @@ fn close_mark(words: &mut [i32], s: State) -> State
     ensures words { λ r. ⌜ now (words .exit) ≡ close-mark (config s [] (now (words .entry))) .words ⌝ }
 {
     let rows = write_row(words, s.rows, kinds::MARK, s.number, 0, 0);
-    complete(s, b'E', rows, below(s.top))
+    complete(s, symbols::EXPRESSION, rows, below(s.top))
 }
 
 // The note is written, and the body begins.

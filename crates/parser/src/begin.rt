@@ -20,6 +20,7 @@ use crate::states::refused;
 use crate::symbols;
 use crate::symbols::beginning;
 use crate::symbols::hole;
+use scanner::tokens;
 use script::VARIABLES;
 use script::kinds;
 ghost use mathlib.Core.Path.{_≡_};
@@ -72,9 +73,9 @@ fn begin_constant(words: &mut [i32], s: State, minus: bool, n: usize, place: usi
     let next = noted(s, n <= largest(minus), place);
     let top = s.top;
     if minus {
-        complete(next, b'E', rows, below(top))
+        complete(next, symbols::EXPRESSION, rows, below(top))
     } else {
-        complete(next, b'E', rows, top)
+        complete(next, symbols::EXPRESSION, rows, top)
     }
 }
 
@@ -84,10 +85,10 @@ fn begin_numeral(stack: &[u32], words: &mut [i32], s: State, n: usize, place: us
 {
     let top = top_frame(stack, s.top);
     let h = hole(top);
-    if h == b'N' {
+    if h == symbols::NUMBER {
         return begin_count(s, n, place);
     }
-    if begins(h, b'E') {
+    if begins(h, symbols::EXPRESSION) {
         begin_constant(words, s, top % 64 == symbols::NEGATE, n, place)
     } else {
         refused(s, place)
@@ -101,7 +102,7 @@ fn begin_variable(words: &mut [i32], s: State, v: usize, place: usize) -> State
     let in_range = v < VARIABLES;
     let rows = write_row(words, s.rows, kinds::VARIABLE, kept(in_range, v), 0, 0);
     let top = s.top;
-    complete(noted(s, in_range, place), b'E', rows, top)
+    complete(noted(s, in_range, place), symbols::EXPRESSION, rows, top)
 }
 
 fn begin_assignment(stack: &mut [u32], s: State, v: usize, place: usize) -> State
@@ -119,10 +120,10 @@ fn begin_name(stack: &mut [u32], words: &mut [i32], s: State, v: usize, place: u
     ensures words { λ r. ⌜ now (words .exit) ≡ begin-name (config s (now (stack .entry)) (now (words .entry))) v place .words ⌝ }
 {
     let h = hole(top_frame(stack, s.top));
-    if h == b'S' {
+    if h == symbols::STATEMENT {
         return begin_assignment(stack, s, v, place);
     }
-    if begins(h, b'E') {
+    if begins(h, symbols::EXPRESSION) {
         begin_variable(words, s, v, place)
     } else {
         refused(s, place)
@@ -142,7 +143,7 @@ fn is_leaf(token: usize) -> bool
 }
 
 // The frame that a token opens where a part with this letter is due.
-fn opened(token: usize, h: u8) -> usize
+fn opened(token: usize, h: usize) -> usize
     ensures { λ r. ⌜ r ≡ Machine·opened token h ⌝ }
 {
     match token {
@@ -151,8 +152,8 @@ fn opened(token: usize, h: u8) -> usize
         kinds::IF => symbols::IF_GUARD,
         kinds::WHILE => symbols::WHILE_GUARD,
         kinds::SCRIPT => symbols::PRECONDITION,
-        40 => {
-            if h == b'E' {
+        tokens::OPEN => {
+            if h == symbols::EXPRESSION {
                 symbols::EXPRESSION_GROUP
             } else {
                 symbols::GROUP
@@ -219,8 +220,8 @@ pub fn begin(
     ensures words { λ r. ⌜ now (words .exit) ≡ Machine·begin (config s (now (stack .entry)) (now (words .entry))) token value place .words ⌝ }
 {
     match token {
-        1 => begin_numeral(stack, words, s, value, place),
-        2 => begin_name(stack, words, s, value, place),
+        tokens::NUMERAL => begin_numeral(stack, words, s, value, place),
+        tokens::VARIABLE => begin_name(stack, words, s, value, place),
         _ => begin_word(stack, words, s, token, place),
     }
 }

@@ -9,6 +9,7 @@ mod states; // what a move leaves
 mod begin; // a token where a part begins
 mod after; // a token after a part
 
+use scanner::tokens;
 use script::kinds;
 ghost use mathlib.Core.Path.{_≡_};
 ghost use mathlib.Core.List.{[]};
@@ -34,7 +35,7 @@ pub const NOWHERE: usize = 65535;
 pub struct State {
     pub mode: usize,
     // after a part: its sort
-    pub sort: u8,
+    pub sort: usize,
     // after the k of a mark: k
     pub number: usize,
     // loops whose body is open
@@ -56,8 +57,8 @@ fn at_post(stack: &mut [u32], words: &mut [i32], s: State, place: usize) -> Stat
     ensures words { λ r. ⌜ now (words .exit) ≡ at-post (config s (now (stack .entry)) (now (words .entry))) place .words ⌝ }
 {
     if frames::top_frame(stack, s.top) % 64 == kinds::SEQUENCE {
-        let before = states::complete(s, b'S', s.rows, frames::below(s.top));
-        after::after(stack, words, before, 50, place)
+        let before = states::complete(s, symbols::STATEMENT, s.rows, frames::below(s.top));
+        after::after(stack, words, before, tokens::POST, place)
     } else {
         states::refused(s, place)
     }
@@ -86,7 +87,7 @@ fn take_part(
     ensures stack { λ r. ⌜ now (stack .exit) ≡ take-part (config s (now (stack .entry)) (now (words .entry))) token value place .stack ⌝ }
     ensures words { λ r. ⌜ now (words .exit) ≡ take-part (config s (now (stack .entry)) (now (words .entry))) token value place .words ⌝ }
 {
-    if token == 50 {
+    if token == tokens::POST {
         at_post(stack, words, s, place)
     } else {
         begin::begin(stack, words, s, token, value, place)
@@ -98,7 +99,7 @@ fn take_after(stack: &mut [u32], words: &mut [i32], s: State, token: usize, plac
     ensures stack { λ r. ⌜ now (stack .exit) ≡ take-after (config s (now (stack .entry)) (now (words .entry))) token place .stack ⌝ }
     ensures words { λ r. ⌜ now (words .exit) ≡ take-after (config s (now (stack .entry)) (now (words .entry))) token place .words ⌝ }
 {
-    if token == 50 {
+    if token == tokens::POST {
         states::refused(s, place)
     } else {
         after::after(stack, words, s, token, place)
@@ -122,8 +123,8 @@ pub fn take(
     match mode {
         PART => take_part(stack, words, s, token, value, place),
         AFTER => take_after(stack, words, s, token, place),
-        BRACKET => expect(s, token, 40, place),
-        BECOMES => expect(s, token, 33, place),
+        BRACKET => expect(s, token, tokens::OPEN, place),
+        BECOMES => expect(s, token, tokens::BECOMES, place),
         _ => s,
     }
 }

@@ -4,6 +4,7 @@ use crate::AFTER;
 use crate::NOWHERE;
 use crate::REFUSED;
 use crate::State;
+use crate::symbols;
 ghost use mathlib.Core.Path.{_≡_};
 ghost use Rattle.parser.specs.Machine.{refused as Machine·refused, complete as Machine·complete, due as Machine·due, noted as Machine·noted, kept as Machine·kept, counted as Machine·counted, with-bodies, with-rows};
 
@@ -17,7 +18,7 @@ pub fn refused(s: State, place: usize) -> State
 }
 
 // A part is complete.
-pub fn complete(s: State, sort: u8, rows: usize, top: usize) -> State
+pub fn complete(s: State, sort: usize, rows: usize, top: usize) -> State
     ensures { λ r. ⌜ r ≡ Machine·complete s sort rows top ⌝ }
 {
     let mut next = s;
@@ -65,7 +66,7 @@ pub fn counted(s: State, k: usize) -> State
 {
     let mut next = s;
     next.mode = AFTER;
-    next.sort = b'N';
+    next.sort = symbols::NUMBER;
     next.number = k;
     next
 }

@@ -7,6 +7,18 @@ ghost use Prim.Native.Nat.{_%_};
 ghost use lib.ListN.{getD};
 ghost use Rattle.parser.specs.Symbols.{holds, holes, makes, ends, binds, takes, begins, closes};
 
+// ---- sorts
+
+pub const NUMBER: usize = 78;
+
+pub const EXPRESSION: usize = 69;
+
+pub const FORMULA: usize = 70;
+
+pub const STATEMENT: usize = 83;
+
+pub const EITHER: usize = 66;
+
 // ---- frames: operators that wait for the part right of them, and places of forms
 
 pub const NEGATE: usize = 8;
@@ -59,50 +71,50 @@ const BEGINS: [u8; 64] = *b"____E____EE_____FF____F_________S__SS_S_E_______X___
 // the end that a token is
 const CLOSES: [u8; 64] = *b"----------------------------------;------),tlekf-dp$------------";
 
-pub fn hold(frame: usize) -> u8
+pub fn hold(frame: usize) -> usize
     ensures { λ r. ⌜ r ≡ getD holds (frame % 64) 0 ⌝ }
 {
-    HOLDS[frame % 64]
+    HOLDS[frame % 64] as usize
 }
 
-pub fn hole(frame: usize) -> u8
+pub fn hole(frame: usize) -> usize
     ensures { λ r. ⌜ r ≡ getD holes (frame % 64) 0 ⌝ }
 {
-    HOLES[frame % 64]
+    HOLES[frame % 64] as usize
 }
 
-pub fn maker(frame: usize) -> u8
+pub fn maker(frame: usize) -> usize
     ensures { λ r. ⌜ r ≡ getD makes (frame % 64) 0 ⌝ }
 {
-    MAKES[frame % 64]
+    MAKES[frame % 64] as usize
 }
 
-pub fn end_of(frame: usize) -> u8
+pub fn end_of(frame: usize) -> usize
     ensures { λ r. ⌜ r ≡ getD ends (frame % 64) 0 ⌝ }
 {
-    ENDS[frame % 64]
+    ENDS[frame % 64] as usize
 }
 
-pub fn binding(token: usize) -> u8
+pub fn binding(token: usize) -> usize
     ensures { λ r. ⌜ r ≡ getD binds (token % 64) 0 ⌝ }
 {
-    BINDS[token % 64]
+    BINDS[token % 64] as usize
 }
 
-pub fn operand_sort(token: usize) -> u8
+pub fn operand_sort(token: usize) -> usize
     ensures { λ r. ⌜ r ≡ getD takes (token % 64) 0 ⌝ }
 {
-    TAKES[token % 64]
+    TAKES[token % 64] as usize
 }
 
-pub fn beginning(token: usize) -> u8
+pub fn beginning(token: usize) -> usize
     ensures { λ r. ⌜ r ≡ getD begins (token % 64) 0 ⌝ }
 {
-    BEGINS[token % 64]
+    BEGINS[token % 64] as usize
 }
 
-pub fn closing(token: usize) -> u8
+pub fn closing(token: usize) -> usize
     ensures { λ r. ⌜ r ≡ getD closes (token % 64) 0 ⌝ }
 {
-    CLOSES[token % 64]
+    CLOSES[token % 64] as usize
 }

@@ -76,8 +76,8 @@ module _ (bs : List ℕ) (c₀ c : Config) (p : ℕ) (g : Going bs c₀ c p) (in
           record {
             within = w .1;
             comes =
-              ap (λ (k : ℕ). after-scan (rest bs k) d) next ∙ ap (λ (x : Config). after-scan (rest bs (p + f .size)) x) at
-              ∙ sym (with-first-after lx (rest bs (p + f .size)) c) ∙ ap (λ (r : Scanned). after-scan r c) (sym s) ∙ g .comes;
+                ap (λ (k : ℕ). after-scan (rest bs k) d) next ∙ ap (λ (x : Config). after-scan (rest bs (p + f .size)) x) at
+                ∙ sym (with-first-after lx (rest bs (p + f .size)) c) ∙ ap (λ (r : Scanned). after-scan r c) (sym s) ∙ g .comes;
             bad = ap (λ (k : ℕ). bad-place (rest bs k)) next ∙ sym (with-first-bad lx (rest bs (p + f .size))) ∙ ap bad-place (sym s) ∙ g .bad;
             words-kept = l ∙ g .words-kept;
             stack-kept = m ∙ g .stack-kept;
@@ -109,8 +109,8 @@ ended bs c₀ c p g h d e l r w q = at-scan (scan bs) (sym (g .comes) ∙ ap (λ
         record {
           stops = λ k z. none-is-not (sym b ∙ ap bad-place z);
           goes = λ ls z.
-            let m : run c₀ ls ≡ d = some-inj (ap (λ (x : Scanned). after-scan x c₀) (sym z) ∙ a) ∙ sym e in
-            (w, (q ∙ ap (λ (x : Config). x .state) (sym m), ap (λ (x : Config). x .words) (sym m)));
+              let m : run c₀ ls ≡ d = some-inj (ap (λ (x : Scanned). after-scan x c₀) (sym z) ∙ a) ∙ sym e in
+              (w, (q ∙ ap (λ (x : Config). x .state) (sym m), ap (λ (x : Config). x .words) (sym m)));
           size = l ∙ g .words-kept;
         }
 

@@ -63,8 +63,8 @@ module _ (bs : List ℕ) (room : ℕ) (c : Config) (a : Answers room bs c) (lent
         place = refl;
         used = used;
         words =
-          z ∙ ap (λ (n : ℕ). marks-named n (c .words)) (b .rows) ∙ ap (λ (vs : List ℤ). marks-named (size x) vs) (b .words)
-          ∙ text-named x (b .is .spells .good) (zeros (room - 4 * size x)) ∙ ap (λ (vs : List ℤ). text-table x ++ vs) left;
+            z ∙ ap (λ (n : ℕ). marks-named n (c .words)) (b .rows) ∙ ap (λ (vs : List ℤ). marks-named (size x) vs) (b .words)
+            ∙ text-named x (b .is .spells .good) (zeros (room - 4 * size x)) ∙ ap (λ (vs : List ℤ). text-table x ++ vs) left;
       })
 
   told-answers : Told (c .state) (c .words) r ws → Gives (answer bs room) r ws
