@@ -190,8 +190,8 @@ pub extern "C" fn leqwarti_read(
     ensures used { λ _. ⌜ now (used .exit) ≡ answer (now (text .entry)) (length (now (words .entry))) .used ⌝ }
     ensures words { λ _. ⌜ now (words .exit) ≡ answer (now (text .entry)) (length (now (words .entry))) .words ⌝ }
 {
-    let answer = script_reader::read_text(text, words);
-    *number = answer.number;
-    *place = answer.place;
-    *used = answer.used;
+    let reading = script_reader::read_text(text, words);
+    *number = reading.number;
+    *place = reading.place;
+    *used = reading.used;
 }

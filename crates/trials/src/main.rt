@@ -1,5 +1,5 @@
 // Runs the trial rows of document 01 and writes a line for each: its name, and what the generator answers, or div and mod.
-// Then the scripts of example A's conditions (02, P1).
+// Then the scripts of example A's conditions (02, P1), and texts with what the reader answers (02, P4).
 
 mod text; // numbers as the document prints them
 mod run; // one trial
@@ -8,6 +8,7 @@ mod small; // the script of four rows, and tables by their number of words
 mod nesting; // branches in one another
 mod divisions; // div and mod
 mod scripts; // conditions as scripts
+mod texts; // scripts as text
 
 fn main() {
     example::rooms();
@@ -19,4 +20,5 @@ fn main() {
     nesting::nine();
     divisions::all();
     scripts::all();
+    texts::all();
 }
