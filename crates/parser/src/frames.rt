@@ -1,5 +1,6 @@
 // The stack of frames, a word to each: its number, and up to two rows of parts that stand before it (of an assignment the variable).
-// Places past the end are not written, and read as the bottom of the stack, which waits for a script.
+// Places past the end are not written, and read as the bottom of the stack, which waits for a script. Numbers of frames are below
+// 64 and rows below 4,096, so that no remainder taken here changes one: it stands in for a bound that callers would have to show.
 
 ghost use mathlib.Core.Path.{_≡_};
 ghost use Prim.Native.Nat.{_-_};

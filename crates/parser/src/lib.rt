@@ -10,7 +10,6 @@ mod begin; // a token where a part begins
 mod after; // a token after a part
 
 use scanner::tokens;
-use script::kinds;
 ghost use mathlib.Core.Path.{_≡_};
 ghost use mathlib.Core.List.{[]};
 ghost use Rattle.parser.specs.Machine.{config, at-post, expect as Machine·expect, take-part, take-after, take as Machine·take};
@@ -56,7 +55,7 @@ fn at_post(stack: &mut [u32], words: &mut [i32], s: State, place: usize) -> Stat
     ensures stack { λ r. ⌜ now (stack .exit) ≡ at-post (config s (now (stack .entry)) (now (words .entry))) place .stack ⌝ }
     ensures words { λ r. ⌜ now (words .exit) ≡ at-post (config s (now (stack .entry)) (now (words .entry))) place .words ⌝ }
 {
-    if frames::top_frame(stack, s.top) % 64 == kinds::SEQUENCE {
+    if frames::top_frame(stack, s.top) % 64 == symbols::SEMICOLON {
         let before = states::complete(s, symbols::STATEMENT, s.rows, frames::below(s.top));
         after::after(stack, words, before, tokens::POST, place)
     } else {

@@ -27,7 +27,7 @@ fn write_words(words: &mut [i32], rows: usize, kind: i32, a: i32, b: i32, c: i32
     rows + 1
 }
 
-// Writes a row of small numbers.
+// Writes a row of small numbers: all are below 65,536, so that no remainder changes one.
 pub fn write_row(words: &mut [i32], rows: usize, kind: usize, a: usize, b: usize, c: usize) -> usize
     ensures rows { λ r. ⌜ r ≡ rows-after (now (words .entry)) rows ⌝ }
     ensures words { λ r. ⌜ now (words .exit) ≡ with-row (now (words .entry)) rows kind a b c ⌝ }

@@ -1,18 +1,15 @@
--- `trials::texts::read` meets its contract. Assumes nothing.
+-- `trials::texts::read` meets its contract: it returns. Assumes nothing.
 use borrow.Author.Needs.{needs}
+use lib.ListN.{length-take}
+use native.Mathlib.Omega.{arith}
 use Rattle.trials.proofs.texts.read.Statement.{statement}
 use Rattle.trials.proofs.texts.read.Tie as tie
-use Rattle.trials.proofs.texts.read.Reads as reads
-use Rattle.trials.proofs.texts.read.Lts as lts
-use Rattle.io.proofs.write_all.Reads as write-all-reads
-use Rattle.script_reader.proofs.read_text.Reads as read-text-reads
-use Rattle.trials.proofs.run.say_number.Reads as say-number-reads
 
 array-borrow-prefix-words : tie.Need-array-borrow-prefix-words
 array-borrow-prefix-words c = search needs
 
 slice-aggregate-read-text : tie.Need-slice-aggregate-read-text
-slice-aggregate-read-text c = ?
+slice-aggregate-read-text c = simp length-take (omega arith)
 
 read-text-requires : tie.Need-read-text-requires
 read-text-requires c κs = search needs
