@@ -1,9 +1,9 @@
 //! The answer to a file, as text.
 
-use leqwarti::{Condition, ConditionKind, Formula, Plan, Refusal};
+use leqwarti::{Condition, ConditionKind, Formula, Plan, Reason, Refusal};
 
 use crate::rows::RowLine;
-use crate::{Fault, RefusedText, Source, Unread};
+use crate::{Fault, RefusedText, Source, Text, Unread};
 
 /// What the generator says of a file.
 #[derive(Clone, Debug, PartialEq, Eq)]
@@ -120,20 +120,25 @@ fn refusal_text(refusal: &Refusal, source: &Source) -> String {
             let RowLine { line, text, .. } = &rows.lines[row];
             format!("row {row}, line {line}: {words}\n    {text}\n")
         }
-        Source::Text(text) => {
-            let (point, words) = (text.point(row), words_for_text(text.words[4 * row]));
+        Source::Text(text) if text.has_place(row) => {
+            let (point, words) = (text.point(row), words_for_text(reason, text, row));
             format!("{point}: {words}\n{}", point.shown())
         }
+        Source::Text(_) => format!("row {row}: {words}\n"),
     }
 }
 
-/// What is wrong with a row of a text, by its kind. Of what has a row, only 8
-/// and 9 can be wrong with a text that is read.
-fn words_for_text(kind: i32) -> &'static str {
-    match kind {
-        33 => "a frozen name (v128 to v255) is assigned to",
-        9 => "a guard or an assigned expression reads a mark",
-        _ => "a guard or an assigned expression reads a frozen name (v128 to v255)",
+/// What is wrong with a row of a text. No text that is read was ever refused with
+/// a row but with 8 and 9; what else there might be is told as for rows.
+fn words_for_text(reason: Reason, text: &Text, row: usize) -> &'static str {
+    let reads_mark = text.words[4 * row] == 9;
+    match reason {
+        Reason::FrozenAssigned => "a frozen name (v128 to v255) is assigned to",
+        Reason::OutOfPlace if reads_mark => "a guard or an assigned expression reads a mark",
+        Reason::OutOfPlace => {
+            "a guard or an assigned expression reads a frozen name (v128 to v255)"
+        }
+        _ => reason.words(),
     }
 }
 
@@ -175,5 +180,31 @@ mod tests {
             "refused 1 0\na table has 1 to 2,048 rows of four words\n"
         );
         assert_eq!(words, "refused 1 0\n");
+    }
+
+    /// Whatever the check might say of a text's table, at whatever row.
+    #[test]
+    fn every_refusal_of_a_text_is_told() {
+        let source = Source::read(b"pre v0 = 1;\nskip; post true").unwrap();
+        for reason in Reason::ALL {
+            for row in 0..8 {
+                let refusal = Refusal { reason, row };
+                let answer = Answer::Table(source.clone(), Err(refusal));
+                let text = answer.text();
+                assert!(text.lines().count() > 1, "{text}");
+            }
+        }
+        let told = |reason, row| refusal_text(&Refusal { reason, row }, &source);
+        assert_eq!(
+            told(Reason::BadLink, 2),
+            format!("row 2: {}\n", Reason::BadLink.words())
+        );
+        assert_eq!(
+            told(Reason::FieldOutOfRange, 0),
+            format!(
+                "line 1, column 5: {}\n    pre v0 = 1;\n        ^\n",
+                Reason::FieldOutOfRange.words()
+            )
+        );
     }
 }

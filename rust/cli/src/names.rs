@@ -18,13 +18,25 @@ const TAKEN: [&str; 11] = [
 const FORM: &str =
     "a line that names a variable is like `v0 is x`, and a script's text begins with `pre`";
 
+/// The variable and the name, whatever they are.
+fn parts(line: &str) -> Option<[&str; 2]> {
+    let words: Vec<&str> = line.split_whitespace().collect();
+    match words[..] {
+        [variable, "is", name] => Some([variable, name]),
+        _ => None,
+    }
+}
+
 impl Names {
+    /// Whether a line is like `v0 is x`: three words, and the second is `is`,
+    /// which no script's text has.
+    pub fn has_form(line: &str) -> bool {
+        parts(line).is_some()
+    }
+
     /// Reads a line such as `v0 is x`.
     pub fn add(&mut self, line: &str) -> Result<(), String> {
-        let words: Vec<&str> = line.split_whitespace().collect();
-        let [variable, "is", name] = words[..] else {
-            return Err(FORM.to_string());
-        };
+        let [variable, name] = parts(line).ok_or(FORM)?;
         let no_variable = || {
             format!(
                 "`{}` is no variable: v0 to v{}",

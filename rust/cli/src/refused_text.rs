@@ -8,9 +8,12 @@ use crate::{Names, Point};
 /// A text that the proved reader refuses.
 #[derive(Clone, Debug, PartialEq, Eq)]
 pub struct RefusedText {
+    /// With the place in the text.
     pub refusal: TextRefusal,
     pub names: Names,
-    pub text: Vec<u8>,
+    pub file: Vec<u8>,
+    /// The byte of the file where the text begins.
+    pub start: usize,
 }
 
 /// A token of each sort.
@@ -21,7 +24,8 @@ impl RefusedText {
     /// The number, and the place as a byte of the file.
     pub fn first_line(&self) -> String {
         let TextRefusal { reason, place, .. } = self.refusal;
-        format!("refused {} {place}\n", reason.number())
+        let start = if reason.has_place() { self.start } else { 0 };
+        format!("refused {} {}\n", reason.number(), start + place)
     }
 
     /// What is wrong and where; and what may stand there instead.
@@ -30,16 +34,20 @@ impl RefusedText {
         if !reason.has_place() {
             return format!("{}\n", reason.words());
         }
-        let point = Point::of(&self.text, self.place_to_show());
+        let point = Point::of(&self.file, self.start + self.place_to_show());
         let (problem, instead) = (self.problem(), self.instead());
         format!("{point}: {problem}\n{}{instead}", point.shown())
     }
 
+    fn text(&self) -> &[u8] {
+        &self.file[self.start..]
+    }
+
     /// The place; where a text must not end yet, the end of its last token.
     fn place_to_show(&self) -> usize {
-        let place = self.refusal.place;
-        if place == self.text.len() {
-            self.text.trim_ascii_end().len()
+        let (place, text) = (self.refusal.place, self.text());
+        if place == text.len() {
+            text.trim_ascii_end().len()
         } else {
             place
         }
@@ -47,7 +55,7 @@ impl RefusedText {
 
     fn problem(&self) -> String {
         let TextRefusal { reason, place, .. } = self.refusal;
-        let tokens = tokens(&self.text);
+        let tokens = tokens(self.text());
         let (before, after) = tokens.split_at(tokens.partition_point(|token| token.place < place));
         match (reason, after.first()) {
             (Reason::NoToken, Some(token)) => self.no_token(token),
@@ -67,22 +75,26 @@ impl RefusedText {
         }
     }
 
-    /// The tokens with which the text up to the place can go on, found by asking
-    /// the reader about one of each sort.
+    /// With what the text up to the place can go on, found by asking the reader
+    /// about one token of each sort, and about none.
     fn instead(&self) -> String {
         if self.refusal.reason == Reason::NumberOutOfRange {
             return String::new();
         }
         let sorts = SORTS.split(' ').filter(|token| self.can_go_on_with(token));
         let shown: Vec<&str> = sorts.map(shown).collect();
-        if shown.is_empty() {
-            return String::new();
+        let tokens = shown.join(" ");
+        match (&tokens[..], self.can_go_on_with("")) {
+            ("", false) => String::new(),
+            ("", true) => "here may stand: the end of the text\n".to_string(),
+            (_, false) => format!("here may stand: {tokens}\n"),
+            (_, true) => format!("here may stand: {tokens}, or the end of the text\n"),
         }
-        format!("here may stand: {}\n", shown.join(" "))
     }
 
+    /// With no token the question is whether a script can end there.
     fn can_go_on_with(&self, token: &str) -> bool {
-        let before = &self.text[..self.refusal.place];
+        let before = &self.text()[..self.refusal.place];
         let text = [before, b" ", token.as_bytes()].concat();
         !leqwarti::read_text(&text).is_err_and(|refusal| match refusal.reason {
             Reason::WrongToken => refusal.place <= before.len() + 1,

@@ -57,20 +57,31 @@ impl Source {
     }
 }
 
-/// Where the first line begins that is no comment and names no variable. None
-/// where that line begins as rows do, with a digit or a sign, and where there
-/// is no such line: an empty file is an empty table.
+/// Where the first line begins that is no part of a header. None where that line
+/// begins as rows do, with a digit or a sign, and where there is no such line: an
+/// empty file is an empty table.
 fn start_of_text(file: &[u8]) -> Option<usize> {
     let mut start = 0;
     for line in file.split_inclusive(|byte| *byte == b'\n') {
         let line_text = String::from_utf8_lossy(line);
-        match line_text.trim_start().chars().next() {
-            None | Some('#' | 'v') => start += line.len(),
+        let content = line_text.trim_matches(BLANKS);
+        match content.chars().next() {
+            None | Some('#') => start += line.len(),
+            Some('v') if Names::has_form(without_comment(content)) => start += line.len(),
             Some('0'..='9' | '+' | '-') => return None,
             Some(_) => return Some(start),
         }
     }
     None
+}
+
+/// What is blank in scripts, and so in what stands before them.
+const BLANKS: [char; 4] = [' ', '\t', '\r', '\n'];
+
+/// A line of a header up to its comment.
+pub fn without_comment(line: &str) -> &str {
+    let content = line.split('#').next().unwrap_or_default();
+    content.trim_matches(BLANKS)
 }
 
 #[cfg(test)]
@@ -104,6 +115,43 @@ mod tests {
         for text in ["Pre", "pre", "(", "// no comment", "{", ":", "skip", "é"] {
             assert!(is_text(text), "{text}");
         }
+    }
+
+    #[test]
+    fn a_line_that_names_no_variable_is_text() {
+        for line in [
+            "v0 := 1;",
+            "v0",
+            "v0 is",
+            "v0 is two words",
+            "v0 = x",
+            "v#0 is x",
+        ] {
+            for rest in [TEXT, "16 0 0 0", "v1 is y"] {
+                assert!(is_text(&format!("v7 is z\n{line}\n{rest}")), "{line}");
+            }
+        }
+    }
+
+    /// Other characters are blank elsewhere; a script's text has none of them.
+    #[test]
+    fn only_what_is_blank_in_scripts_is_blank_before_them() {
+        for other in ["\u{b}", "\u{c}", "\u{a0}", "\u{85}", "\u{2028}", "\u{3000}"] {
+            for line in [other, "  #", "v0 is x"] {
+                let file = format!("# head\n{other}{line}\n{TEXT}");
+                let Err(Unread::Refused(text)) = Source::read(file.as_bytes()) else {
+                    panic!("{file:?} is read");
+                };
+                assert_eq!(text.first_line(), "refused 40 7\n");
+            }
+        }
+    }
+
+    #[test]
+    fn a_line_ends_with_its_line_feed() {
+        let source = Source::read(b"# one\rpre true; skip; post true").unwrap();
+        assert_eq!(source.words(), []);
+        assert!(is_text("# one\r\n\rpre true; skip; post true"));
     }
 
     #[test]

@@ -2,6 +2,7 @@
 
 use std::collections::BTreeMap;
 
+use crate::source::without_comment;
 use crate::tokens::{row_places, tokens};
 use crate::{Fault, Names, Point, RefusedText, Unread};
 
@@ -11,42 +12,53 @@ pub struct Text {
     /// The table, four words to a row.
     pub words: Vec<i32>,
     pub names: Names,
-    /// The file with blanks for its header.
-    text: Vec<u8>,
+    file: Vec<u8>,
+    /// The bytes of the file where rows begin.
     places: BTreeMap<usize, usize>,
 }
 
 impl Text {
     /// Reads a file in which the text stands from `start` on. The proved reader
-    /// gets blanks for the header, so that its places are those of the file.
+    /// gets the text alone; places are those of the file.
     pub fn read(file: &[u8], start: usize) -> Result<Text, Unread> {
         let (header, script) = file.split_at(start);
         let names = names_of(header).map_err(Unread::Fault)?;
-        let text = [&blanks_for(header), script].concat();
-        match leqwarti::read_text(&text) {
-            Ok(words) => Ok(Text {
-                places: row_places(&text, &words),
-                words,
-                names,
-                text,
-            }),
+        let file = file.to_vec();
+        match leqwarti::read_text(script) {
+            Ok(words) => {
+                let mut places = row_places(script, &words);
+                places.values_mut().for_each(|place| *place += start);
+                Ok(Text {
+                    words,
+                    names,
+                    file,
+                    places,
+                })
+            }
             Err(refusal) => Err(Unread::Refused(RefusedText {
                 refusal,
                 names,
-                text,
+                file,
+                start,
             })),
         }
     }
 
-    /// Where a row begins that a condition or a refusal names.
+    /// Whether it is known where the row begins: so it is of the rows that a
+    /// condition or a refusal with 8 or 9 names.
+    pub fn has_place(&self, row: usize) -> bool {
+        self.places.contains_key(&row)
+    }
+
+    /// Where a row begins that has a place.
     pub fn point(&self, row: usize) -> Point {
-        Point::of(&self.text, self.places[&row])
+        Point::of(&self.file, self.places[&row])
     }
 
     /// A loop up to its invariant, or the script up to its statement, in the
     /// names that the header gives.
     pub fn head(&self, row: usize) -> String {
-        let rest = &self.text[self.places[&row]..];
+        let rest = &self.file[self.places[&row]..];
         let head = tokens(rest)
             .into_iter()
             .take_while(|token| ![&b"keep"[..], b";"].contains(&token.text));
@@ -61,7 +73,7 @@ impl Text {
 fn names_of(header: &[u8]) -> Result<Names, Fault> {
     let mut names = Names::default();
     for (before, text) in String::from_utf8_lossy(header).lines().enumerate() {
-        let content = text.split('#').next().unwrap_or_default().trim();
+        let content = without_comment(text);
         let line = before + 1;
         if !content.is_empty() {
             let faulty = |problem| Fault { line, problem };
@@ -69,12 +81,6 @@ fn names_of(header: &[u8]) -> Result<Names, Fault> {
         }
     }
     Ok(names)
-}
-
-/// As many blanks, on as many lines.
-fn blanks_for(header: &[u8]) -> Vec<u8> {
-    let blank = |byte: &u8| if *byte == b'\n' { b'\n' } else { b' ' };
-    header.iter().map(blank).collect()
 }
 
 #[cfg(test)]
@@ -99,7 +105,6 @@ mod tests {
             let point = text.point(3);
             let line = 2 + header.lines().count();
             assert_eq!((point.line, point.column), (line, 8), "{header}");
-            assert_eq!(text.text.len(), header.len() + script.len());
         }
     }
 
@@ -118,11 +123,11 @@ mod tests {
 
     #[test]
     fn a_wrong_line_of_the_header_is_told() {
-        let file = "# head\nv0 = x\npre true; skip; post true";
+        let file = "# head\nv0 is x2\npre true; skip; post true";
         let Err(Unread::Fault(fault)) = Source::read(file.as_bytes()) else {
             panic!("the header is read");
         };
         assert_eq!(fault.line, 2);
-        assert!(fault.problem.starts_with("a line that names a variable"));
+        assert!(fault.problem.starts_with("`x2` is no name"));
     }
 }

@@ -24,6 +24,7 @@ fn every_example_gives_what_is_stored_beside_it() {
 
 #[test]
 fn the_words_are_those_of_the_second_implementation() {
+    let mut compared = 0;
     for file in [rows(), texts()].concat() {
         let content = text(&file);
         let Ok(source) = Source::read(content.as_bytes()) else {
@@ -44,7 +45,9 @@ fn the_words_are_those_of_the_second_implementation() {
             let output = vcgen(arguments, &content);
             assert_eq!(written(&output).1, expected, "{}", file.display());
         }
+        compared += 1;
     }
+    assert!(compared >= 30, "{compared} files");
 }
 
 #[test]
@@ -95,7 +98,10 @@ fn what_cannot_be_read_has_status_2_and_its_line() {
             "standard input:3: `x` is no whole number",
         ),
         ("1: 1 0 0 0\n", "standard input:1: row 0 is labelled `1`"),
-        ("v0 x\n", "standard input:1: a line that names a variable"),
+        (
+            "16 0 0 0\nv0 x\n",
+            "standard input:2: a line that names a variable",
+        ),
         (
             "v1023 is x\nv1024 is y\n",
             "standard input:2: `v1024` is no variable",

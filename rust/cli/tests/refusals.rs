@@ -64,12 +64,21 @@ fn what_has_no_place_has_no_caret() {
 
     let script = "pre true; skip; post true";
     let told = "refused 44 0\na script's text has 32,768 bytes at most\n";
-    // What stands before `pre` counts.
-    for header in ["#", "\n", " "] {
-        let long = header.repeat(32_768 - script.len()) + "\n" + script;
-        assert_eq!(written(&vcgen(&["-"], &long)), (Some(1), told, ""));
-        assert_eq!(written(&vcgen(&["-"], &long[1..])).0, Some(0));
+    for (length, status, answer) in [(32_768, 0, None), (32_769, 1, Some(told))] {
+        let long = script.to_string() + &" ".repeat(length - script.len());
+        // What stands before the text is no part of it, and no reason has a place.
+        for header in ["", "\n", &"# head\n".repeat(10_000), "v0 is x\n"] {
+            let output = vcgen(&["-"], &format!("{header}{long}"));
+            let (found, text, _) = written(&output);
+            assert_eq!(found, Some(status));
+            assert!(answer.is_none_or(|wanted| text == wanted), "{text}");
+        }
     }
+    let headed = format!("# head\n{many}");
+    assert_eq!(
+        written(&vcgen(&["--words", "-"], &headed)).1,
+        "refused 43 0\n"
+    );
 }
 
 /// Texts that are read, and then refused by the check: the first line has the
@@ -121,9 +130,18 @@ line 4, column 9: a guard or an assigned expression reads a mark
 fn a_wrong_header_has_status_2_and_its_line() {
     let script = "pre true; skip; post true";
     for (header, told) in [
-        ("# x\nv0 := 1;\n", "standard input:2: a line that names a variable is like `v0 is x`, and a script's text begins with `pre`\n"),
-        ("v1024 is x\n", "standard input:1: `v1024` is no variable: v0 to v1023\n"),
-        ("v0 is x\n\nv1 is x\n", "standard input:3: v1 or the name x stands in a line before\n"),
+        (
+            "# x\nv0 is v1\n",
+            "standard input:2: `v1` is no name: letters and _, and no word of formulas\n",
+        ),
+        (
+            "v1024 is x\n",
+            "standard input:1: `v1024` is no variable: v0 to v1023\n",
+        ),
+        (
+            "v0 is x\n\nv1 is x\n",
+            "standard input:3: v1 or the name x stands in a line before\n",
+        ),
     ] {
         let output = vcgen(&["-"], &format!("{header}{script}"));
         assert_eq!(written(&output), (Some(2), "", told), "{header}");

@@ -88,6 +88,7 @@ fn without_header(example: &str) -> &str {
 
 #[test]
 fn the_second_implementation_reads_the_same_table() {
+    let mut compared = 0;
     for file in texts() {
         let text = text(&file);
         let Ok(source) = Source::read(text.as_bytes()) else {
@@ -95,7 +96,9 @@ fn the_second_implementation_reads_the_same_table() {
         };
         let read = read_text(without_header(&text).as_bytes(), 8_192);
         assert_eq!(source.words(), read.words);
+        compared += 1;
     }
+    assert!(compared >= 14, "{compared} texts");
 }
 
 #[test]
@@ -223,6 +226,13 @@ fn changed(text: &str, random: &mut Prng) -> Vec<u8> {
     pieces.concat()
 }
 
+/// No number of 1 to 7 and none of 40 to 44.
+fn of_a_text_that_is_read(words: &str) -> bool {
+    let answers = ["planned ", "refused 8 ", "refused 9 ", "refused 10 "];
+    let mut answers = answers.iter().chain(&["refused 12 "]);
+    answers.any(|answer| words.starts_with(answer))
+}
+
 /// The place of a refusal is that of the second implementation, and there is an
 /// answer to every text.
 #[test]
@@ -237,7 +247,10 @@ fn every_text_is_answered() {
         let read = read_text(&text, 8_192);
         let shown = String::from_utf8_lossy(&text).into_owned();
         match read.number {
-            0 => assert!(!answer.words().starts_with("refused 4"), "{shown}"),
+            0 => {
+                let words = answer.words();
+                assert!(of_a_text_that_is_read(&words), "{words} of {shown}");
+            }
             number => {
                 let wanted = format!("refused {number} {}\n", read.place);
                 assert_eq!(answer.words(), wanted, "{shown}");

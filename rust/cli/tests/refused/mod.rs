@@ -1,6 +1,6 @@
 //! Texts that are not read, each with the whole answer.
 
-pub const REFUSED: [(&str, &str); 18] = [
+pub const REFUSED: [(&str, &str); 22] = [
     (
         "pre true;\nv0 := v1 % 2;\npost true\n",
         "refused 40 19
@@ -107,7 +107,43 @@ here may stand: ;
 line 1, column 26: no script has `;` here
     pre true; skip; post true;
                              ^
-here may stand: and or implies
+here may stand: and or implies, or the end of the text
+",
+    ),
+    (
+        "pre true; skip; post v0 < 1 # all",
+        "refused 40 28
+line 1, column 29: comments stand before `pre` only
+    pre true; skip; post v0 < 1 # all
+                                ^
+here may stand: + - * div mod and or implies, or the end of the text
+",
+    ),
+    // The last token is an expression, so the text cannot end there.
+    (
+        "pre true; skip; post v0 v1",
+        "refused 41 24
+line 1, column 25: no script has `v1` here
+    pre true; skip; post v0 v1
+                            ^
+here may stand: + - * div mod < <= = <>
+",
+    ),
+    (
+        "v0 := 1;\npost true",
+        "refused 41 0
+line 1, column 1: no script has `v0` here
+    v0 := 1;
+    ^
+here may stand: pre
+",
+    ),
+    (
+        "# größe\r\nv0 is x\r\n v0 = x\r\npre true; skip; post true",
+        "refused 40 26
+line 3, column 7: x is written v0 in a script
+     v0 = x
+          ^
 ",
     ),
     (
