@@ -280,8 +280,19 @@ fn compare_reading(
     let expected = Reference.read_text(text, &mut buffer).expect("an answer");
     count(&mut tally.read_text, expected.number);
     same("script's text", expected, found)?;
-    words.same("script's text, table", &buffer)
+    words.same("script's text, table", &buffer)?;
+    if expected.number == 0 {
+        let verdict = number_of(Reference.check(&buffer[..expected.used]));
+        count(&mut tally.check, verdict);
+        if !CHECKS_OF_TEXTS.contains(&verdict) {
+            return Err(format!("script's text, read: the check gives {verdict}"));
+        }
+    }
+    Ok(())
 }
+
+/// What the check may say of a text that is read.
+pub const CHECKS_OF_TEXTS: [u8; 4] = [0, 8, 9, 10];
 
 fn compare_program(subject: &mut dyn Subject, bytes: &[u8]) -> Result<(), String> {
     let Some(found) = subject.program_output(bytes) else {

@@ -9,7 +9,10 @@ use fuzz::nests::NESTS;
 use fuzz::script_texts::{script_text, text_of_shape, EXAMPLE_A_TEXT, LONGEST_SCRIPT};
 use fuzz::scripts::{Shape, EXAMPLE_A};
 use fuzz::tokens::{split, NO_TOKENS, NUMERALS, TOKENS, VARIABLES};
-use fuzz::{compare_counting, compare_input, seed_from_environment, tell, Input, Prng, Tally};
+use fuzz::{
+    compare_counting, compare_input, seed_from_environment, tell, Input, Prng, Tally,
+    CHECKS_OF_TEXTS,
+};
 use leqwarti::{Reason, LARGEST_TABLE};
 use reference::{read_text, write_text, Brackets};
 
@@ -40,13 +43,19 @@ fn not_one_difference() {
     let seed = seed_from_environment();
     let mut tally = Tally::default();
     let result = compare_counting(&mut Proved, Input::any_script, seed, CASES, &mut tally);
-    tell(format!("{CASES} texts: {:?}", tally.read_text));
+    tell(format!(
+        "{CASES} texts: {:?}; read ones by the check: {:?}",
+        tally.read_text, tally.check
+    ));
     assert!(result.is_ok(), "{}", result.unwrap_err());
     assert!(tally.read_text.keys().copied().eq([0, 40, 41, 42, 43, 44]));
     assert!(tally.read_text.values().sum::<u64>() == CASES);
     for number in [0, 40, 41, 42, 43] {
         assert!(tally.read_text[&number] >= 5_000, "{number} is rare");
     }
+    assert!(tally.check.keys().copied().eq(CHECKS_OF_TEXTS));
+    assert!(tally.check.values().sum::<u64>() == tally.read_text[&0]);
+    assert!(tally.check.values().all(|times| *times >= 100));
 }
 
 fn compare_all(inputs: impl Iterator<Item = (Vec<u8>, usize)>) {
@@ -250,7 +259,7 @@ fn there_and_back() {
                 );
             }
         }
-        // Only what the check alone looks at can be wrong in it.
+        // These scripts are made without faults, also those of the check alone.
         assert_eq!(leqwarti::check(&table), Ok(()), "case {case}");
     }
     assert!(longest > 7_000, "the longest table has {longest} words");

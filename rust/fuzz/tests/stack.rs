@@ -12,7 +12,8 @@ use fuzz::tell;
 use leqwarti::{entries, Plan, Record, LARGEST_SCRATCH, LARGEST_TABLE};
 use leqwarti::{LONGEST_LIST, LONGEST_SCRIPT};
 
-/// What every entry must run on but those that write and read text.
+/// What every entry must run on but those that write text. Those that read text
+/// have less.
 const STACK: usize = 512 << 10;
 
 /// What the text of a condition must be written on.
@@ -21,9 +22,8 @@ const TEXT_STACK: usize = 2560 << 10;
 /// The bytes for that text. The longest that does not double takes 131,052.
 const TEXT_ROOM: usize = 1 << 20;
 
-/// What a script's text must be read on: a thread of Rust's has as much by
-/// default.
-const READ_STACK: usize = 2 << 20;
+/// What a script's text must be read on, however deep it is.
+const READ_STACK: usize = 192 << 10;
 
 /// Names one run: the stack's bytes, the entry, the case.
 const RUN_VARIABLE: &str = "VCGEN_STACK_RUN";
