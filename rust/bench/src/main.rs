@@ -156,9 +156,13 @@ fn time_texts(watch: &Stopwatch) {
     }
 }
 
-/// Texts of each kind at four lengths: the rates tell whether the time grows as
-/// the text does.
+/// Short texts, of which a call takes its own time; then texts of each kind at
+/// four lengths: the rates tell whether the time grows as the text does.
 fn time_scripts(watch: &Stopwatch) {
+    time_reading_text(watch, "the least script", texts::LEAST);
+    for bytes in [100, 400] {
+        time_reading_text(watch, "short assignments", &texts::assignments(bytes));
+    }
     for (name, text) in texts::KINDS {
         for bytes in [
             LONGEST_SCRIPT / 32,

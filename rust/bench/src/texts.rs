@@ -12,6 +12,9 @@ pub const KINDS: [(&str, Making); 6] = [
     ("loops after a wrong token", loops_refused),
 ];
 
+/// The least script there is.
+pub const LEAST: &[u8] = b"pre true; skip; post true";
+
 const FIRST: &str = "pre 0 <= v0;\n";
 const LAST: &str = "post v0 = 0\n";
 
@@ -46,7 +49,7 @@ fn loops(bytes: usize) -> Vec<u8> {
 }
 
 /// The shortest assignments, one after the other.
-fn assignments(bytes: usize) -> Vec<u8> {
+pub fn assignments(bytes: usize) -> Vec<u8> {
     filled(FIRST, "v1:=v1+1;", LAST, bytes)
 }
 
