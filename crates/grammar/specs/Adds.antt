@@ -8,16 +8,21 @@ use mathlib.Core.List.{List, [], _∷_, _++_, append-assoc, append-nil}
 use mathlib.Core.Bool.{Bool, true, false, cond}
 use lib.Dec.{leb}
 use Rattle.script.specs.Listing.{guarded}
-use Rattle.grammar.specs.Tokens.{Sort, statement, constant-leaf, number-leaf, variable-leaf, truth-leaf, skip-leaf, Due, takes, begins, same-sort, Infix, semicolon, connective, relation, operator, infix-makes, Place, next-place, leaf-makes, opening-makes, opening-due, Ending, ending, same-ending, ends, Token, Beginning, leaf-beginning, opening-beginning, no-beginning, beginning}
+use Rattle.grammar.specs.Sorts.{Sort, statement, takes, begins, same-sort}
+use Rattle.grammar.specs.Operators.{Infix, semicolon, connective, relation, operator, infix-makes}
+use Rattle.grammar.specs.Forms.{Place, next-place}
+use Rattle.grammar.specs.Tokens.{constant-leaf, number-leaf, variable-leaf, truth-leaf, skip-leaf, Due, leaf-makes, opening-makes, opening-due, Ending, ending, same-ending, ends, Token, Beginning, leaf-beginning, opening-beginning, no-beginning, beginning}
 use Rattle.grammar.specs.Grammar.{Phrase, leaf, before, between, closed, Chain, place, sort}
 use Rattle.grammar.specs.Automaton.{prefix, infix-after, Frame, pending, open-at, wants, holds, apply, hole, Mode, operand, after, due, State, at, Reduced, reduce, reduced, token-binds, infix-at, go-on, shift, close, advance, leaf-on, begin, opening-frame, pushed, is-due, step-at, step, run}
-use Rattle.grammar.specs.Meaning.{constant-in, Quad}
+use Rattle.grammar.specs.Counts.{constant-in}
+use Rattle.grammar.specs.Rows.{Quad}
 use Rattle.grammar.specs.Written.{stack-rows, part-rows, written, written-in, pop-writes, leaf-writes, No-body, advance-writes, shift-writes, push-writes, Apart-on, Settled, apart-none, apart-apply, apart-leaf, apart-advance}
 use Rattle.grammar.specs.InRange.{next-no-body}
 use Rattle.grammar.specs.Tables.{false-is-not, none-is-not, some-inj, held}
 use Rattle.grammar.specs.Sound.{went-on}
 use Rattle.grammar.specs.Contexts.{Good-stack, Reads}
-use Rattle.grammar.specs.Text.{is-post, post, at-post, take, read}
+use Rattle.grammar.specs.Text.{is-post, post}
+use Rattle.grammar.specs.Reader.{at-post, take, read}
 use Rattle.grammar.specs.TextRead.{Came, take-keeps}
 
 -- rows, and some more

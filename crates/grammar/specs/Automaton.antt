@@ -6,7 +6,10 @@ use mathlib.Core.List.{List, [], _∷_}
 use mathlib.Core.Bool.{Bool, true, false, cond}
 use lib.Dec.{leb}
 use Rattle.script.specs.Listing.{_>>=_, guarded}
-use Rattle.grammar.specs.Tokens.{Sort, script, same-sort, Hole, only, takes, wide, begins, Infix, Prefix, not-prefix, minus-prefix, assert-prefix, assign-prefix, infix-takes, infix-makes, prefix-takes, infix-level, infix-binds, prefix-level, Form, group-form, mark-form, when-form, if-form, while-form, script-form, Place, first-place, next-place, place-takes, Token, numeral, variable, truth-word, skip-word, not-word, assert-word, becomes, infix-word, form-word, closer-word, Due, bracket-due, becomes-due, Ending, same-ending, ends, ending, Leaf, constant-leaf, number-leaf, variable-leaf, truth-leaf, skip-leaf, leaf-makes, Opening, prefix-opening, form-opening, opening-makes, opening-due, Beginning, leaf-beginning, opening-beginning, no-beginning, beginning}
+use Rattle.grammar.specs.Sorts.{Sort, script, same-sort, Hole, only, takes, wide, begins}
+use Rattle.grammar.specs.Operators.{Infix, Prefix, not-prefix, minus-prefix, assert-prefix, assign-prefix, infix-takes, infix-makes, prefix-takes, infix-level, infix-binds, prefix-level}
+use Rattle.grammar.specs.Forms.{Form, group-form, mark-form, when-form, if-form, while-form, script-form, Place, first-place, next-place, place-takes}
+use Rattle.grammar.specs.Tokens.{Token, numeral, variable, truth-word, skip-word, not-word, assert-word, becomes, infix-word, form-word, closer-word, Due, bracket-due, becomes-due, Ending, same-ending, ends, ending, Leaf, constant-leaf, number-leaf, variable-leaf, truth-leaf, skip-leaf, leaf-makes, Opening, prefix-opening, form-opening, opening-makes, opening-due, Beginning, leaf-beginning, opening-beginning, no-beginning, beginning}
 use Rattle.grammar.specs.Grammar.{Phrase, leaf, before, between, closed, Chain, begun, more, place, sort}
 
 -- ---- frames

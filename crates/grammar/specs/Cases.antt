@@ -3,8 +3,10 @@ use mathlib.Core.Path.{_≡_, refl}
 use mathlib.Core.List.{[], _∷_}
 use lib.IntN.{pos, negsuc}
 use Rattle.grammar.specs.Automaton.{reduce}
-use Rattle.grammar.specs.Text.{read}
-use Rattle.grammar.specs.Meaning.{size, roots, table, flat, text-rows, text-table}
+use Rattle.grammar.specs.Reader.{read}
+use Rattle.grammar.specs.Counts.{size, roots}
+use Rattle.grammar.specs.Rows.{table}
+use Rattle.grammar.specs.Meaning.{flat, text-rows, text-table}
 use Rattle.grammar.specs.InRange.{depth}
 use Rattle.grammar.specs.Scanning.{bytes, token-at, scan-from, scan, stuck}
 use Rattle.grammar.specs.Outcome.{refused, given, out-of-range, outcome}

@@ -9,7 +9,10 @@ use mathlib.Core.Bool.{true}
 use native.Mathlib.Omega.{arith as linear}
 use borrow.Author.Tests.{le-leb, lt-leb}
 use Rattle.script.specs.Listing.{_>>=_}
-use Rattle.grammar.specs.Tokens.{Sort, sort-discrete, semicolon, connective, relation, operator, not-prefix, minus-prefix, assert-prefix, assign-prefix, constant-leaf, number-leaf, variable-leaf, truth-leaf, skip-leaf, script, expression, same-sort, Hole, only, takes, begins, Infix, infix-takes, infix-makes, infix-binds, next-place, place-takes, place-makes, ending, ending-word, closer-discrete, ending-discrete, Token, infix-word, Leaf, leaf-makes, leaf-word, Opening, prefix-opening, form-opening, opening-makes, opening-word, opening-due, Due, opening-beginning, beginning}
+use Rattle.grammar.specs.Sorts.{Sort, sort-discrete, script, expression, same-sort, Hole, only, takes, begins}
+use Rattle.grammar.specs.Operators.{semicolon, connective, relation, operator, not-prefix, minus-prefix, assert-prefix, assign-prefix, Infix, infix-takes, infix-makes, infix-binds}
+use Rattle.grammar.specs.Forms.{next-place, place-takes, place-makes}
+use Rattle.grammar.specs.Tokens.{constant-leaf, number-leaf, variable-leaf, truth-leaf, skip-leaf, ending, ending-word, closer-discrete, ending-discrete, Token, infix-word, Leaf, leaf-makes, leaf-word, Opening, prefix-opening, form-opening, opening-makes, opening-word, opening-due, Due, opening-beginning, beginning}
 use Rattle.grammar.specs.Grammar.{Phrase, leaf, before, between, closed, Chain, begun, more, place, words, chain-words, due-words, opening-words, sort, level, binds, Good, Good-chain}
 use Rattle.grammar.specs.Automaton.{Pending, prefix, infix-after, Frame, pending, open-at, wants, holds, apply, hole, operand, after, at, start, reduce, reduced, token-binds, go-on, advance, constant-on, leaf-on, opening-frame, form-takes, pushed, run}
 use Rattle.grammar.specs.Tables.{binds-tight, false-is-not, same-refl, same-is, same-sorts, begins-own, takes-begins, begins-left, phrase-range, ending-binds, ending-not-infix, ends-word, next-makes, place-begins, form-takes-part, leaf-begins, prefix-begins, due-is-due}

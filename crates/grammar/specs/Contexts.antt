@@ -4,7 +4,10 @@ use Prim.Native.Nat.{ℕ, suc, _≤_}
 use mathlib.Core.Path.{_≡_}
 use mathlib.Core.List.{List, [], _∷_, _++_}
 use mathlib.Core.Bool.{true}
-use Rattle.grammar.specs.Tokens.{Sort, expression, begins, infix-takes, infix-makes, infix-binds, prefix-level, prefix-makes, place-makes, tight, Token, infix-word, due-word, prefix-opening}
+use Rattle.grammar.specs.Sorts.{Sort, expression, begins}
+use Rattle.grammar.specs.Operators.{infix-takes, infix-makes, infix-binds, prefix-level, prefix-makes, tight}
+use Rattle.grammar.specs.Forms.{place-makes}
+use Rattle.grammar.specs.Tokens.{Token, infix-word, due-word, prefix-opening}
 use Rattle.grammar.specs.Grammar.{Phrase, place, words, chain-words, opening-words, sort, level, binds, Good, Good-chain}
 use Rattle.grammar.specs.Automaton.{Pending, prefix, infix-after, Frame, pending, open-at, hole, Mode, operand, after, due}
 use Rattle.grammar.specs.Complete.{Below, chain-takes}

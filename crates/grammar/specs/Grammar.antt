@@ -6,7 +6,10 @@ use mathlib.Core.Path.{_≡_}
 use mathlib.Core.Option.{Option, none, some}
 use mathlib.Core.List.{List, [], _∷_, _++_}
 use mathlib.Core.Bool.{true}
-use Rattle.grammar.specs.Tokens.{Sort, takes, Infix, Prefix, infix-takes, infix-makes, prefix-takes, prefix-makes, infix-level, infix-binds, prefix-level, top, Form, Place, first-place, next-place, place-takes, place-makes, Token, infix-word, Due, due-word, ending, ending-word, Leaf, leaf-makes, leaf-word, Opening, prefix-opening, form-opening, opening-word, opening-due}
+use Rattle.grammar.specs.Sorts.{Sort, takes}
+use Rattle.grammar.specs.Operators.{Infix, Prefix, infix-takes, infix-makes, prefix-takes, prefix-makes, infix-level, infix-binds, prefix-level, top}
+use Rattle.grammar.specs.Forms.{Form, Place, first-place, next-place, place-takes, place-makes}
+use Rattle.grammar.specs.Tokens.{Token, infix-word, Due, due-word, ending, ending-word, Leaf, leaf-makes, leaf-word, Opening, prefix-opening, form-opening, opening-word, opening-due}
 
 mutual
   pub data Phrase : Type 0 where

@@ -9,14 +9,18 @@ use mathlib.Core.Bool.{Bool, true, false, cond, _&&_}
 use native.Mathlib.Omega.{arith as linear}
 use lib.Dec.{leb, ltb}
 use Rattle.script.specs.Listing.{guarded}
-use Rattle.grammar.specs.Tokens.{semicolon, connective, relation, operator, number, expression, statement, script, same-sort, Hole, only, either, formula, takes, begins, Infix, infix-makes, Prefix, not-prefix, minus-prefix, assert-prefix, assign-prefix, Place, in-group, in-mark, when-first, when-second, when-third, if-guard, if-then, if-else, while-guard, while-keep, while-fall, while-body, script-pre, script-body, script-post, next-place, tight, Token, numeral, variable, truth-word, skip-word, not-word, assert-word, becomes, infix-word, form-word, closer-word, Leaf, constant-leaf, number-leaf, variable-leaf, truth-leaf, skip-leaf, leaf-makes, leaf-word, Opening, prefix-opening, form-opening, opening-makes, opening-word, opening-due, Due, Ending, ends, ending, same-ending, Beginning, leaf-beginning, opening-beginning, no-beginning, beginning}
+use Rattle.grammar.specs.Sorts.{number, expression, statement, script, same-sort, Hole, only, either, formula, takes, begins}
+use Rattle.grammar.specs.Operators.{semicolon, connective, relation, operator, Infix, infix-makes, Prefix, not-prefix, minus-prefix, assert-prefix, assign-prefix, tight}
+use Rattle.grammar.specs.Forms.{Place, in-group, in-mark, when-first, when-second, when-third, if-guard, if-then, if-else, while-guard, while-keep, while-fall, while-body, script-pre, script-body, script-post, next-place}
+use Rattle.grammar.specs.Tokens.{Token, numeral, variable, truth-word, skip-word, not-word, assert-word, becomes, infix-word, form-word, closer-word, Leaf, constant-leaf, number-leaf, variable-leaf, truth-leaf, skip-leaf, leaf-makes, leaf-word, Opening, prefix-opening, form-opening, opening-makes, opening-word, opening-due, Due, Ending, ends, ending, same-ending, Beginning, leaf-beginning, opening-beginning, no-beginning, beginning}
 use Rattle.grammar.specs.Grammar.{Phrase, leaf, before, between, closed, Chain, begun, more, place, words, sort}
 use Rattle.grammar.specs.Automaton.{Pending, prefix, infix-after, Frame, pending, open-at, wants, holds, apply, hole, Mode, operand, after, due, State, at, start, Reduced, reduce, reduced, token-binds, infix-at, go-on, shift, close, advance, constant-on, leaf-on, begin, opening-frame, pushed, is-due, step-at, step}
-use Rattle.grammar.specs.Meaning.{begins-body}
+use Rattle.grammar.specs.Counts.{begins-body}
 use Rattle.grammar.specs.Tables.{false-is-not, none-is-not, some-inj, held, Begun, begun-by, binds-tight}
 use Rattle.grammar.specs.Complete.{Below}
 use Rattle.grammar.specs.Contexts.{stack-words, Good-stack, Part, Reads}
-use Rattle.grammar.specs.Text.{is-post, post, Spells, at-post, take, read}
+use Rattle.grammar.specs.Text.{is-post, post, Spells}
+use Rattle.grammar.specs.Reader.{at-post, take, read}
 use Rattle.grammar.specs.TextRead.{post-known, Came, came, before-semicolon, take-keeps, text-read}
 use Rattle.grammar.specs.Sound.{went-on, reduce-keeps, lower}
 

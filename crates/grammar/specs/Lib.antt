@@ -1,3 +1,6 @@
+pub mod Sorts
+pub mod Operators
+pub mod Forms
 pub mod Tokens
 pub mod Grammar
 pub mod Automaton
@@ -8,7 +11,11 @@ pub mod Sound
 pub mod Unique
 pub mod Viable
 pub mod Text
+pub mod Reader
 pub mod TextRead
+pub mod Counts
+pub mod Rows
+pub mod Trees
 pub mod Meaning
 pub mod Tried
 pub mod Written

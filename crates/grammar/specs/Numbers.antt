@@ -5,7 +5,9 @@ use mathlib.Core.Bool.{Bool, cond}
 use Rattle.script.specs.declared.Operator.the-variants.{Plus, Minus, Times, Div, Mod}
 use Rattle.script.specs.declared.Relation.the-variants.{Less, AtMost, Equal, Unequal}
 use Rattle.script.specs.declared.Connective.the-variants.{And, Or, Implies}
-use Rattle.grammar.specs.Tokens.{Infix, semicolon, connective, relation, operator, Form, group-form, mark-form, when-form, if-form, while-form, script-form, Closer, bracket-closer, comma-closer, then-closer, else-closer, end-closer, keep-closer, fall-closer, do-closer, post-closer, end-of-text, Token, numeral, variable, truth-word, skip-word, not-word, assert-word, becomes, infix-word, form-word, closer-word}
+use Rattle.grammar.specs.Operators.{Infix, semicolon, connective, relation, operator}
+use Rattle.grammar.specs.Forms.{Form, group-form, mark-form, when-form, if-form, while-form, script-form}
+use Rattle.grammar.specs.Tokens.{Closer, bracket-closer, comma-closer, then-closer, else-closer, end-closer, keep-closer, fall-closer, do-closer, post-closer, end-of-text, Token, numeral, variable, truth-word, skip-word, not-word, assert-word, becomes, infix-word, form-word, closer-word}
 
 abbrev pub infix-number : Infix → ℕ
 infix-number semicolon = 34

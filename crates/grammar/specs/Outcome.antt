@@ -12,8 +12,10 @@ use lib.ListN.{length}
 use Rattle.script.specs.Listing.{_>>=_}
 use Rattle.grammar.specs.Grammar.{Phrase}
 use Rattle.grammar.specs.Automaton.{Frame, Mode, operand, after, due, State, at, start}
-use Rattle.grammar.specs.Meaning.{size, text-table}
-use Rattle.grammar.specs.Text.{Spells, take, read}
+use Rattle.grammar.specs.Counts.{size}
+use Rattle.grammar.specs.Meaning.{text-table}
+use Rattle.grammar.specs.Text.{Spells}
+use Rattle.grammar.specs.Reader.{take, read}
 use Rattle.grammar.specs.TextRead.{text-read, read-text}
 use Rattle.grammar.specs.Scanning.{Lexeme, tokens-of, Scanned, no-token, lexemes, scan, or-at, stuck}
 use Rattle.grammar.specs.Scans.{scan-ends}

@@ -7,9 +7,11 @@ use mathlib.Core.List.{List, [], _∷_}
 use mathlib.Core.Bool.{Bool, true, false, cond}
 use native.Mathlib.Omega.{arith as linear}
 use lib.ListN.{length}
-use Rattle.grammar.specs.Tokens.{Prefix, Form, group-form, mark-form, when-form, if-form, while-form, script-form, first-place, Place, in-group, in-mark, when-first, when-second, when-third, if-guard, if-then, if-else, while-guard, while-keep, while-fall, while-body, script-pre, script-body, script-post}
+use Rattle.grammar.specs.Operators.{Prefix}
+use Rattle.grammar.specs.Forms.{Form, group-form, mark-form, when-form, if-form, while-form, script-form, first-place, Place, in-group, in-mark, when-first, when-second, when-third, if-guard, if-then, if-else, while-guard, while-keep, while-fall, while-body, script-pre, script-body, script-post}
 use Rattle.grammar.specs.Grammar.{Phrase, leaf, before, between, closed, Chain, begun, more, place, Good, Good-chain}
-use Rattle.grammar.specs.Meaning.{negated, minus, size, chain-size, form-size, begins-body, last, roots, Quad, prefix-row, prefix-rows, counts, by-row, inside, table, chain-table}
+use Rattle.grammar.specs.Counts.{negated, minus, size, chain-size, form-size, begins-body, last, roots}
+use Rattle.grammar.specs.Rows.{Quad, prefix-row, prefix-rows, counts, by-row, inside, table, chain-table}
 use Rattle.grammar.specs.Sizes.{table-length, chain-length}
 use Rattle.grammar.specs.Written.{by-count}
 use Rattle.grammar.specs.Tables.{false-is-not}

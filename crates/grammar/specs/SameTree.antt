@@ -23,10 +23,16 @@ use Rattle.script.specs.Rows.{row-of, row-no, row, rows}
 use Rattle.script.specs.Syntax.{Formula, truth}
 use Rattle.script.specs.Trees.{script-node, expr as expr-in, formula as formula-in, stmt as stmt-in, expr-at, formula-at, stmt-at, tree}
 use Rattle.script.specs.Words.{op-word, rel-word, conn-word}
-use Rattle.grammar.specs.Tokens.{Sort, sort-discrete, number, expression, formula, statement, script, same-sort, only, takes, Infix, semicolon, connective, relation, operator, infix-takes, infix-makes, Prefix, not-prefix, minus-prefix, assert-prefix, assign-prefix, prefix-takes, prefix-makes, Place, in-group, in-mark, when-first, when-second, when-third, if-guard, if-then, if-else, while-guard, while-keep, while-fall, while-body, script-pre, script-body, script-post, place-takes, place-makes, next-place, Leaf, constant-leaf, number-leaf, variable-leaf, truth-leaf, skip-leaf, leaf-makes, while-form}
+use Rattle.grammar.specs.Sorts.{Sort, sort-discrete, number, expression, formula, statement, script, same-sort, only, takes}
+use Rattle.grammar.specs.Operators.{Infix, semicolon, connective, relation, operator, infix-takes, infix-makes, Prefix, not-prefix, minus-prefix, assert-prefix, assign-prefix, prefix-takes, prefix-makes}
+use Rattle.grammar.specs.Forms.{Place, in-group, in-mark, when-first, when-second, when-third, if-guard, if-then, if-else, while-guard, while-keep, while-fall, while-body, script-pre, script-body, script-post, place-takes, place-makes, next-place, while-form}
+use Rattle.grammar.specs.Tokens.{Leaf, constant-leaf, number-leaf, variable-leaf, truth-leaf, skip-leaf, leaf-makes}
 use Rattle.grammar.specs.Grammar.{Phrase, leaf, before, between, closed, Chain, begun, more, place, sort, Good, Good-chain}
 use Rattle.grammar.specs.Tables.{none-is-not, same-is}
-use Rattle.grammar.specs.Meaning.{negated, minus, size, chain-size, leaf-size, prefix-size, form-size, begins-body, last, roots, Quad, quad, constant, leaf-rows, prefix-row, prefix-rows, infix-kind, nth-loop, counts, form-rows, note-rows, inside, table, chain-table, Value, to-expr, to-formula, to-stmt, to-tree, leaf-value, prefix-value, infix-value, nth, form-value, by-row, value, chain-values, text-rows, text-tree}
+use Rattle.grammar.specs.Counts.{negated, minus, size, chain-size, leaf-size, prefix-size, form-size, begins-body, last, roots}
+use Rattle.grammar.specs.Rows.{Quad, quad, constant, leaf-rows, prefix-row, prefix-rows, infix-kind, nth-loop, counts, form-rows, note-rows, inside, table, chain-table, by-row}
+use Rattle.grammar.specs.Trees.{Value, to-expr, to-formula, to-stmt, to-tree, leaf-value, prefix-value, infix-value, nth, form-value, value, chain-values}
+use Rattle.grammar.specs.Meaning.{text-rows, text-tree}
 use Rattle.grammar.specs.Sizes.{table-length, chain-length, sized}
 use Rattle.grammar.specs.Shapes.{form-of, at-third, at-fourth, Two, Three}
 

@@ -12,9 +12,11 @@ use lib.ListN.{length, take, drop}
 use Rattle.script.specs.declared.Operator.the-variants.{Plus, Minus, Times, Div, Mod}
 use Rattle.script.specs.declared.Relation.the-variants.{Less, AtMost, Equal, Unequal}
 use Rattle.script.specs.declared.Connective.the-variants.{And, Or, Implies}
-use Rattle.grammar.specs.Tokens.{Token, numeral, variable, truth-word, skip-word, not-word, assert-word, becomes, infix-word, form-word, closer-word, semicolon, connective, relation, operator, group-form, mark-form, when-form, if-form, while-form, script-form, bracket-closer, comma-closer, then-closer, else-closer, end-closer, keep-closer, fall-closer, do-closer, post-closer, end-of-text}
+use Rattle.grammar.specs.Operators.{semicolon, connective, relation, operator}
+use Rattle.grammar.specs.Forms.{group-form, mark-form, when-form, if-form, while-form, script-form}
+use Rattle.grammar.specs.Tokens.{Token, numeral, variable, truth-word, skip-word, not-word, assert-word, becomes, infix-word, form-word, closer-word, bracket-closer, comma-closer, then-closer, else-closer, end-closer, keep-closer, fall-closer, do-closer, post-closer, end-of-text}
 use Rattle.grammar.specs.Automaton.{State}
-use Rattle.grammar.specs.Text.{take as take-token}
+use Rattle.grammar.specs.Reader.{take as take-token}
 
 -- the bytes of an ASCII text
 abbrev pub bytes : String → List ℕ

@@ -6,10 +6,14 @@ use mathlib.Core.List.{List, [], _∷_, _++_}
 use mathlib.Core.Bool.{Bool, true, false}
 use native.Mathlib.Omega.{arith as linear}
 use lib.ListN.{length, length-append}
-use Rattle.grammar.specs.Tokens.{Sort, number, same-sort, Prefix, Place, place-makes, in-group, in-mark, when-first, when-second, when-third, if-guard, if-then, if-else, while-guard, while-keep, while-fall, while-body, script-pre, script-body, script-post, Leaf, constant-leaf, number-leaf, variable-leaf, truth-leaf, skip-leaf}
+use Rattle.grammar.specs.Sorts.{Sort, number, same-sort}
+use Rattle.grammar.specs.Operators.{Prefix}
+use Rattle.grammar.specs.Forms.{Place, place-makes, in-group, in-mark, when-first, when-second, when-third, if-guard, if-then, if-else, while-guard, while-keep, while-fall, while-body, script-pre, script-body, script-post}
+use Rattle.grammar.specs.Tokens.{Leaf, constant-leaf, number-leaf, variable-leaf, truth-leaf, skip-leaf}
 use Rattle.grammar.specs.Grammar.{Phrase, leaf, before, between, closed, Chain, begun, more, place, sort}
 use Rattle.grammar.specs.Tables.{false-is-not}
-use Rattle.grammar.specs.Meaning.{negated, size, chain-size, leaf-size, prefix-size, form-size, note-size, begins-body, last, roots, Quad, Naming, leaf-rows, prefix-row, prefix-rows, form-rows, note-rows, table, chain-table}
+use Rattle.grammar.specs.Counts.{negated, size, chain-size, leaf-size, prefix-size, form-size, note-size, begins-body, last, roots}
+use Rattle.grammar.specs.Rows.{Quad, Naming, leaf-rows, prefix-row, prefix-rows, form-rows, note-rows, table, chain-table}
 
 leaf-length : (l : Leaf) → length (leaf-rows l) ≡ leaf-size l
 leaf-length (constant-leaf n) = refl

@@ -9,7 +9,10 @@ use native.Mathlib.Omega.{arith as linear}
 use lib.Dec.{leb}
 use borrow.Author.Tests.{leb-true, leb-false}
 use Rattle.script.specs.Listing.{_>>=_, guarded}
-use Rattle.grammar.specs.Tokens.{Sort, sort-discrete, script, expression, same-sort, Hole, takes, begins, Infix, infix-makes, infix-binds, prefix-level, prefix-makes, Place, next-place, place-takes, place-makes, Ending, ending, ending-word, same-ending, closer-discrete, ending-discrete, ends, tight, top, not-prefix, minus-prefix, assert-prefix, assign-prefix, constant-leaf, number-leaf, variable-leaf, truth-leaf, skip-leaf, Token, infix-word, Leaf, leaf-makes, Opening, prefix-opening, form-opening, opening-makes, opening-due, Due, Beginning, opening-beginning, leaf-beginning, no-beginning, beginning}
+use Rattle.grammar.specs.Sorts.{Sort, sort-discrete, script, expression, same-sort, Hole, takes, begins}
+use Rattle.grammar.specs.Operators.{Infix, infix-makes, infix-binds, prefix-level, prefix-makes, tight, top, not-prefix, minus-prefix, assert-prefix, assign-prefix}
+use Rattle.grammar.specs.Forms.{Place, next-place, place-takes, place-makes}
+use Rattle.grammar.specs.Tokens.{Ending, ending, ending-word, same-ending, closer-discrete, ending-discrete, ends, constant-leaf, number-leaf, variable-leaf, truth-leaf, skip-leaf, Token, infix-word, Leaf, leaf-makes, Opening, prefix-opening, form-opening, opening-makes, opening-due, Due, Beginning, opening-beginning, leaf-beginning, no-beginning, beginning}
 use Rattle.grammar.specs.Grammar.{Phrase, leaf, Chain, begun, more, place, words, chain-words, due-words, opening-words, sort, level, binds, Good, Good-chain}
 use Rattle.grammar.specs.Automaton.{Pending, prefix, infix-after, Frame, pending, open-at, wants, holds, apply, hole, Mode, operand, after, due, State, at, start, Reduced, reduce, reduced, token-binds, go-on, shift, close, advance, constant-on, leaf-on, begin, opening-frame, pushed, infix-at, is-due, step-at, step, run}
 use Rattle.grammar.specs.Tables.{none-is-not, some-inj, held, same-is, Begun, begun-by, infix-known, ends-known, due-known, binds-tight, holds-below, prefix-fits, form-takes-less, form-fits, later-makes, next-makes}

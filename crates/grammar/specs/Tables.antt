@@ -8,7 +8,10 @@ use native.Mathlib.Omega.{arith as linear}
 use Rattle.script.specs.declared.Operator.the-variants.{Plus, Minus, Times, Div, Mod}
 use Rattle.script.specs.declared.Connective.the-variants.{And, Or, Implies}
 use Rattle.script.specs.Listing.{guarded}
-use Rattle.grammar.specs.Tokens.{same, Sort, number, expression, formula, statement, script, sort-discrete, same-sort, Hole, only, either, takes, wide, begins, Infix, semicolon, connective, relation, operator, Prefix, not-prefix, minus-prefix, assert-prefix, assign-prefix, infix-takes, infix-makes, prefix-makes, infix-level, infix-binds, prefix-level, Form, group-form, mark-form, when-form, if-form, while-form, script-form, Place, in-group, in-mark, when-first, when-second, when-third, if-guard, if-then, if-else, while-guard, while-keep, while-fall, while-body, script-pre, script-body, script-post, first-place, next-place, place-takes, place-makes, Ending, by-semicolon, by-closer, post-closer, same-ending, ending, ending-word, ends, Token, numeral, variable, truth-word, skip-word, not-word, assert-word, becomes, infix-word, form-word, closer-word, Leaf, constant-leaf, number-leaf, variable-leaf, truth-leaf, skip-leaf, leaf-makes, leaf-word, opening-word, prefix-opening, Due, bracket-due, becomes-due, due-word, Beginning, leaf-beginning, opening-beginning, no-beginning, infix-begins, infix-ends, beginning, tight, top}
+use Rattle.grammar.specs.Sorts.{same, Sort, number, expression, formula, statement, script, sort-discrete, same-sort, Hole, only, either, takes, wide, begins}
+use Rattle.grammar.specs.Operators.{Infix, semicolon, connective, relation, operator, Prefix, not-prefix, minus-prefix, assert-prefix, assign-prefix, infix-takes, infix-makes, prefix-makes, infix-level, infix-binds, prefix-level, tight, top}
+use Rattle.grammar.specs.Forms.{Form, group-form, mark-form, when-form, if-form, while-form, script-form, Place, in-group, in-mark, when-first, when-second, when-third, if-guard, if-then, if-else, while-guard, while-keep, while-fall, while-body, script-pre, script-body, script-post, first-place, next-place, place-takes, place-makes}
+use Rattle.grammar.specs.Tokens.{Ending, by-semicolon, by-closer, post-closer, same-ending, ending, ending-word, ends, Token, numeral, variable, truth-word, skip-word, not-word, assert-word, becomes, infix-word, form-word, closer-word, Leaf, constant-leaf, number-leaf, variable-leaf, truth-leaf, skip-leaf, leaf-makes, leaf-word, opening-word, prefix-opening, Due, bracket-due, becomes-due, due-word, Beginning, leaf-beginning, opening-beginning, no-beginning, infix-begins, infix-ends, beginning}
 use Rattle.grammar.specs.Grammar.{Phrase, leaf, before, between, closed, sort, level, binds}
 use Rattle.grammar.specs.Automaton.{Pending, prefix, infix-after, wants, holds, form-due, becomes-is, infix-at, token-binds, is-due, form-takes}
 

@@ -1,13 +1,12 @@
--- The tokens of a text, where a semicolon stands before `post`, and the reader over them: a semicolon is taken as an operator,
--- and `post` after it gives the operator up again. Assumes nothing.
+-- The tokens of a text, where a semicolon stands before `post`, and what a derivation of them is (`Spells`). Assumes
+-- nothing.
 use mathlib.Core.Path.{_≡_}
-use mathlib.Core.Option.{Option, none, some}
 use mathlib.Core.List.{List, [], _∷_, _++_}
 use mathlib.Core.Bool.{Bool, false, cond}
-use Rattle.script.specs.Listing.{_>>=_}
-use Rattle.grammar.specs.Tokens.{same, script, Infix, semicolon, connective, relation, operator, closer-discrete, post-closer, Token, numeral, variable, truth-word, skip-word, not-word, assert-word, becomes, infix-word, form-word, closer-word}
+use Rattle.grammar.specs.Sorts.{same, script}
+use Rattle.grammar.specs.Operators.{semicolon}
+use Rattle.grammar.specs.Tokens.{closer-discrete, post-closer, Token, numeral, variable, truth-word, skip-word, not-word, assert-word, becomes, infix-word, form-word, closer-word}
 use Rattle.grammar.specs.Grammar.{Phrase, words, sort, Good}
-use Rattle.grammar.specs.Automaton.{prefix, infix-after, Frame, pending, open-at, Mode, operand, after, due, State, at, step}
 
 abbrev pub is-post : Token → Bool
 is-post (numeral n) = false
@@ -36,27 +35,3 @@ pub record Spells (x : Phrase) (ts : List Token) : Type 0 where
   pub good : Good x
   pub whole : sort x ≡ script
   pub spelt : text (words x) ≡ ts
-
--- ---- the reader
-
--- post, where the operator that waits is a semicolon
-abbrev pub given-up : Infix → Phrase → List Frame → Option State
-given-up semicolon x fs = step (at (after x) fs) post
-given-up (connective c) x fs = none
-given-up (relation r) x fs = none
-given-up (operator o) x fs = none
-
-abbrev pub at-post : Mode → List Frame → Option State
-at-post operand [] = none
-at-post operand (pending (prefix p) ∷ fs) = none
-at-post operand (pending (infix-after o x) ∷ fs) = given-up o x fs
-at-post operand (open-at h c ∷ fs) = none
-at-post (after x) fs = none
-at-post (due d f) fs = none
-
-abbrev pub take : State → Token → Option State
-take s t = cond (is-post t) (at-post (s .mode) (s .stack)) (step s t)
-
-unfoldable pub read : State → List Token → Option State
-read s [] = some s
-read s (t ∷ ts) = take s t >>= λ r. read r ts

@@ -9,7 +9,10 @@ use native.Mathlib.Omega.{arith as linear}
 use lib.Dec.{leb}
 use borrow.Author.Tests.{le-leb}
 use Rattle.script.specs.Listing.{_>>=_, guarded}
-use Rattle.grammar.specs.Tokens.{sort-discrete, statement, script, same-sort, Hole, only, takes, begins, semicolon, connective, relation, operator, closer-discrete, post-closer, by-closer, next-place, group-form, mark-form, when-form, if-form, while-form, script-form, Token, numeral, variable, truth-word, skip-word, not-word, assert-word, becomes, infix-word, form-word, closer-word}
+use Rattle.grammar.specs.Sorts.{sort-discrete, statement, script, same-sort, Hole, only, takes, begins}
+use Rattle.grammar.specs.Operators.{semicolon, connective, relation, operator}
+use Rattle.grammar.specs.Forms.{next-place, group-form, mark-form, when-form, if-form, while-form, script-form}
+use Rattle.grammar.specs.Tokens.{closer-discrete, post-closer, by-closer, Token, numeral, variable, truth-word, skip-word, not-word, assert-word, becomes, infix-word, form-word, closer-word}
 use Rattle.grammar.specs.Grammar.{Phrase, Chain, begun, more, place, words, sort, binds}
 use Rattle.grammar.specs.Automaton.{prefix, infix-after, Frame, pending, open-at, wants, holds, apply, hole, Mode, operand, after, due, State, at, start, Reduced, reduce, reduced, go-on, close, advance, step-at, step, run}
 use Rattle.grammar.specs.Tables.{ends-by-post, post-takes, loosest-wants, false-is-not, none-is-not, some-inj, held, same-is, same-sorts, phrase-range}
@@ -17,7 +20,8 @@ use Rattle.grammar.specs.Complete.{Below, chain-takes, below-more, read-
 use Rattle.grammar.specs.Contexts.{stack-words, Good-stack, Part, Reads}
 use Rattle.grammar.specs.Sound.{went-on, reduce-keeps, lower, Reads-state, after-keeps, step-keeps}
 use Rattle.grammar.specs.Viable.{state-extends}
-use Rattle.grammar.specs.Text.{is-post, post, spelled, text, Spells, at-post, take, read}
+use Rattle.grammar.specs.Text.{is-post, post, spelled, text, Spells}
+use Rattle.grammar.specs.Reader.{at-post, take, read}
 
 text-append : (us vs : List Token) → text (us ++ vs) ≡ text us ++ text vs
 unfolding text

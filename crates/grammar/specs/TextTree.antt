@@ -9,9 +9,10 @@ use lib.Seq.{getD-append-add}
 use Rattle.script.specs.declared.Row.the-variants as Row
 use Rattle.script.specs.Rows.{row, word, at-kind}
 use Rattle.script.specs.Trees.{tree}
-use Rattle.grammar.specs.Tokens.{script}
+use Rattle.grammar.specs.Sorts.{script}
 use Rattle.grammar.specs.Grammar.{Phrase, sort, Good}
-use Rattle.grammar.specs.Meaning.{Quad, flat, by-row, text-rows, text-table, text-tree}
+use Rattle.grammar.specs.Rows.{Quad, by-row}
+use Rattle.grammar.specs.Meaning.{flat, text-rows, text-table, text-tree}
 use Rattle.grammar.specs.Sizes.{table-length}
 use Rattle.grammar.specs.SameTree.{kind-row, quad-row, Stands, same-tree}
 

@@ -8,11 +8,15 @@ use lib.IntN.{ℤ, pos, negsuc}
 use Rattle.script.specs.declared.Operator.the-variants.{Plus, Minus, Times}
 use Rattle.script.specs.declared.Relation.the-variants.{Less, AtMost}
 use Rattle.script.specs.declared.Connective.the-variants.{Implies}
-use Rattle.grammar.specs.Tokens.{Token, numeral, variable, truth-word, skip-word, not-word, becomes, infix-word, form-word, closer-word, semicolon, connective, relation, operator, not-prefix, minus-prefix, assign-prefix, constant-leaf, number-leaf, variable-leaf, truth-leaf, skip-leaf, group-form, mark-form, while-form, script-form, while-keep, while-fall, while-body, script-body, script-post, bracket-closer, keep-closer, fall-closer, do-closer, end-closer, post-closer, end-of-text}
+use Rattle.grammar.specs.Operators.{semicolon, connective, relation, operator, not-prefix, minus-prefix, assign-prefix}
+use Rattle.grammar.specs.Forms.{group-form, mark-form, while-form, script-form, while-keep, while-fall, while-body, script-body, script-post}
+use Rattle.grammar.specs.Tokens.{Token, numeral, variable, truth-word, skip-word, not-word, becomes, infix-word, form-word, closer-word, constant-leaf, number-leaf, variable-leaf, truth-leaf, skip-leaf, bracket-closer, keep-closer, fall-closer, do-closer, end-closer, post-closer, end-of-text}
 use Rattle.grammar.specs.Grammar.{Phrase, leaf, before, between, closed, begun, more}
 use Rattle.grammar.specs.Automaton.{at, after, start, reduce}
-use Rattle.grammar.specs.Text.{read}
-use Rattle.grammar.specs.Meaning.{Quad, size, roots, table, text-rows}
+use Rattle.grammar.specs.Reader.{read}
+use Rattle.grammar.specs.Counts.{size, roots}
+use Rattle.grammar.specs.Rows.{Quad, table}
+use Rattle.grammar.specs.Meaning.{text-rows}
 
 -- pre v0 <= 5; skip; while v0 < 10 keep v0 <= 10 fall 10 - v0 do v0 := (v0 + mark(1)) * -1 end; post not v0 < 10 implies true
 abbrev pub tokens : List Token

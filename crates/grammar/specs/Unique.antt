@@ -3,7 +3,8 @@
 use mathlib.Core.Path.{_≡_, sym, ap, _∙_}
 use mathlib.Core.Option.{some}
 use mathlib.Core.List.{List, []}
-use Rattle.grammar.specs.Tokens.{script, Token}
+use Rattle.grammar.specs.Sorts.{script}
+use Rattle.grammar.specs.Tokens.{Token}
 use Rattle.grammar.specs.Grammar.{Phrase, words, sort, Good}
 use Rattle.grammar.specs.Automaton.{State, at, after, start, run}
 use Rattle.grammar.specs.Tables.{some-inj, same-sorts}

@@ -9,7 +9,10 @@ use mathlib.Core.Bool.{Bool, true, false}
 use native.Mathlib.Omega.{arith as linear}
 use Rattle.script.specs.declared.Relation.the-variants.{Less}
 use Rattle.script.specs.Listing.{_>>=_}
-use Rattle.grammar.specs.Tokens.{sort-discrete, number, expression, formula, statement, script, Hole, only, either, takes, relation, Place, place-takes, next-place, ending, ending-word, due-word, top, Token, numeral, infix-word, constant-leaf, number-leaf, truth-leaf, skip-leaf, script-form, script-body, script-post}
+use Rattle.grammar.specs.Sorts.{sort-discrete, number, expression, formula, statement, script, Hole, only, either, takes}
+use Rattle.grammar.specs.Operators.{relation, top}
+use Rattle.grammar.specs.Forms.{Place, place-takes, next-place, script-form, script-body, script-post}
+use Rattle.grammar.specs.Tokens.{ending, ending-word, due-word, Token, numeral, infix-word, constant-leaf, number-leaf, truth-leaf, skip-leaf}
 use Rattle.grammar.specs.Grammar.{Phrase, leaf, between, closed, Chain, begun, more, place, words, chain-words, sort, binds, Good, Good-chain}
 use Rattle.grammar.specs.Automaton.{Frame, pending, open-at, wants, apply, hole, Mode, operand, after, due, State, at, start, step, run, advance}
 use Rattle.grammar.specs.Tables.{none-is-not, same-is, same-sorts, takes-begins, begins-other, expression-level, holds-formula, later, Later, later-is}

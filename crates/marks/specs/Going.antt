@@ -8,7 +8,7 @@ use native.Mathlib.Omega.{arith as linear}
 use lib.IntN.{ℤ, pos}
 use lib.ListN.{length, getD, drop, set, length-set}
 use Rattle.script.specs.Rows.{field-number}
-use Rattle.grammar.specs.Meaning.{Quad}
+use Rattle.grammar.specs.Rows.{Quad}
 use Rattle.grammar.specs.Renamed.{loop-of}
 use Rattle.marks.specs.Stack.{stacked, pushed, dropped}
 use Rattle.marks.specs.Quads.{quads, marks-named, in-rows}

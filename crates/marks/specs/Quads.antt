@@ -7,7 +7,8 @@ use native.Mathlib.Omega.{arith as linear}
 use lib.IntN.{ℤ}
 use lib.ListN.{length, drop}
 use lib.Seq.{drop-at}
-use Rattle.grammar.specs.Meaning.{Quad, flat}
+use Rattle.grammar.specs.Rows.{Quad}
+use Rattle.grammar.specs.Meaning.{flat}
 use Rattle.grammar.specs.Renamed.{pass-rows}
 use Rattle.grammar.specs.TextTree.{flat-length}
 

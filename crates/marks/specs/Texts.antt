@@ -7,7 +7,8 @@ use lib.IntN.{ℤ}
 use lib.ListN.{length}
 use Rattle.grammar.specs.Grammar.{Phrase, Good}
 use Rattle.grammar.specs.Automaton.{at, after}
-use Rattle.grammar.specs.Meaning.{size, flat, text-table}
+use Rattle.grammar.specs.Counts.{size}
+use Rattle.grammar.specs.Meaning.{flat, text-table}
 use Rattle.grammar.specs.Sizes.{table-length}
 use Rattle.grammar.specs.Written.{by-count, written-in, stack-rows, stack-size}
 use Rattle.grammar.specs.Result.{rows-of-text}

@@ -11,7 +11,8 @@ use lib.IntN.{ℤ, pos, negsuc}
 use lib.ListN.{length, length-append, getD, take, drop, set}
 use lib.Seq.{length-take-le, take-length, drop-length, take-suc, drop-cons, getD-append-add, set-at}
 use Rattle.script.specs.Rows.{field-number}
-use Rattle.grammar.specs.Meaning.{Quad, quad, flat}
+use Rattle.grammar.specs.Rows.{Quad, quad}
+use Rattle.grammar.specs.Meaning.{flat}
 use Rattle.grammar.specs.Renamed.{is-kind, outer, kept, loop-of, after-pass, pass-rows}
 use Rattle.grammar.specs.TextTree.{flat-append, flat-length}
 

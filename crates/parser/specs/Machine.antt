@@ -8,7 +8,7 @@ use lib.Dec.{eqb, leb, ltb}
 use lib.IntN.{ℤ, pos}
 use lib.ListN.{length, getD, set}
 use lib.Seq.{sets}
-use Rattle.grammar.specs.Meaning.{minus}
+use Rattle.grammar.specs.Counts.{minus}
 use Rattle.grammar.specs.InRange.{limit, mark-fits, variable-fits}
 use Rattle.grammar.specs.Scanning.{Lexeme}
 use Rattle.grammar.specs.Numbers.{token-number, token-value}

@@ -7,10 +7,12 @@ use mathlib.Core.List.{List, [], _∷_, _++_, append-nil}
 use native.Mathlib.Omega.{arith as linear}
 use lib.Dec.{leb}
 use lib.ListN.{length, length-append}
-use Rattle.grammar.specs.Tokens.{expression, not-prefix, minus-prefix, assert-prefix, assign-prefix, Leaf, constant-leaf, number-leaf, variable-leaf, leaf-makes}
+use Rattle.grammar.specs.Sorts.{expression}
+use Rattle.grammar.specs.Operators.{not-prefix, minus-prefix, assert-prefix, assign-prefix}
+use Rattle.grammar.specs.Tokens.{Leaf, constant-leaf, number-leaf, variable-leaf, leaf-makes}
 use Rattle.grammar.specs.Grammar.{Phrase, leaf, before, sort}
 use Rattle.grammar.specs.Automaton.{prefix, infix-after, Frame, pending, open-at, operand, after, at, constant-on}
-use Rattle.grammar.specs.Meaning.{Quad}
+use Rattle.grammar.specs.Rows.{Quad}
 use Rattle.grammar.specs.Written.{stack-rows, part-rows, constant-row, constant-writes, leaf-writes}
 use Rattle.grammar.specs.InRange.{limit, mark-fits, variable-fits, after-minus, depth}
 use Rattle.parser.specs.declared.State.{State}

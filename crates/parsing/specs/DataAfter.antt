@@ -10,7 +10,10 @@ use native.Mathlib.Omega.{arith as linear}
 use lib.Dec.{leb}
 use lib.ListN.{length, length-append}
 use Rattle.script.specs.Listing.{guarded}
-use Rattle.grammar.specs.Tokens.{same-sort, takes, begins, Infix, infix-makes, Place, place-takes, next-place, Token, Ending, ends, ending, same-ending}
+use Rattle.grammar.specs.Sorts.{same-sort, takes, begins}
+use Rattle.grammar.specs.Operators.{Infix, infix-makes}
+use Rattle.grammar.specs.Forms.{Place, place-takes, next-place}
+use Rattle.grammar.specs.Tokens.{Token, Ending, ends, ending, same-ending}
 use Rattle.grammar.specs.Grammar.{Phrase, Chain, place, sort}
 use Rattle.grammar.specs.Automaton.{infix-after, Frame, pending, open-at, wants, holds, apply, hole, operand, after, State, at, Reduced, reduce, reduced, token-binds, infix-at, advance, close, shift, go-on, step-at}
 use Rattle.grammar.specs.Contexts.{Good-stack, Part}

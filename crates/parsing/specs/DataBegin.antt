@@ -11,7 +11,9 @@ use borrow.Author.Tests.{leb-true, ltb-true}
 use lib.IntN.{ℤ, pos}
 use lib.Dec.{leb}
 use lib.ListN.{length, replicate}
-use Rattle.grammar.specs.Tokens.{number, expression, formula, statement, script, same-sort, Hole, only, either, begins, Infix, not-prefix, minus-prefix, assert-prefix, assign-prefix, Leaf, constant-leaf, number-leaf, variable-leaf, truth-leaf, skip-leaf, leaf-makes, leaf-word, Opening, prefix-opening, form-opening, opening-makes, opening-word, opening-due, Token, numeral, variable, Beginning, leaf-beginning, opening-beginning, no-beginning}
+use Rattle.grammar.specs.Sorts.{number, expression, formula, statement, script, same-sort, Hole, only, either, begins}
+use Rattle.grammar.specs.Operators.{Infix, not-prefix, minus-prefix, assert-prefix, assign-prefix}
+use Rattle.grammar.specs.Tokens.{Leaf, constant-leaf, number-leaf, variable-leaf, truth-leaf, skip-leaf, leaf-makes, leaf-word, Opening, prefix-opening, form-opening, opening-makes, opening-word, opening-due, Token, numeral, variable, Beginning, leaf-beginning, opening-beginning, no-beginning}
 use Rattle.grammar.specs.Grammar.{Phrase, sort}
 use Rattle.grammar.specs.Automaton.{infix-after, Frame, pending, hole, operand, after, State, at, start, leaf-on, opening-frame, pushed, begin}
 use Rattle.grammar.specs.Meaning.{flat}

@@ -7,10 +7,12 @@ use mathlib.Core.List.{List, _∷_}
 use lib.IntN.{pos}
 use lib.Dec.{eqb, lit<}
 use lib.ListN.{length}
-use Rattle.grammar.specs.Tokens.{Sort, number, expression, formula, statement, script, same-sort, sort-discrete, Hole, only, either, takes, Place, in-group, in-mark, when-first, when-second, when-third, if-guard, if-then, if-else, while-guard, while-keep, while-fall, while-body, script-pre, script-body, script-post, next-place, place-takes, place-makes}
+use Rattle.grammar.specs.Sorts.{Sort, number, expression, formula, statement, script, same-sort, sort-discrete, Hole, only, either, takes}
+use Rattle.grammar.specs.Forms.{Place, in-group, in-mark, when-first, when-second, when-third, if-guard, if-then, if-else, while-guard, while-keep, while-fall, while-body, script-pre, script-body, script-post, next-place, place-takes, place-makes}
 use Rattle.grammar.specs.Grammar.{Phrase, closed, Chain, place, sort}
 use Rattle.grammar.specs.Automaton.{Frame, open-at, after, at, advance}
-use Rattle.grammar.specs.Meaning.{begins-body, counts, form-rows, three}
+use Rattle.grammar.specs.Counts.{begins-body}
+use Rattle.grammar.specs.Rows.{counts, form-rows, three}
 use Rattle.grammar.specs.Written.{part-rows, written-in}
 use Rattle.grammar.specs.InRange.{part-flags, All}
 use Rattle.grammar.specs.Outcome.{has-room}

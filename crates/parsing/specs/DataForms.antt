@@ -9,10 +9,12 @@ use native.Mathlib.Omega.{arith as linear}
 use lib.IntN.{pos}
 use lib.Dec.{lit<}
 use lib.ListN.{length, getD}
-use Rattle.grammar.specs.Tokens.{number, same-sort, Hole, Place, in-group, in-mark}
+use Rattle.grammar.specs.Sorts.{number, same-sort, Hole}
+use Rattle.grammar.specs.Forms.{Place, in-group, in-mark}
 use Rattle.grammar.specs.Grammar.{Phrase, closed, Chain, place, sort}
 use Rattle.grammar.specs.Automaton.{Frame, open-at, after, at}
-use Rattle.grammar.specs.Meaning.{size, chain-size, last, roots, counts, form-rows, three, Quad, quad}
+use Rattle.grammar.specs.Counts.{size, chain-size, last, roots}
+use Rattle.grammar.specs.Rows.{counts, form-rows, three, Quad, quad}
 use Rattle.grammar.specs.Written.{stack-size, part-rows, advance-rows, advance-writes}
 use Rattle.grammar.specs.InRange.{flags, depth, after-minus, stack-flags, part-flags, All, all-parts}
 use Rattle.grammar.specs.Outcome.{has-room}

@@ -9,10 +9,13 @@ use borrow.Author.Tests.{ltb-true}
 use lib.IntN.{ℤ, pos}
 use lib.Dec.{leb, lit<}
 use lib.ListN.{length, length-append}
-use Rattle.grammar.specs.Tokens.{Sort, number, same-sort, not-prefix, minus-prefix, assert-prefix, assign-prefix, constant-leaf, number-leaf, variable-leaf, truth-leaf, skip-leaf}
+use Rattle.grammar.specs.Sorts.{Sort, number, same-sort}
+use Rattle.grammar.specs.Operators.{not-prefix, minus-prefix, assert-prefix, assign-prefix}
+use Rattle.grammar.specs.Tokens.{constant-leaf, number-leaf, variable-leaf, truth-leaf, skip-leaf}
 use Rattle.grammar.specs.Grammar.{Phrase, leaf, before, sort}
 use Rattle.grammar.specs.Automaton.{prefix, infix-after, Frame, pending, open-at, operand, after, at, constant-on, leaf-on}
-use Rattle.grammar.specs.Meaning.{minus, Quad, quad, constant}
+use Rattle.grammar.specs.Counts.{minus}
+use Rattle.grammar.specs.Rows.{Quad, quad, constant}
 use Rattle.grammar.specs.Written.{stack-rows, part-rows, written-in, constant-writes, leaf-writes}
 use Rattle.grammar.specs.InRange.{limit, variable-fits, mark-fits, after-minus}
 use Rattle.grammar.specs.Outcome.{has-room}

@@ -9,11 +9,13 @@ use lib.ListN.{getD}
 use Rattle.script.specs.declared.Operator.the-variants.{Plus, Minus, Times, Div, Mod}
 use Rattle.script.specs.declared.Relation.the-variants.{Less, AtMost, Equal, Unequal}
 use Rattle.script.specs.declared.Connective.the-variants.{And, Or, Implies}
-use Rattle.grammar.specs.Tokens.{Hole, only, either, semicolon, connective, relation, operator, not-prefix, minus-prefix, assert-prefix, assign-prefix, Place, in-group, in-mark, when-first, when-second, when-third, if-guard, if-then, if-else, while-guard, while-keep, while-fall, while-body, script-pre, script-body, script-post}
+use Rattle.grammar.specs.Sorts.{Hole, only, either}
+use Rattle.grammar.specs.Operators.{semicolon, connective, relation, operator, not-prefix, minus-prefix, assert-prefix, assign-prefix}
+use Rattle.grammar.specs.Forms.{Place, in-group, in-mark, when-first, when-second, when-third, if-guard, if-then, if-else, while-guard, while-keep, while-fall, while-body, script-pre, script-body, script-post}
 use Rattle.grammar.specs.Grammar.{Chain, place}
 use Rattle.grammar.specs.Automaton.{Pending, prefix, infix-after, Frame, pending, open-at, wants, holds as levels}
 use Rattle.grammar.specs.Contexts.{pending-makes}
-use Rattle.grammar.specs.Meaning.{size, last, roots}
+use Rattle.grammar.specs.Counts.{size, last, roots}
 use Rattle.grammar.specs.Written.{stack-size}
 use Rattle.grammar.specs.Numbers.{infix-number}
 use Rattle.parser.specs.Symbols.{holds, holes, makes}

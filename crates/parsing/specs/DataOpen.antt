@@ -7,10 +7,14 @@ use mathlib.Core.Bool.{true}
 use mathlib.Core.List.{List, _∷_}
 use native.Mathlib.Omega.{arith as linear}
 use lib.ListN.{length}
-use Rattle.grammar.specs.Tokens.{number, expression, formula, statement, script, Hole, only, either, begins, Infix, not-prefix, minus-prefix, assert-prefix, assign-prefix, group-form, mark-form, when-form, if-form, while-form, script-form, Due, becomes-due, Opening, prefix-opening, form-opening, opening-makes, opening-word, opening-due}
+use Rattle.grammar.specs.Sorts.{number, expression, formula, statement, script, Hole, only, either, begins}
+use Rattle.grammar.specs.Operators.{Infix, not-prefix, minus-prefix, assert-prefix, assign-prefix}
+use Rattle.grammar.specs.Forms.{group-form, mark-form, when-form, if-form, while-form, script-form}
+use Rattle.grammar.specs.Tokens.{Due, becomes-due, Opening, prefix-opening, form-opening, opening-makes, opening-word, opening-due}
 use Rattle.grammar.specs.Grammar.{Phrase}
 use Rattle.grammar.specs.Automaton.{prefix, infix-after, Frame, pending, hole, operand, after, due, at, opening-frame, pushed}
-use Rattle.grammar.specs.Meaning.{size, last, roots, Quad}
+use Rattle.grammar.specs.Counts.{size, last, roots}
+use Rattle.grammar.specs.Rows.{Quad}
 use Rattle.grammar.specs.Written.{stack-size, stack-rows, part-rows, push-writes, shift-writes}
 use Rattle.grammar.specs.InRange.{variable-fits}
 use Rattle.grammar.specs.Numbers.{infix-number, token-number}

@@ -11,10 +11,11 @@ use lib.ListN.{length}
 use Rattle.script.specs.declared.Operator.the-variants.{Plus, Minus, Times, Div, Mod}
 use Rattle.script.specs.declared.Relation.the-variants.{Less, AtMost, Equal, Unequal}
 use Rattle.script.specs.declared.Connective.the-variants.{And, Or, Implies}
-use Rattle.grammar.specs.Tokens.{Infix, semicolon, connective, relation, operator, not-prefix, minus-prefix, assert-prefix, assign-prefix}
+use Rattle.grammar.specs.Operators.{Infix, semicolon, connective, relation, operator, not-prefix, minus-prefix, assert-prefix, assign-prefix}
 use Rattle.grammar.specs.Grammar.{Phrase}
 use Rattle.grammar.specs.Automaton.{Pending, prefix, infix-after, Frame, pending}
-use Rattle.grammar.specs.Meaning.{size, last, Quad, quad, infix-kind}
+use Rattle.grammar.specs.Counts.{size, last}
+use Rattle.grammar.specs.Rows.{Quad, quad, infix-kind}
 use Rattle.grammar.specs.Written.{stack-size, pending-row}
 use Rattle.grammar.specs.InRange.{depth, frame-flags, All}
 use Rattle.grammar.specs.Numbers.{infix-number}

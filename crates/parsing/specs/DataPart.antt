@@ -10,10 +10,12 @@ use lib.IntN.{ℤ}
 use lib.Dec.{leb}
 use lib.ListN.{length, length-append}
 use Rattle.script.specs.Listing.{guarded}
-use Rattle.grammar.specs.Tokens.{Sort, number, same-sort, semicolon, connective, relation, operator, not-prefix, minus-prefix, assert-prefix, assign-prefix}
+use Rattle.grammar.specs.Sorts.{Sort, number, same-sort}
+use Rattle.grammar.specs.Operators.{semicolon, connective, relation, operator, not-prefix, minus-prefix, assert-prefix, assign-prefix}
 use Rattle.grammar.specs.Grammar.{Phrase, sort}
 use Rattle.grammar.specs.Automaton.{Pending, prefix, infix-after, Frame, pending, open-at, wants, holds, apply, Reduced, reduce, reduced}
-use Rattle.grammar.specs.Meaning.{size, Quad, counts}
+use Rattle.grammar.specs.Counts.{size}
+use Rattle.grammar.specs.Rows.{Quad, counts}
 use Rattle.grammar.specs.Written.{stack-size, part-rows, pending-row, Apart-on, pop-writes, apart-apply}
 use Rattle.grammar.specs.InRange.{prefix-flags, flags, depth, frame-flags, stack-flags, part-flags, is-minus, All, all-parts}
 use Rattle.grammar.specs.Outcome.{has-room}

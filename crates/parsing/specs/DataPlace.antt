@@ -9,10 +9,12 @@ use native.Mathlib.Omega.{arith as linear}
 use lib.IntN.{pos}
 use lib.Dec.{lit<}
 use lib.ListN.{length, getD, length-append}
-use Rattle.grammar.specs.Tokens.{number, same-sort, Hole, Place, place-takes, while-body}
+use Rattle.grammar.specs.Sorts.{number, same-sort, Hole}
+use Rattle.grammar.specs.Forms.{Place, place-takes, while-body}
 use Rattle.grammar.specs.Grammar.{Phrase, Chain, place, sort}
 use Rattle.grammar.specs.Automaton.{Frame, open-at, after, at, advance}
-use Rattle.grammar.specs.Meaning.{size, chain-size, last, with-note, roots, begins-body, Quad, quad}
+use Rattle.grammar.specs.Counts.{size, chain-size, last, with-note, roots, begins-body}
+use Rattle.grammar.specs.Rows.{Quad, quad}
 use Rattle.grammar.specs.Written.{stack-size, part-rows, written-in, advance-rows, advance-writes}
 use Rattle.grammar.specs.Outcome.{has-room}
 use Rattle.grammar.specs.Sizes.{sized}

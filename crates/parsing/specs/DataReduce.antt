@@ -11,7 +11,7 @@ use lib.IntN.{ℤ}
 use lib.Dec.{eqb, leb, ltb}
 use lib.ListN.{length, getD}
 use Rattle.script.specs.Listing.{guarded}
-use Rattle.grammar.specs.Tokens.{same-sort, sort-discrete}
+use Rattle.grammar.specs.Sorts.{same-sort, sort-discrete}
 use Rattle.grammar.specs.Grammar.{Phrase, sort}
 use Rattle.grammar.specs.Automaton.{Pending, prefix, infix-after, Frame, pending, open-at, wants, holds, apply, Reduced, reduce, reduced}
 use Rattle.grammar.specs.Contexts.{pending-makes}

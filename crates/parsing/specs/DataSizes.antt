@@ -9,10 +9,12 @@ use native.Mathlib.Omega.{arith as linear}
 use borrow.Author.Tests.{leb-true}
 use lib.Dec.{leb}
 use lib.ListN.{length, getD, length-append}
-use Rattle.grammar.specs.Tokens.{Form, group-form, mark-form, when-form, if-form, while-form, script-form, first-place, constant-leaf, number-leaf, variable-leaf, truth-leaf, skip-leaf}
+use Rattle.grammar.specs.Forms.{Form, group-form, mark-form, when-form, if-form, while-form, script-form, first-place}
+use Rattle.grammar.specs.Tokens.{constant-leaf, number-leaf, variable-leaf, truth-leaf, skip-leaf}
 use Rattle.grammar.specs.Grammar.{Phrase, leaf, before, between, closed, Chain, begun, more, place}
 use Rattle.grammar.specs.Automaton.{prefix, infix-after, Frame, pending, open-at}
-use Rattle.grammar.specs.Meaning.{begins-body, size, chain-size, last, with-note, roots, table, chain-table, counts}
+use Rattle.grammar.specs.Counts.{begins-body, size, chain-size, last, with-note, roots}
+use Rattle.grammar.specs.Rows.{table, chain-table, counts}
 use Rattle.grammar.specs.Written.{by-count, stack-size, stack-rows, part-rows}
 use Rattle.grammar.specs.Sizes.{table-length, chain-length}
 use Rattle.grammar.specs.InRange.{flags, depth, All}

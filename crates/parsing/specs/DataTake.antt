@@ -7,18 +7,22 @@ use mathlib.Core.Bool.{Bool, true, false, cond}
 use mathlib.Core.List.{List, [], _∷_, _++_}
 use native.Mathlib.Omega.{arith as linear}
 use lib.ListN.{length, length-append}
-use Rattle.grammar.specs.Tokens.{Sort, statement, number, same-sort, semicolon, connective, relation, operator, not-prefix, minus-prefix, assert-prefix, assign-prefix, tight, constant-leaf, number-leaf, variable-leaf, truth-leaf, skip-leaf, Token, beginning}
+use Rattle.grammar.specs.Sorts.{Sort, statement, number, same-sort}
+use Rattle.grammar.specs.Operators.{semicolon, connective, relation, operator, not-prefix, minus-prefix, assert-prefix, assign-prefix, tight}
+use Rattle.grammar.specs.Tokens.{constant-leaf, number-leaf, variable-leaf, truth-leaf, skip-leaf, Token, beginning}
 use Rattle.grammar.specs.Grammar.{Phrase, leaf, before, between, closed, words, sort}
 use Rattle.grammar.specs.Automaton.{prefix, infix-after, Frame, pending, open-at, hole, Mode, operand, after, due, State, at, Reduced, reduce, token-binds, infix-at, is-due, step-at, step}
 use Rattle.grammar.specs.Complete.{Below}
 use Rattle.grammar.specs.Contexts.{stack-words, Good-stack, Part, Reads}
-use Rattle.grammar.specs.Meaning.{constant-in, Quad}
+use Rattle.grammar.specs.Counts.{constant-in}
+use Rattle.grammar.specs.Rows.{Quad}
 use Rattle.grammar.specs.Written.{written, written-in, Settled, apart-none, shift-writes}
 use Rattle.grammar.specs.InRange.{after-flags, flags, depth, after-minus, flag, stack-flags, mode-flags, state-flags, part-flags, All}
 use Rattle.grammar.specs.Outcome.{has-room}
 use Rattle.grammar.specs.Tables.{false-is-not, none-is-not, held, begun-by, binds-tight}
 use Rattle.grammar.specs.Sound.{lower}
-use Rattle.grammar.specs.Text.{is-post, post, at-post, take}
+use Rattle.grammar.specs.Text.{is-post, post}
+use Rattle.grammar.specs.Reader.{at-post, take}
 use Rattle.grammar.specs.TextRead.{Came, before-semicolon}
 use Rattle.grammar.specs.Adds.{Adds, step-adds, take-adds}
 use Rattle.parser.specs.Machine.{full, Config, config, complete, S, due as machine-due}

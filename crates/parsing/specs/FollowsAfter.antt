@@ -9,7 +9,9 @@ use native.Mathlib.Omega.{arith as linear}
 use lib.Dec.{eqb, leb}
 use lib.ListN.{length}
 use Rattle.script.specs.Listing.{_>>=_, guarded}
-use Rattle.grammar.specs.Tokens.{Sort, number, expression, formula, statement, script, same-sort, infix-takes, Token, numeral, variable, truth-word, skip-word, not-word, assert-word, becomes, infix-word, form-word, closer-word}
+use Rattle.grammar.specs.Sorts.{Sort, number, expression, formula, statement, script, same-sort}
+use Rattle.grammar.specs.Operators.{infix-takes}
+use Rattle.grammar.specs.Tokens.{Token, numeral, variable, truth-word, skip-word, not-word, assert-word, becomes, infix-word, form-word, closer-word}
 use Rattle.grammar.specs.Grammar.{Phrase, sort}
 use Rattle.grammar.specs.Automaton.{Frame, pending, open-at, wants, holds, apply, after as after-part, at, Reduced, reduce, reduced, token-binds, infix-at, go-on as go-on-at, step-at}
 use Rattle.grammar.specs.Tables.{some-inj, held}

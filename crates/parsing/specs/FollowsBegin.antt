@@ -10,12 +10,15 @@ use Rattle.script.specs.Listing.{guarded}
 use Rattle.script.specs.declared.Operator.the-variants.{Plus, Minus, Times, Div, Mod}
 use Rattle.script.specs.declared.Relation.the-variants.{Less, AtMost, Equal, Unequal}
 use Rattle.script.specs.declared.Connective.the-variants.{And, Or, Implies}
-use Rattle.grammar.specs.Tokens.{number, expression, formula, statement, script, Hole, only, either, wide, begins, semicolon, connective, relation, operator, not-prefix, minus-prefix, assert-prefix, group-form, mark-form, when-form, if-form, while-form, script-form, bracket-closer, comma-closer, then-closer, else-closer, end-closer, keep-closer, fall-closer, do-closer, post-closer, end-of-text, Token, numeral, variable, truth-word, skip-word, not-word, assert-word, becomes, infix-word, form-word, closer-word, Leaf, truth-leaf, skip-leaf, leaf-makes, Opening, prefix-opening, form-opening, opening-makes, opening-due, opening-beginning, beginning as beginning-of}
+use Rattle.grammar.specs.Sorts.{number, expression, formula, statement, script, Hole, only, either, wide, begins}
+use Rattle.grammar.specs.Operators.{semicolon, connective, relation, operator, not-prefix, minus-prefix, assert-prefix}
+use Rattle.grammar.specs.Forms.{group-form, mark-form, when-form, if-form, while-form, script-form}
+use Rattle.grammar.specs.Tokens.{bracket-closer, comma-closer, then-closer, else-closer, end-closer, keep-closer, fall-closer, do-closer, post-closer, end-of-text, Token, numeral, variable, truth-word, skip-word, not-word, assert-word, becomes, infix-word, form-word, closer-word, Leaf, truth-leaf, skip-leaf, leaf-makes, Opening, prefix-opening, form-opening, opening-makes, opening-due, opening-beginning, beginning as beginning-of}
 use Rattle.grammar.specs.Grammar.{leaf, place}
 use Rattle.grammar.specs.Automaton.{Frame, operand, after, at, hole as hole-of, opening-frame, begin as begin-at}
 use Rattle.grammar.specs.Tables.{false-is-not}
 use Rattle.grammar.specs.Contexts.{Good-stack}
-use Rattle.grammar.specs.Meaning.{Quad}
+use Rattle.grammar.specs.Rows.{Quad}
 use Rattle.grammar.specs.Written.{stack-rows, part-rows, leaf-writes}
 use Rattle.grammar.specs.InRange.{depth, operand-flag}
 use Rattle.grammar.specs.Outcome.{all-of}

@@ -9,11 +9,13 @@ use native.Mathlib.Omega.{arith as linear}
 use lib.Dec.{eqb}
 use lib.ListN.{length, getD}
 use Rattle.script.specs.Listing.{_>>=_, guarded}
-use Rattle.grammar.specs.Tokens.{same-sort, takes, begins, Infix, infix-takes, infix-makes, Token, numeral, variable, truth-word, skip-word, not-word, assert-word, becomes, infix-word, form-word, closer-word, Ending, ending, same-ending, ends as ends-of}
+use Rattle.grammar.specs.Sorts.{same-sort, takes, begins}
+use Rattle.grammar.specs.Operators.{Infix, infix-takes, infix-makes}
+use Rattle.grammar.specs.Tokens.{Token, numeral, variable, truth-word, skip-word, not-word, assert-word, becomes, infix-word, form-word, closer-word, Ending, ending, same-ending, ends as ends-of}
 use Rattle.grammar.specs.Grammar.{Phrase, place, sort}
 use Rattle.grammar.specs.Automaton.{infix-after, Frame, pending, open-at, hole as hole-of, operand, after as after-part, State, at, infix-at, close as close-at, shift}
 use Rattle.grammar.specs.Contexts.{Good-stack}
-use Rattle.grammar.specs.Meaning.{begins-body}
+use Rattle.grammar.specs.Counts.{begins-body}
 use Rattle.grammar.specs.Written.{shift-writes}
 use Rattle.grammar.specs.InRange.{depth}
 use Rattle.grammar.specs.Numbers.{infix-number}

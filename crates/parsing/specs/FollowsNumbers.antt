@@ -7,7 +7,9 @@ use mathlib.Core.List.{List, [], _∷_}
 use native.Mathlib.Omega.{arith as linear}
 use lib.Dec.{eqb, leb}
 use lib.ListN.{length}
-use Rattle.grammar.specs.Tokens.{Sort, number, expression, statement, begins, not-prefix, minus-prefix, assert-prefix, assign-prefix, numeral, variable, constant-leaf, number-leaf, variable-leaf, prefix-opening, leaf-beginning, opening-beginning, beginning as beginning-of}
+use Rattle.grammar.specs.Sorts.{Sort, number, expression, statement, begins}
+use Rattle.grammar.specs.Operators.{not-prefix, minus-prefix, assert-prefix, assign-prefix}
+use Rattle.grammar.specs.Tokens.{numeral, variable, constant-leaf, number-leaf, variable-leaf, prefix-opening, leaf-beginning, opening-beginning, beginning as beginning-of}
 use Rattle.grammar.specs.Grammar.{place}
 use Rattle.grammar.specs.Automaton.{prefix, infix-after, Frame, pending, open-at, operand, at, hole as hole-of, begin as begin-at}
 use Rattle.grammar.specs.Contexts.{Good-stack}

@@ -20,7 +20,7 @@ use Rattle.grammar.specs.Outcome.{has-room, all-of, out-of-range, out-after as 
 use Rattle.grammar.specs.Numbers.{token-number, token-value}
 use Rattle.grammar.specs.Scanning.{Lexeme, tokens-of, stuck, or-at}
 use Rattle.grammar.specs.Adds.{take-adds}
-use Rattle.grammar.specs.Text.{take as take-token, read}
+use Rattle.grammar.specs.Reader.{take as take-token, read}
 use Rattle.grammar.specs.TextRead.{Came, take-keeps}
 use Rattle.parser.specs.Machine.{Config, nowhere, out-after, take, run}
 use Rattle.parsing.specs.Encoding.{Control, Data}

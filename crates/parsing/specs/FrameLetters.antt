@@ -13,7 +13,10 @@ use Rattle.script.specs.declared.Connective.{Connective}
 use Rattle.script.specs.declared.Operator.the-variants.{Plus, Minus, Times, Div, Mod}
 use Rattle.script.specs.declared.Relation.the-variants.{Less, AtMost, Equal, Unequal}
 use Rattle.script.specs.declared.Connective.the-variants.{And, Or, Implies}
-use Rattle.grammar.specs.Tokens.{number, expression, formula, statement, script, Hole, only, either, wide, begins, semicolon, connective, relation, operator, Prefix, not-prefix, minus-prefix, assert-prefix, assign-prefix, group-form, mark-form, when-form, if-form, while-form, script-form, Place, place-takes, in-group, in-mark, when-first, when-second, when-third, if-guard, if-then, if-else, while-guard, while-keep, while-fall, while-body, script-pre, script-body, script-post, ending}
+use Rattle.grammar.specs.Sorts.{number, expression, formula, statement, script, Hole, only, either, wide, begins}
+use Rattle.grammar.specs.Operators.{semicolon, connective, relation, operator, Prefix, not-prefix, minus-prefix, assert-prefix, assign-prefix}
+use Rattle.grammar.specs.Forms.{group-form, mark-form, when-form, if-form, while-form, script-form, Place, place-takes, in-group, in-mark, when-first, when-second, when-third, if-guard, if-then, if-else, while-guard, while-keep, while-fall, while-body, script-pre, script-body, script-post}
+use Rattle.grammar.specs.Tokens.{ending}
 use Rattle.grammar.specs.Tables.{false-is-not}
 use Rattle.grammar.specs.Grammar.{Phrase, Chain, begun, more, sort}
 use Rattle.grammar.specs.Automaton.{Pending, prefix, infix-after, Frame, pending, open-at, apply, hole as hole-of}

@@ -6,7 +6,8 @@ use mathlib.Core.Bool.{Bool, true, false, cond}
 use mathlib.Core.List.{List, [], _∷_, _++_}
 use native.Mathlib.Omega.{arith as linear}
 use lib.ListN.{length, length-append}
-use Rattle.grammar.specs.Tokens.{Token, infix-word, semicolon, due-word}
+use Rattle.grammar.specs.Operators.{semicolon}
+use Rattle.grammar.specs.Tokens.{Token, infix-word, due-word}
 use Rattle.grammar.specs.Grammar.{words}
 use Rattle.grammar.specs.Automaton.{Frame, Mode, operand, after, due, State}
 use Rattle.grammar.specs.Contexts.{stack-words, Reads}

@@ -6,7 +6,10 @@ use mathlib.Core.Option.{Option, none, some}
 use mathlib.Core.Bool.{Bool, true}
 use mathlib.Core.List.{List, _∷_}
 use lib.ListN.{length}
-use Rattle.grammar.specs.Tokens.{Hole, assign-prefix, group-form, mark-form, when-form, if-form, while-form, script-form, Due, bracket-due, becomes-due, Opening, prefix-opening, form-opening, opening-due}
+use Rattle.grammar.specs.Sorts.{Hole}
+use Rattle.grammar.specs.Operators.{assign-prefix}
+use Rattle.grammar.specs.Forms.{group-form, mark-form, when-form, if-form, while-form, script-form}
+use Rattle.grammar.specs.Tokens.{Due, bracket-due, becomes-due, Opening, prefix-opening, form-opening, opening-due}
 use Rattle.grammar.specs.Grammar.{sort}
 use Rattle.grammar.specs.Automaton.{prefix, Frame, pending, operand, due, at, hole as hole-of, opening-frame, pushed}
 use Rattle.grammar.specs.Written.{push-writes}

@@ -13,7 +13,9 @@ use Rattle.grammar.specs.Tables.{false-is-not}
 use Rattle.grammar.specs.Grammar.{Phrase}
 use Rattle.grammar.specs.Sizes.{table-length}
 use Rattle.grammar.specs.TextTree.{flat-length}
-use Rattle.grammar.specs.Meaning.{size, by-row, text-rows, text-table}
+use Rattle.grammar.specs.Counts.{size}
+use Rattle.grammar.specs.Rows.{by-row}
+use Rattle.grammar.specs.Meaning.{text-rows, text-table}
 use Rattle.grammar.specs.Written.{stack-rows, stack-size}
 use Rattle.grammar.specs.Scanning.{Lexeme, Scanned, no-token, lexemes, scan}
 use Rattle.grammar.specs.Outcome.{Outcome, refused, given, scanned-out, outcome}

@@ -14,9 +14,10 @@ use lib.Dec.{leb}
 use lib.IntN.{ℤ}
 use lib.ListN.{length, drop}
 use Rattle.theorems.specs.Options.{went-on}
-use Rattle.grammar.specs.Tokens.{number, begins, Token, numeral, variable, truth-word, skip-word, not-word, assert-word, becomes, infix-word, form-word, closer-word}
+use Rattle.grammar.specs.Sorts.{number, begins}
+use Rattle.grammar.specs.Tokens.{Token, numeral, variable, truth-word, skip-word, not-word, assert-word, becomes, infix-word, form-word, closer-word}
 use Rattle.grammar.specs.Automaton.{Frame, hole, Mode, operand, after, due, State, at, start}
-use Rattle.grammar.specs.Text.{take, read}
+use Rattle.grammar.specs.Reader.{take, read}
 use Rattle.grammar.specs.TextRead.{text-read}
 use Rattle.grammar.specs.Tables.{false-is-not}
 use Rattle.grammar.specs.Scanning.{Lexeme, tokens-of, Scanned, no-token, lexemes, with-first, past, Found, token-at, scan-from, scan, is-blank}

@@ -12,9 +12,10 @@ use lib.IntN.{ℤ}
 use lib.ListN.{length}
 use Rattle.grammar.specs.Grammar.{Phrase}
 use Rattle.grammar.specs.Automaton.{after, at, start}
-use Rattle.grammar.specs.Meaning.{size, text-table}
+use Rattle.grammar.specs.Counts.{size}
+use Rattle.grammar.specs.Meaning.{text-table}
 use Rattle.grammar.specs.Tables.{false-is-not}
-use Rattle.grammar.specs.Text.{read}
+use Rattle.grammar.specs.Reader.{read}
 use Rattle.grammar.specs.TextRead.{text-read, read-text}
 use Rattle.grammar.specs.Scanning.{Lexeme, tokens-of, Scanned, no-token, lexemes, scan, stuck}
 use Rattle.grammar.specs.InRange.{All, text-flags}

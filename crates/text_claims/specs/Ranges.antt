@@ -10,10 +10,12 @@ use mathlib.Core.List.{List, [], _∷_, _++_}
 use mathlib.Core.Bool.{Bool, true, false, cond}
 use lib.ListN.{length}
 use Rattle.theorems.specs.Options.{none-is-not, went-on}
-use Rattle.grammar.specs.Tokens.{Sort, Token, numeral, variable, truth-word, skip-word, not-word, assert-word, becomes, infix-word, form-word, closer-word, Due, ends}
+use Rattle.grammar.specs.Sorts.{Sort}
+use Rattle.grammar.specs.Tokens.{Token, numeral, variable, truth-word, skip-word, not-word, assert-word, becomes, infix-word, form-word, closer-word, Due, ends}
 use Rattle.grammar.specs.Grammar.{Phrase}
 use Rattle.grammar.specs.Automaton.{Frame, Mode, operand, after, due, State, at, start, token-binds, infix-at, reduce, go-on, is-due}
-use Rattle.grammar.specs.Text.{is-post, Spells, take, read}
+use Rattle.grammar.specs.Text.{is-post, Spells}
+use Rattle.grammar.specs.Reader.{take, read}
 use Rattle.grammar.specs.TextRead.{text-read}
 use Rattle.grammar.specs.Tables.{false-is-not}
 use Rattle.grammar.specs.Scanning.{Lexeme, tokens-of}

@@ -11,7 +11,8 @@ use lib.ListN.{length}
 use Rattle.grammar.specs.Grammar.{Phrase}
 use Rattle.grammar.specs.Text.{Spells}
 use Rattle.grammar.specs.TextRead.{text-unique}
-use Rattle.grammar.specs.Meaning.{size, text-table}
+use Rattle.grammar.specs.Counts.{size}
+use Rattle.grammar.specs.Meaning.{text-table}
 use Rattle.grammar.specs.Scanning.{Lexeme, tokens-of, Scanned, no-token, lexemes, scan}
 use Rattle.grammar.specs.InRange.{flags, All}
 

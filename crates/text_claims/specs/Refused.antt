@@ -7,8 +7,10 @@ use mathlib.Core.List.{List, [], _∷_, _++_, map}
 use lib.ListN.{replicate}
 use Rattle.script.specs.Computed.{_⨾_, four-rows}
 use Rattle.grammar.specs.Automaton.{reduce}
-use Rattle.grammar.specs.Text.{read}
-use Rattle.grammar.specs.Meaning.{size, roots, table, flat, text-rows, text-table}
+use Rattle.grammar.specs.Reader.{read}
+use Rattle.grammar.specs.Counts.{size, roots}
+use Rattle.grammar.specs.Rows.{table}
+use Rattle.grammar.specs.Meaning.{flat, text-rows, text-table}
 use Rattle.grammar.specs.InRange.{depth}
 use Rattle.grammar.specs.Scanning.{bytes, token-at, scan-from, scan, stuck}
 use Rattle.grammar.specs.Outcome.{Outcome, refused, given, out-of-range, outcome}

@@ -31,8 +31,10 @@ use Rattle.script.specs.Promise.{All-valid, List-valid}
 use Rattle.theorems.specs.Options.{some-inj}
 use Rattle.grammar.specs.Automaton.{reduce}
 use Rattle.grammar.specs.Grammar.{Phrase}
-use Rattle.grammar.specs.Text.{read}
-use Rattle.grammar.specs.Meaning.{size, roots, table, flat, text-rows, text-table, text-tree}
+use Rattle.grammar.specs.Reader.{read}
+use Rattle.grammar.specs.Counts.{size, roots}
+use Rattle.grammar.specs.Rows.{table}
+use Rattle.grammar.specs.Meaning.{flat, text-rows, text-table, text-tree}
 use Rattle.grammar.specs.InRange.{depth}
 use Rattle.grammar.specs.Scanning.{bytes, token-at, scan-from, scan, stuck}
 use Rattle.grammar.specs.Outcome.{given, out-of-range, outcome}
