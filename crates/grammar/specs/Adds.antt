@@ -18,12 +18,12 @@ use Rattle.grammar.specs.Counts.{constant-in}
 use Rattle.grammar.specs.Rows.{Quad}
 use Rattle.grammar.specs.Written.{stack-rows, part-rows, written, written-in, pop-writes, leaf-writes, No-body, advance-writes, shift-writes, push-writes, Apart-on, Settled, apart-none, apart-apply, apart-leaf, apart-advance}
 use Rattle.grammar.specs.InRange.{next-no-body}
-use Rattle.grammar.specs.Tables.{false-is-not, none-is-not, some-inj, held}
-use Rattle.grammar.specs.Sound.{went-on}
+use Rattle.grammar.specs.Tests.{false-is-not, none-is-not, some-inj, held}
+use Rattle.grammar.specs.Reduces.{went-on}
 use Rattle.grammar.specs.Contexts.{Good-stack, Reads}
 use Rattle.grammar.specs.Text.{is-post, post}
 use Rattle.grammar.specs.Reader.{at-post, take, read}
-use Rattle.grammar.specs.TextRead.{Came, take-keeps}
+use Rattle.grammar.specs.TextSound.{Came, take-keeps}
 
 -- rows, and some more
 pub record Adds (rs qs : List Quad) : Type 0 where

@@ -7,7 +7,7 @@ use Rattle.grammar.specs.Reader.{read}
 use Rattle.grammar.specs.Counts.{size, roots}
 use Rattle.grammar.specs.Rows.{table}
 use Rattle.grammar.specs.Meaning.{flat, text-rows, text-table}
-use Rattle.grammar.specs.InRange.{depth}
+use Rattle.grammar.specs.Ranges.{depth}
 use Rattle.grammar.specs.Scanning.{bytes, token-at, scan-from, scan, stuck}
 use Rattle.grammar.specs.Outcome.{refused, given, out-of-range, outcome}
 

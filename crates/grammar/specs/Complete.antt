@@ -15,7 +15,11 @@ use Rattle.grammar.specs.Forms.{next-place, place-takes, place-makes}
 use Rattle.grammar.specs.Tokens.{constant-leaf, number-leaf, variable-leaf, truth-leaf, skip-leaf, ending, ending-word, closer-discrete, ending-discrete, Token, infix-word, Leaf, leaf-makes, leaf-word, Opening, prefix-opening, form-opening, opening-makes, opening-word, opening-due, Due, opening-beginning, beginning}
 use Rattle.grammar.specs.Grammar.{Phrase, leaf, before, between, closed, Chain, begun, more, place, words, chain-words, due-words, opening-words, sort, level, binds, Good, Good-chain}
 use Rattle.grammar.specs.Automaton.{Pending, prefix, infix-after, Frame, pending, open-at, wants, holds, apply, hole, operand, after, at, start, reduce, reduced, token-binds, go-on, advance, constant-on, leaf-on, opening-frame, form-takes, pushed, run}
-use Rattle.grammar.specs.Tables.{binds-tight, false-is-not, same-refl, same-is, same-sorts, begins-own, takes-begins, begins-left, phrase-range, ending-binds, ending-not-infix, ends-word, next-makes, place-begins, form-takes-part, leaf-begins, prefix-begins, due-is-due}
+use Rattle.grammar.specs.Tests.{false-is-not, same-refl, same-is, same-sorts}
+use Rattle.grammar.specs.HoleLaws.{begins-own, takes-begins, begins-left}
+use Rattle.grammar.specs.LevelLaws.{binds-tight, phrase-range}
+use Rattle.grammar.specs.PlaceLaws.{ending-binds, ending-not-infix, ends-word, next-makes, place-begins, form-takes-part}
+use Rattle.grammar.specs.WordLaws.{leaf-begins, prefix-begins, due-is-due}
 
 -- the operator on top, if there is one, is below n
 abbrev pub Below : List Frame → ℕ → Type 0

@@ -14,7 +14,7 @@ use Rattle.grammar.specs.Counts.{negated, minus, size, chain-size, form-
 use Rattle.grammar.specs.Rows.{Quad, prefix-row, prefix-rows, counts, by-row, inside, table, chain-table}
 use Rattle.grammar.specs.Sizes.{table-length, chain-length}
 use Rattle.grammar.specs.Written.{by-count}
-use Rattle.grammar.specs.Tables.{false-is-not}
+use Rattle.grammar.specs.Tests.{false-is-not}
 use Rattle.grammar.specs.InRange.{next-no-body}
 use Rattle.grammar.specs.Renamed.{Passes, nothing-passes, constant-passes, leaf-passes, prefix-passes, infix-passes, note-passes, form-passes, two-pass, three-pass}
 

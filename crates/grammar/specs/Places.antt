@@ -7,9 +7,9 @@ use mathlib.Core.List.{List, [], _∷_, _++_, append-assoc}
 use Rattle.script.specs.Listing.{_>>=_}
 use Rattle.grammar.specs.Automaton.{State, start}
 use Rattle.grammar.specs.Reader.{take, read}
-use Rattle.grammar.specs.TextRead.{read-append, Begins, text-viable, text-refused}
+use Rattle.grammar.specs.TextViable.{read-append, Begins, text-viable, text-refused}
 use Rattle.grammar.specs.Scanning.{Lexeme, tokens-of, or-at, stuck}
-use Rattle.grammar.specs.Tables.{none-is-not, some-inj}
+use Rattle.grammar.specs.Tests.{none-is-not, some-inj}
 
 pub record Stuck-at (ls : List Lexeme) (p : ℕ) : Type 0 where
   pub taken : List Lexeme

@@ -20,7 +20,7 @@ use Rattle.grammar.specs.Forms.{next-place, Place, in-group, in-mark, wh
 use Rattle.grammar.specs.Tokens.{Leaf, constant-leaf, number-leaf, variable-leaf, truth-leaf, skip-leaf}
 use Rattle.grammar.specs.Counts.{begins-body}
 use Rattle.grammar.specs.Rows.{Quad, quad, constant, leaf-rows, prefix-row, infix-kind, nth-loop, form-rows, note-rows}
-use Rattle.grammar.specs.Tables.{none-is-not}
+use Rattle.grammar.specs.Tests.{none-is-not}
 
 -- ---- a row
 

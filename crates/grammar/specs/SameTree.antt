@@ -28,7 +28,7 @@ use Rattle.grammar.specs.Operators.{Infix, semicolon, connective, relati
 use Rattle.grammar.specs.Forms.{Place, in-group, in-mark, when-first, when-second, when-third, if-guard, if-then, if-else, while-guard, while-keep, while-fall, while-body, script-pre, script-body, script-post, place-takes, place-makes, next-place, while-form}
 use Rattle.grammar.specs.Tokens.{Leaf, constant-leaf, number-leaf, variable-leaf, truth-leaf, skip-leaf, leaf-makes}
 use Rattle.grammar.specs.Grammar.{Phrase, leaf, before, between, closed, Chain, begun, more, place, sort, Good, Good-chain}
-use Rattle.grammar.specs.Tables.{none-is-not, same-is}
+use Rattle.grammar.specs.Tests.{none-is-not, same-is}
 use Rattle.grammar.specs.Counts.{negated, minus, size, chain-size, leaf-size, prefix-size, form-size, begins-body, last, roots}
 use Rattle.grammar.specs.Rows.{Quad, quad, constant, leaf-rows, prefix-row, prefix-rows, infix-kind, nth-loop, counts, form-rows, note-rows, inside, table, chain-table, by-row}
 use Rattle.grammar.specs.Trees.{Value, to-expr, to-formula, to-stmt, to-tree, leaf-value, prefix-value, infix-value, nth, form-value, value, chain-values}

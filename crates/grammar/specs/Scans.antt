@@ -11,7 +11,7 @@ use borrow.Author.Tests.{leb-true}
 use lib.ListN.{length, take, drop, length-drop}
 use Rattle.grammar.specs.Tokens.{Token, closer-word, end-of-text}
 use Rattle.grammar.specs.Scanning.{Lexeme, tokens-of, no-token, lexemes, is-blank, is-digit, is-letter, is-word-byte, front, same-bytes, begins-with, numeral-of, keywords, symbols, Spelling, Found, variable-of, word-of, symbol-of, token-at, Scanned, with-first, past, scan-from, scan}
-use Rattle.grammar.specs.Tables.{false-is-not}
+use Rattle.grammar.specs.Tests.{false-is-not}
 
 abbrev Sized : Option Found → Type 0
 Sized none = Unit {0}

@@ -1,100 +1,26 @@
--- Soundness: whatever the automaton has read, its state is what those words come to (`run-keeps`); so a phrase that it has read
--- whole is good, is a script, and has these words (`sound`). Step by step. Assumes nothing.
-use Prim.Native.Nat.{ℕ, suc, _≤_, _<_}
+-- Soundness: whatever the automaton has read, its state is what those words come to (`run-keeps`); so a phrase that it
+-- has read whole is good, is a script, and has these words (`sound`). Step by step. Assumes nothing.
+use Prim.Native.Nat.{ℕ, suc, _≤_}
 use mathlib.Core.Path.{_≡_, refl, sym, ap, _∙_, subst}
 use mathlib.Core.Option.{Option, none, some}
 use mathlib.Core.List.{List, [], _∷_, _++_, append-assoc, append-nil}
-use mathlib.Core.Bool.{Bool, true, false, cond}
+use mathlib.Core.Bool.{true}
 use native.Mathlib.Omega.{arith as linear}
-use lib.Dec.{leb}
-use borrow.Author.Tests.{leb-true, leb-false}
-use Rattle.script.specs.Listing.{_>>=_, guarded}
-use Rattle.grammar.specs.Sorts.{Sort, sort-discrete, script, expression, same-sort, Hole, takes, begins}
-use Rattle.grammar.specs.Operators.{Infix, infix-makes, infix-binds, prefix-level, prefix-makes, tight, top, not-prefix, minus-prefix, assert-prefix, assign-prefix}
+use Rattle.script.specs.Listing.{guarded}
+use Rattle.grammar.specs.Sorts.{Sort, sort-discrete, script, expression, Hole, takes, begins}
+use Rattle.grammar.specs.Operators.{Infix, infix-makes, infix-binds, prefix-level, prefix-makes, tight, not-prefix, minus-prefix, assert-prefix, assign-prefix}
 use Rattle.grammar.specs.Forms.{Place, next-place, place-takes, place-makes}
 use Rattle.grammar.specs.Tokens.{Ending, ending, ending-word, same-ending, closer-discrete, ending-discrete, ends, constant-leaf, number-leaf, variable-leaf, truth-leaf, skip-leaf, Token, infix-word, Leaf, leaf-makes, Opening, prefix-opening, form-opening, opening-makes, opening-due, Due, Beginning, opening-beginning, leaf-beginning, no-beginning, beginning}
-use Rattle.grammar.specs.Grammar.{Phrase, leaf, Chain, begun, more, place, words, chain-words, due-words, opening-words, sort, level, binds, Good, Good-chain}
-use Rattle.grammar.specs.Automaton.{Pending, prefix, infix-after, Frame, pending, open-at, wants, holds, apply, hole, Mode, operand, after, due, State, at, start, Reduced, reduce, reduced, token-binds, go-on, shift, close, advance, constant-on, leaf-on, begin, opening-frame, pushed, infix-at, is-due, step-at, step, run}
-use Rattle.grammar.specs.Tables.{none-is-not, some-inj, held, same-is, Begun, begun-by, infix-known, ends-known, due-known, binds-tight, holds-below, prefix-fits, form-takes-less, form-fits, later-makes, next-makes}
+use Rattle.grammar.specs.Grammar.{Phrase, leaf, Chain, begun, more, place, words, chain-words, due-words, opening-words, sort, Good, Good-chain}
+use Rattle.grammar.specs.Automaton.{prefix, infix-after, Frame, pending, open-at, hole, Mode, operand, after, due, State, at, start, Reduced, reduce, token-binds, go-on, shift, close, advance, constant-on, leaf-on, begin, opening-frame, pushed, infix-at, is-due, step-at, step, run}
+use Rattle.grammar.specs.Tests.{none-is-not, some-inj, held, same-is}
+use Rattle.grammar.specs.HoleLaws.{form-takes-less, form-fits}
+use Rattle.grammar.specs.LevelLaws.{binds-tight, prefix-fits}
+use Rattle.grammar.specs.PlaceLaws.{later-makes, next-makes}
+use Rattle.grammar.specs.WordLaws.{Begun, begun-by, infix-known, ends-known, due-known}
 use Rattle.grammar.specs.Complete.{Below, chain-takes}
-use Rattle.grammar.specs.Contexts.{pending-words, frame-words, stack-words, pending-binds, pending-makes, Good-pending, Good-on, Good-stack, Part, Reads}
-
--- the first part found something, with which the second found the answer
-pub went-on : {A B : Type 0} (o : Option A) (f : A → Option B) {b : B} → (o >>= f) ≡ some b → (a : A) × (o ≡ some a) × (f a ≡ some b)
-went-on none f e = none-is-not e
-went-on (some a) f e = (a, refl, e)
-
--- what a state reads, of the state as one
-abbrev pub Reads-state : State → List Token → Type 0
-Reads-state s ts = Reads (s .mode) (s .stack) ts
-
-pub below-top : (fs : List Frame) → Below fs (suc top)
-below-top [] = tt
-below-top (pending f ∷ fs) = omega (linear, holds-below f)
-below-top (open-at h c ∷ fs) = tt
-
--- ---- reduce
-
-good-apply : (f : Pending) (x : Phrase) → Good-pending f → Good x → sort x ≡ wants f → holds f < binds x → Good (apply f x)
-unfolding Good
-good-apply (prefix p) x g h e l = (h, e, l)
-good-apply (infix-after o y) x g h e l = (g .0, h, g .1, e, g .2, l)
-
-apply-binds : (f : Pending) (x : Phrase) → binds (apply f x) ≡ pending-binds f
-apply-binds (prefix p) x = refl
-apply-binds (infix-after o y) x = refl
-
-apply-makes : (f : Pending) (x : Phrase) → sort (apply f x) ≡ pending-makes f
-apply-makes (prefix p) x = refl
-apply-makes (infix-after o y) x = refl
-
-apply-level : (f : Pending) (x : Phrase) → level (apply f x) ≡ holds f
-apply-level (prefix p) x = refl
-apply-level (infix-after o y) x = refl
-
-apply-words : (f : Pending) (x : Phrase) → pending-words f ++ words x ≡ words (apply f x)
-unfolding words
-apply-words (prefix p) x = refl
-apply-words (infix-after o y) x = append-assoc (words y) (infix-word o ∷ []) (words x)
-
--- what is left after a reduction down to n: no operator on top that binds as tight
-pub record Left (n : ℕ) (ts : List Token) (r : Reduced) : Type 0 where
-  pub part : Part n (r .got) (r .rest) ts
-  pub stays : Below (r .rest) n
-
-left-is : {n : ℕ} {ts : List Token} {r : Reduced} (x : Phrase) (fs : List Frame) → Part n x fs ts → Below fs n → reduced x fs ≡ some r
-    → Left n ts r
-left-is {n} {ts} x fs p b e = subst (λ r. Left n ts r) (some-inj e) (record { part = p; stays = b })
-
--- an operator that takes the part
-pub taken : (f : Pending) (fs : List Frame) (n : ℕ) (x : Phrase) (ts : List Token) → Part n x (pending f ∷ fs) ts → n ≤ holds f → sort x ≡ wants f
-    → Part n (apply f x) fs ts
-unfolding Good-stack stack-words
-taken f fs n x ts p l q =
-    let on = p .stacked .1 in
-    record {
-      stacked = p .stacked .0;
-      good = good-apply f x (on .0) (p .good) q (p .below);
-      below = rw (apply-binds f x) (on .1);
-      high = rw (apply-level f x) l;
-      fits = rw (apply-makes f x) (on .2);
-      spelt = ap (λ ws. stack-words fs ++ ws) (sym (apply-words f x)) ∙ sym (append-assoc (stack-words fs) (pending-words f) (words x)) ∙ p .spelt;
-    }
-
-pub reduce-keeps : (fs : List Frame) (n : ℕ) (x : Phrase) (ts : List Token) (r : Reduced) → Part n x fs ts → reduce n x fs ≡ some r → Left n ts r
-unfolding reduce
-reduce-keeps [] n x ts r p e = left-is x [] p tt e
-reduce-keeps (open-at h c ∷ fs) n x ts r p e = left-is x (open-at h c ∷ fs) p tt e
-reduce-keeps (pending f ∷ fs) n x ts r p e =
-    at-test (leb n (holds f)) (leb-true n (holds f)) (leb-false n (holds f)) (λ q d. reduce-keeps fs n (apply f x) ts r q d) e
-  where
-    at-test : (k : Bool) → (k ≡ true → n ≤ holds f) → (k ≡ false → holds f < n)
-        → (Part n (apply f x) fs ts → reduce n (apply f x) fs ≡ some r → Left n ts r)
-        → cond k (guarded (same-sort (sort x) (wants f)) (reduce n (apply f x) fs)) (reduced x (pending f ∷ fs)) ≡ some r → Left n ts r
-    at-test true l g again q =
-        let h = held (same-sort (sort x) (wants f)) (reduce n (apply f x) fs) q in
-        again (taken f fs n x ts p (l refl) (same-is sort-discrete (sort x) (wants f) (h .0))) (h .1)
-    at-test false l g again q = left-is x (pending f ∷ fs) p (g refl) q
+use Rattle.grammar.specs.Contexts.{frame-words, stack-words, Good-on, Good-stack, Part, Reads}
+use Rattle.grammar.specs.Reduces.{went-on, Reads-state, below-top, Left, taken, reduce-keeps}
 
 -- ---- a token where a part begins
 

@@ -12,12 +12,14 @@ use Rattle.grammar.specs.Forms.{Place, in-group, in-mark, when-first, wh
 use Rattle.grammar.specs.Tokens.{end-of-text, by-closer, ending, same-ending, Token, closer-word}
 use Rattle.grammar.specs.Grammar.{Phrase, closed, Chain, begun, more, place, sort}
 use Rattle.grammar.specs.Automaton.{Pending, prefix, infix-after, Frame, pending, open-at, wants, hole, Mode, operand, after, due, State, at, start, reduce, go-on, close, advance, step-at}
-use Rattle.grammar.specs.Tables.{false-is-not, none-is-not, some-inj, held}
+use Rattle.grammar.specs.Tests.{false-is-not, none-is-not, some-inj, held}
 use Rattle.grammar.specs.Complete.{chain-takes}
 use Rattle.grammar.specs.Contexts.{Good-stack, Reads}
-use Rattle.grammar.specs.Sound.{went-on, reduce-keeps, lower}
+use Rattle.grammar.specs.Reduces.{went-on, reduce-keeps}
+use Rattle.grammar.specs.Sound.{lower}
 use Rattle.grammar.specs.Reader.{take, read}
-use Rattle.grammar.specs.TextRead.{came, read-keeps, read-append, Begins, text-viable, text-refused}
+use Rattle.grammar.specs.TextSound.{came, read-keeps}
+use Rattle.grammar.specs.TextViable.{read-append, Begins, text-viable, text-refused}
 
 -- ---- the first token that is refused
 

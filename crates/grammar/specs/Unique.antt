@@ -7,7 +7,7 @@ use Rattle.grammar.specs.Sorts.{script}
 use Rattle.grammar.specs.Tokens.{Token}
 use Rattle.grammar.specs.Grammar.{Phrase, words, sort, Good}
 use Rattle.grammar.specs.Automaton.{State, at, after, start, run}
-use Rattle.grammar.specs.Tables.{some-inj, same-sorts}
+use Rattle.grammar.specs.Tests.{some-inj, same-sorts}
 use Rattle.grammar.specs.Complete.{read-whole}
 use Rattle.grammar.specs.Sound.{sound}
 

@@ -15,10 +15,14 @@ use Rattle.grammar.specs.Forms.{Place, place-takes, next-place, script-f
 use Rattle.grammar.specs.Tokens.{ending, ending-word, due-word, Token, numeral, infix-word, constant-leaf, number-leaf, truth-leaf, skip-leaf}
 use Rattle.grammar.specs.Grammar.{Phrase, leaf, between, closed, Chain, begun, more, place, words, chain-words, sort, binds, Good, Good-chain}
 use Rattle.grammar.specs.Automaton.{Frame, pending, open-at, wants, apply, hole, Mode, operand, after, due, State, at, start, step, run, advance}
-use Rattle.grammar.specs.Tables.{none-is-not, same-is, same-sorts, takes-begins, begins-other, expression-level, holds-formula, later, Later, later-is}
+use Rattle.grammar.specs.Tests.{none-is-not, same-is, same-sorts}
+use Rattle.grammar.specs.HoleLaws.{takes-begins, begins-other}
+use Rattle.grammar.specs.LevelLaws.{expression-level, holds-formula}
+use Rattle.grammar.specs.PlaceLaws.{later, Later, later-is}
 use Rattle.grammar.specs.Complete.{Below}
 use Rattle.grammar.specs.Contexts.{stack-words, Good-stack, Part, Reads}
-use Rattle.grammar.specs.Sound.{below-top, lower, taken, Reads-state, run-keeps, advance-keeps}
+use Rattle.grammar.specs.Reduces.{below-top, taken, Reads-state}
+use Rattle.grammar.specs.Sound.{lower, run-keeps, advance-keeps}
 use Rattle.grammar.specs.Unique.{Derives, derived-read}
 
 -- the words begin a text

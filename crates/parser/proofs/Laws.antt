@@ -15,7 +15,7 @@ use mir.Syntax.{w32}
 use lib.ListN.{length, getD, set}
 use lib.Seq.{sets}
 use Rattle.grammar.specs.Counts.{minus}
-use Rattle.grammar.specs.InRange.{limit}
+use Rattle.grammar.specs.Ranges.{limit}
 use Rattle.parser.specs.Machine.{Config, config, refused, Reduced, reduce, reduced-to, hold, maker, operator-row, begin-numeral, begin-count, begin-constant, hole, begins, constant-word, put, top-after, top-frame, row-fits, rows-after, with-words, full}
 
 -- ---- frames

@@ -9,7 +9,7 @@ use lib.IntN.{ℤ, pos}
 use lib.ListN.{length, getD, set}
 use lib.Seq.{sets}
 use Rattle.grammar.specs.Counts.{minus}
-use Rattle.grammar.specs.InRange.{limit, mark-fits, variable-fits}
+use Rattle.grammar.specs.Ranges.{limit, mark-fits, variable-fits}
 use Rattle.grammar.specs.Scanning.{Lexeme}
 use Rattle.grammar.specs.Numbers.{token-number, token-value}
 use Rattle.parser.specs.Symbols.{holds, holes, makes, ends, binds, takes, begins as beginnings, closes}

@@ -25,7 +25,7 @@ use script::VARIABLES;
 use script::kinds;
 ghost use mathlib.Core.Path.{_≡_};
 ghost use mathlib.Core.List.{[]};
-ghost use Rattle.grammar.specs.InRange.{limit, mark-fits};
+ghost use Rattle.grammar.specs.Ranges.{limit, mark-fits};
 ghost use Rattle.parser.specs.Machine.{config, begin-count, constant-word, begin-constant, begin-numeral, begin-variable, begin-assignment, begin-name, is-leaf, due-after, begin-leaf, begin-form, begin-word};
 ghost use Rattle.parser.specs.Machine.{opened as Machine·opened, begin as Machine·begin};
 

@@ -14,7 +14,7 @@ use Rattle.grammar.specs.Grammar.{Phrase, leaf, before, sort}
 use Rattle.grammar.specs.Automaton.{prefix, infix-after, Frame, pending, open-at, operand, after, at, constant-on}
 use Rattle.grammar.specs.Rows.{Quad}
 use Rattle.grammar.specs.Written.{stack-rows, part-rows, constant-row, constant-writes, leaf-writes}
-use Rattle.grammar.specs.InRange.{limit, mark-fits, variable-fits, after-minus, depth}
+use Rattle.grammar.specs.Ranges.{limit, mark-fits, variable-fits, after-minus, depth}
 use Rattle.parser.specs.declared.State.{State}
 use Rattle.parser.specs.Machine.{Config, config, beginning, rows-after, kept, begin-count, constant-word, begin-constant, begin-variable, begin-leaf}
 use Rattle.parsing.specs.Encoding.{sort-letter, Control}

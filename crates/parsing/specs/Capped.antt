@@ -5,7 +5,7 @@ use mathlib.Core.Bool.{Bool, true, false, _&&_}
 use native.Mathlib.Omega.{arith as linear}
 use lib.Dec.{leb}
 use borrow.Author.Tests.{leb-true, leb-false, lt-leb}
-use Rattle.grammar.specs.InRange.{limit, mark-fits, variable-fits}
+use Rattle.grammar.specs.Ranges.{limit, mark-fits, variable-fits}
 use Rattle.grammar.specs.Numbers.{most}
 
 leb-capped : (n b : ℕ) → b < most → leb (min n most) b ≡ leb n b

@@ -15,7 +15,8 @@ use Rattle.grammar.specs.Automaton.{Frame, open-at, after, at, advance}
 use Rattle.grammar.specs.Counts.{begins-body, roots, last, size, chain-size}
 use Rattle.grammar.specs.Rows.{Quad, form-rows, note-rows, counts}
 use Rattle.grammar.specs.Written.{stack-size, part-rows, advance-rows, advance-writes}
-use Rattle.grammar.specs.InRange.{deeper, depth, next-no-body}
+use Rattle.grammar.specs.Ranges.{deeper, depth}
+use Rattle.grammar.specs.InRange.{next-no-body}
 use Rattle.parser.specs.declared.State.{State}
 use Rattle.parser.specs.Symbols.{makes}
 use Rattle.parser.specs.Machine.{Config, config, complete, frame, first-part, second-part, put, top-after, rows-after, form-kind, bodies-after, close-form, close-mark, open-body, next-place, close}

@@ -9,7 +9,7 @@ use lib.Dec.{leb, ltb}
 use lib.IntN.{ℤ, pos}
 use lib.ListN.{length}
 use Rattle.grammar.specs.Outcome.{has-room}
-use Rattle.grammar.specs.Tables.{false-is-not}
+use Rattle.grammar.specs.Tests.{false-is-not}
 use Rattle.parser.specs.Machine.{row-fits, full, rows-after, word, with-row, with-constant}
 use Rattle.parsing.specs.Encoding.{counted-rows}
 use Rattle.parsing.specs.DataRows.{room-for-less, with-words-length}

@@ -18,11 +18,14 @@ use Rattle.grammar.specs.Grammar.{Phrase, Chain, place, sort}
 use Rattle.grammar.specs.Automaton.{infix-after, Frame, pending, open-at, wants, holds, apply, hole, operand, after, State, at, Reduced, reduce, reduced, token-binds, infix-at, advance, close, shift, go-on, step-at}
 use Rattle.grammar.specs.Contexts.{Good-stack, Part}
 use Rattle.grammar.specs.Written.{part-rows, written-in, Apart-on, No-body, advance-rows, advance-writes, shift-writes}
-use Rattle.grammar.specs.InRange.{part-flags, All, next-no-body}
+use Rattle.grammar.specs.Ranges.{All}
+use Rattle.grammar.specs.StateFlags.{part-flags}
+use Rattle.grammar.specs.InRange.{next-no-body}
 use Rattle.grammar.specs.Outcome.{has-room}
 use Rattle.grammar.specs.Numbers.{infix-number}
-use Rattle.grammar.specs.Tables.{held, none-is-not, some-inj}
-use Rattle.grammar.specs.Sound.{went-on, chain-takes-less, reduce-keeps}
+use Rattle.grammar.specs.Tests.{held, none-is-not, some-inj}
+use Rattle.grammar.specs.Reduces.{went-on, reduce-keeps}
+use Rattle.grammar.specs.Sound.{chain-takes-less}
 use Rattle.parser.specs.Machine.{Config, config, complete, top-frame, reduce as machine-reduce, push-infix, close as machine-close}
 use Rattle.parsing.specs.Encoding.{sort-letter, Data}
 use Rattle.parsing.specs.DataRows.{room-for-less}

@@ -18,10 +18,11 @@ use Rattle.grammar.specs.Grammar.{Phrase, sort}
 use Rattle.grammar.specs.Automaton.{infix-after, Frame, pending, hole, operand, after, State, at, start, leaf-on, opening-frame, pushed, begin}
 use Rattle.grammar.specs.Meaning.{flat}
 use Rattle.grammar.specs.Written.{stack-rows, written-in, shift-writes}
-use Rattle.grammar.specs.InRange.{limit, variable-fits, mark-fits, leaf-flags, prefix-flags, depth, after-minus, operand-flag, All}
+use Rattle.grammar.specs.Ranges.{limit, variable-fits, mark-fits, leaf-flags, prefix-flags, depth, after-minus, operand-flag, All}
 use Rattle.grammar.specs.Outcome.{has-room}
 use Rattle.grammar.specs.Numbers.{most, token-number, token-value}
-use Rattle.grammar.specs.Tables.{false-is-not, none-is-not, some-inj, held, Begun}
+use Rattle.grammar.specs.Tests.{false-is-not, none-is-not, some-inj, held}
+use Rattle.grammar.specs.WordLaws.{Begun}
 use Rattle.parser.specs.Machine.{Config, config, complete, S, top-frame, hole as machine-hole, begin-count, begin-constant, begin-variable, begin-assignment, begin-leaf, begin-form, start as machine-start}
 use Rattle.parsing.specs.Encoding.{hole-letter, frame-words, Data}
 use Rattle.parsing.specs.DataRows.{Held, both}

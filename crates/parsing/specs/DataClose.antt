@@ -14,9 +14,10 @@ use Rattle.grammar.specs.Automaton.{Frame, open-at, after, at, advance}
 use Rattle.grammar.specs.Counts.{begins-body}
 use Rattle.grammar.specs.Rows.{counts, form-rows, three}
 use Rattle.grammar.specs.Written.{part-rows, written-in}
-use Rattle.grammar.specs.InRange.{part-flags, All}
+use Rattle.grammar.specs.Ranges.{All}
+use Rattle.grammar.specs.StateFlags.{part-flags}
 use Rattle.grammar.specs.Outcome.{has-room}
-use Rattle.grammar.specs.Tables.{false-is-not, same-is}
+use Rattle.grammar.specs.Tests.{false-is-not, same-is}
 use Rattle.parser.specs.Machine.{Config, top-frame, form-kind, is-last, is-group, close-form, close-mark, open-body, next-place as machine-next, close}
 use Rattle.parsing.specs.Encoding.{group-number, place-number, Data}
 use Rattle.parsing.specs.DataPlace.{place-number-is, next-data, body-data}

@@ -16,7 +16,8 @@ use Rattle.grammar.specs.Automaton.{Frame, open-at, after, at}
 use Rattle.grammar.specs.Counts.{size, chain-size, last, roots}
 use Rattle.grammar.specs.Rows.{counts, form-rows, three, Quad, quad}
 use Rattle.grammar.specs.Written.{stack-size, part-rows, advance-rows, advance-writes}
-use Rattle.grammar.specs.InRange.{flags, depth, after-minus, stack-flags, part-flags, All, all-parts}
+use Rattle.grammar.specs.Ranges.{flags, depth, after-minus, All, all-parts}
+use Rattle.grammar.specs.StateFlags.{stack-flags, part-flags}
 use Rattle.grammar.specs.Outcome.{has-room}
 use Rattle.parser.specs.Machine.{Config, config, complete, top-frame, form-kind, close-form, close-mark}
 use Rattle.parsing.specs.Encoding.{place-number, Data}

@@ -16,9 +16,9 @@ use Rattle.grammar.specs.Automaton.{prefix, infix-after, Frame, pending, hole, 
 use Rattle.grammar.specs.Counts.{size, last, roots}
 use Rattle.grammar.specs.Rows.{Quad}
 use Rattle.grammar.specs.Written.{stack-size, stack-rows, part-rows, push-writes, shift-writes}
-use Rattle.grammar.specs.InRange.{variable-fits}
+use Rattle.grammar.specs.Ranges.{variable-fits}
 use Rattle.grammar.specs.Numbers.{infix-number, token-number}
-use Rattle.grammar.specs.Tables.{false-is-not}
+use Rattle.grammar.specs.Tests.{false-is-not}
 use Rattle.parser.specs.Machine.{Config, config, frame, top-frame, hole as machine-hole, opened, begin-assignment, begin-form, push-infix, due as machine-due}
 use Rattle.parsing.specs.Encoding.{hole-letter, frame-word, frame-words, framed, Data}
 use Rattle.parsing.specs.DataRows.{Held}

@@ -17,7 +17,8 @@ use Rattle.grammar.specs.Automaton.{Pending, prefix, infix-after, Frame, pendin
 use Rattle.grammar.specs.Counts.{size, last}
 use Rattle.grammar.specs.Rows.{Quad, quad, infix-kind}
 use Rattle.grammar.specs.Written.{stack-size, pending-row}
-use Rattle.grammar.specs.InRange.{depth, frame-flags, All}
+use Rattle.grammar.specs.Ranges.{depth, All}
+use Rattle.grammar.specs.StateFlags.{frame-flags}
 use Rattle.grammar.specs.Numbers.{infix-number}
 use Rattle.parser.specs.Machine.{first-part, word, with-words, with-row, is-single, operator-row}
 use Rattle.parsing.specs.Encoding.{pending-word}

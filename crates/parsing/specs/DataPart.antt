@@ -17,9 +17,10 @@ use Rattle.grammar.specs.Automaton.{Pending, prefix, infix-after, Frame, pendin
 use Rattle.grammar.specs.Counts.{size}
 use Rattle.grammar.specs.Rows.{Quad, counts}
 use Rattle.grammar.specs.Written.{stack-size, part-rows, pending-row, Apart-on, pop-writes, apart-apply}
-use Rattle.grammar.specs.InRange.{prefix-flags, flags, depth, frame-flags, stack-flags, part-flags, is-minus, All, all-parts}
+use Rattle.grammar.specs.Ranges.{prefix-flags, flags, depth, is-minus, All, all-parts}
+use Rattle.grammar.specs.StateFlags.{frame-flags, stack-flags, part-flags}
 use Rattle.grammar.specs.Outcome.{has-room}
-use Rattle.grammar.specs.Tables.{false-is-not, held, some-inj}
+use Rattle.grammar.specs.Tests.{false-is-not, held, some-inj}
 use Rattle.parser.specs.Machine.{rows-after, operator-row}
 use Rattle.parsing.specs.Encoding.{pending-word, frame-words, framed}
 use Rattle.parsing.specs.DataRows.{Held, Writable, row-counted}

@@ -17,7 +17,7 @@ use Rattle.grammar.specs.Automaton.{Pending, prefix, infix-after, Frame, pendin
 use Rattle.grammar.specs.Contexts.{pending-makes}
 use Rattle.grammar.specs.Written.{stack-size, part-rows, apart-apply}
 use Rattle.grammar.specs.Outcome.{has-room}
-use Rattle.grammar.specs.Tables.{held, some-inj, same-is}
+use Rattle.grammar.specs.Tests.{held, some-inj, same-is}
 use Rattle.parser.specs.Machine.{hold, hole, maker, rows-after, operator-row, Reduced as Machine-reduced, reduce as machine-reduce, reduced-to}
 use Rattle.parsing.specs.Encoding.{sort-letter, pending-word, frame-word, frame-words}
 use Rattle.parsing.specs.DataRows.{room-for-less}

@@ -14,7 +14,7 @@ use lib.Seq.{sets, sets-eq, length-sets, take-at, drop-at, drop-drop}
 use Rattle.grammar.specs.Rows.{Quad, quad}
 use Rattle.grammar.specs.Meaning.{flat}
 use Rattle.grammar.specs.Outcome.{has-room}
-use Rattle.grammar.specs.Tables.{false-is-not}
+use Rattle.grammar.specs.Tests.{false-is-not}
 use Rattle.parser.specs.Machine.{row-fits, rows-after, word, with-words, with-row}
 
 -- ---- room

@@ -11,11 +11,13 @@ use Rattle.grammar.specs.Grammar.{Phrase}
 use Rattle.grammar.specs.Automaton.{State, at, after, step}
 use Rattle.grammar.specs.Rows.{table}
 use Rattle.grammar.specs.Written.{by-count, stack-size, stack-rows, written-in, Settled}
-use Rattle.grammar.specs.InRange.{flag, state-flags, step-flags, All}
+use Rattle.grammar.specs.Ranges.{flag, All}
+use Rattle.grammar.specs.StateFlags.{state-flags}
+use Rattle.grammar.specs.InRange.{step-flags}
 use Rattle.grammar.specs.Outcome.{has-room}
 use Rattle.grammar.specs.Text.{is-post}
 use Rattle.grammar.specs.Reader.{at-post, take, read}
-use Rattle.grammar.specs.TextRead.{Came}
+use Rattle.grammar.specs.TextSound.{Came}
 use Rattle.grammar.specs.Adds.{read-adds}
 use Rattle.parser.specs.Machine.{Config}
 use Rattle.parsing.specs.Encoding.{Data}

@@ -17,7 +17,7 @@ use Rattle.grammar.specs.Counts.{begins-body, size, chain-size, last, with-note
 use Rattle.grammar.specs.Rows.{table, chain-table, counts}
 use Rattle.grammar.specs.Written.{by-count, stack-size, stack-rows, part-rows}
 use Rattle.grammar.specs.Sizes.{table-length, chain-length}
-use Rattle.grammar.specs.InRange.{flags, depth, All}
+use Rattle.grammar.specs.Ranges.{flags, depth, All}
 use Rattle.parsing.specs.DataRows.{both}
 
 -- ---- rows

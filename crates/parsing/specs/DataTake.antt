@@ -17,13 +17,17 @@ use Rattle.grammar.specs.Contexts.{stack-words, Good-stack, Part, Reads}
 use Rattle.grammar.specs.Counts.{constant-in}
 use Rattle.grammar.specs.Rows.{Quad}
 use Rattle.grammar.specs.Written.{written, written-in, Settled, apart-none, shift-writes}
-use Rattle.grammar.specs.InRange.{after-flags, flags, depth, after-minus, flag, stack-flags, mode-flags, state-flags, part-flags, All}
+use Rattle.grammar.specs.Ranges.{flags, depth, after-minus, flag, All}
+use Rattle.grammar.specs.StateFlags.{stack-flags, mode-flags, state-flags, part-flags}
+use Rattle.grammar.specs.InRange.{after-flags}
 use Rattle.grammar.specs.Outcome.{has-room}
-use Rattle.grammar.specs.Tables.{false-is-not, none-is-not, held, begun-by, binds-tight}
+use Rattle.grammar.specs.Tests.{false-is-not, none-is-not, held}
+use Rattle.grammar.specs.LevelLaws.{binds-tight}
+use Rattle.grammar.specs.WordLaws.{begun-by}
 use Rattle.grammar.specs.Sound.{lower}
 use Rattle.grammar.specs.Text.{is-post, post}
 use Rattle.grammar.specs.Reader.{at-post, take}
-use Rattle.grammar.specs.TextRead.{Came, before-semicolon}
+use Rattle.grammar.specs.TextSound.{Came, before-semicolon}
 use Rattle.grammar.specs.Adds.{Adds, step-adds, take-adds}
 use Rattle.parser.specs.Machine.{full, Config, config, complete, S, due as machine-due}
 use Rattle.parsing.specs.Encoding.{sort-letter, Control, Data}

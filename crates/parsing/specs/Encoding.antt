@@ -18,7 +18,7 @@ use Rattle.grammar.specs.Counts.{size, chain-size, last, roots}
 use Rattle.grammar.specs.Rows.{counts}
 use Rattle.grammar.specs.Meaning.{flat}
 use Rattle.grammar.specs.Written.{stack-size, written-in}
-use Rattle.grammar.specs.InRange.{depth}
+use Rattle.grammar.specs.Ranges.{depth}
 use Rattle.grammar.specs.Outcome.{has-room}
 use Rattle.grammar.specs.Numbers.{infix-number}
 use Rattle.parser.specs.Machine.{frame, full, Config}

@@ -16,10 +16,11 @@ use Rattle.grammar.specs.Rows.{table}
 use Rattle.grammar.specs.Meaning.{flat}
 use Rattle.grammar.specs.Written.{by-count, stack-size, stack-rows, part-rows}
 use Rattle.grammar.specs.Sizes.{table-length}
-use Rattle.grammar.specs.InRange.{depth, stack-flags}
+use Rattle.grammar.specs.Ranges.{depth}
+use Rattle.grammar.specs.StateFlags.{stack-flags}
 use Rattle.grammar.specs.Scanning.{Lexeme, tokens-of, stuck}
 use Rattle.grammar.specs.Reader.{read}
-use Rattle.grammar.specs.TextRead.{came}
+use Rattle.grammar.specs.TextSound.{came}
 use Rattle.grammar.specs.Outcome.{has-room, out-of-range}
 use Rattle.parser.specs.Machine.{Config, nowhere, start as machine-start, run}
 use Rattle.parsing.specs.Encoding.{framed, counted-rows, Control}

@@ -17,7 +17,7 @@ use Rattle.grammar.specs.Automaton.{infix-after, Frame, pending, open-at, hole 
 use Rattle.grammar.specs.Contexts.{Good-stack}
 use Rattle.grammar.specs.Counts.{begins-body}
 use Rattle.grammar.specs.Written.{shift-writes}
-use Rattle.grammar.specs.InRange.{depth}
+use Rattle.grammar.specs.Ranges.{depth}
 use Rattle.grammar.specs.Numbers.{infix-number}
 use Rattle.parser.specs.Symbols.{ends}
 use Rattle.parser.specs.Machine.{Config, config, refused, frame, top-frame, hole, maker, end-of, operand-sort, closing, fits, begins as begins-by, close, push-infix, go-on}

@@ -13,7 +13,7 @@ use Rattle.grammar.specs.Tokens.{numeral, variable, constant-leaf, number-leaf,
 use Rattle.grammar.specs.Grammar.{place}
 use Rattle.grammar.specs.Automaton.{prefix, infix-after, Frame, pending, open-at, operand, at, hole as hole-of, begin as begin-at}
 use Rattle.grammar.specs.Contexts.{Good-stack}
-use Rattle.grammar.specs.InRange.{limit, mark-fits, variable-fits, after-minus, depth, operand-flag}
+use Rattle.grammar.specs.Ranges.{limit, mark-fits, variable-fits, after-minus, depth, operand-flag}
 use Rattle.grammar.specs.Outcome.{all-of}
 use Rattle.grammar.specs.Numbers.{most, token-value}
 use Rattle.parser.specs.Machine.{Config, config, top-frame, hole, begins as begins-by, refused, begin-count, begin-constant, begin-numeral, begin-variable, begin-assignment, begin-name}

@@ -14,7 +14,7 @@ use Rattle.script.specs.Listing.{guarded}
 use Rattle.grammar.specs.Sorts.{same-sort}
 use Rattle.grammar.specs.Grammar.{Phrase, place, sort}
 use Rattle.grammar.specs.Automaton.{Pending, Frame, pending, open-at, wants, holds as tightness, apply, Reduced, reduce, reduced}
-use Rattle.grammar.specs.Tables.{none-is-not, some-inj}
+use Rattle.grammar.specs.Tests.{none-is-not, some-inj}
 use Rattle.grammar.specs.Written.{stack-size, part-rows, pending-row, Apart-on, pop-writes, apart-apply}
 use Rattle.grammar.specs.Counts.{size}
 use Rattle.parser.specs.Symbols.{holds, holes, makes}

@@ -13,15 +13,16 @@ use Rattle.script.specs.Listing.{_>>=_}
 use Rattle.grammar.specs.Tokens.{Token}
 use Rattle.grammar.specs.Grammar.{words}
 use Rattle.grammar.specs.Automaton.{State}
-use Rattle.grammar.specs.Tables.{false-is-not, none-is-not, some-inj}
+use Rattle.grammar.specs.Tests.{false-is-not, none-is-not, some-inj}
 use Rattle.grammar.specs.Written.{written-in, Settled}
-use Rattle.grammar.specs.InRange.{flag, state-flags, All}
+use Rattle.grammar.specs.Ranges.{flag, All}
+use Rattle.grammar.specs.StateFlags.{state-flags}
 use Rattle.grammar.specs.Outcome.{has-room, all-of, out-of-range, out-after as range-after}
 use Rattle.grammar.specs.Numbers.{token-number, token-value}
 use Rattle.grammar.specs.Scanning.{Lexeme, tokens-of, stuck, or-at}
 use Rattle.grammar.specs.Adds.{take-adds}
 use Rattle.grammar.specs.Reader.{take as take-token, read}
-use Rattle.grammar.specs.TextRead.{Came, take-keeps}
+use Rattle.grammar.specs.TextSound.{Came, take-keeps}
 use Rattle.parser.specs.Machine.{Config, nowhere, out-after, take, run}
 use Rattle.parsing.specs.Encoding.{Control, Data}
 use Rattle.parsing.specs.DataTake.{take-move, take-data}

@@ -13,7 +13,7 @@ use Rattle.grammar.specs.Automaton.{Frame, Mode, operand, after, due, State}
 use Rattle.grammar.specs.Contexts.{stack-words, Reads}
 use Rattle.grammar.specs.Lengths.{stack-fits}
 use Rattle.grammar.specs.Text.{is-post, text}
-use Rattle.grammar.specs.TextRead.{Came}
+use Rattle.grammar.specs.TextSound.{Came}
 
 text-longer : (us : List Token) → length us ≤ length (text us)
 unfolding text

@@ -9,7 +9,7 @@ use lib.Dec.{eqb}
 use borrow.Author.Tests.{eqb-true, eq-eqb}
 use Rattle.grammar.specs.Sorts.{same, Sort, sort-discrete, same-sort, number, expression, formula, statement, script, Hole, only, either, takes, begins}
 use Rattle.grammar.specs.Tokens.{Ending, by-semicolon, by-closer, same-ending, ending-discrete, closer-discrete, bracket-closer, comma-closer, then-closer, else-closer, end-closer, keep-closer, fall-closer, do-closer, post-closer, end-of-text}
-use Rattle.grammar.specs.Tables.{same-is, same-refl}
+use Rattle.grammar.specs.Tests.{same-is, same-refl}
 use Rattle.parser.specs.Machine.{fits, begins as begins-by}
 use Rattle.parsing.specs.Encoding.{sort-letter, hole-letter}
 

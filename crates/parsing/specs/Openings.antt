@@ -13,7 +13,7 @@ use Rattle.grammar.specs.Tokens.{Due, bracket-due, becomes-due, Opening, prefix
 use Rattle.grammar.specs.Grammar.{sort}
 use Rattle.grammar.specs.Automaton.{prefix, Frame, pending, operand, due, at, hole as hole-of, opening-frame, pushed}
 use Rattle.grammar.specs.Written.{push-writes}
-use Rattle.grammar.specs.InRange.{variable-fits, depth}
+use Rattle.grammar.specs.Ranges.{variable-fits, depth}
 use Rattle.parser.specs.declared.State.{State}
 use Rattle.parser.specs.Machine.{Config, config, frame, top-frame, put, top-after, hole, kept, begin-assignment, opened, due-after, begin-form}
 use Rattle.parsing.specs.Encoding.{frame-number, mode-number, Control}

@@ -10,7 +10,7 @@ use native.Mathlib.Omega.{arith}
 use borrow.Author.Tests.{eq-eqb, ne-eqb}
 use lib.ListN.{length, getD, take, drop}
 use lib.Seq.{drop-cons, getD-drop}
-use Rattle.grammar.specs.Tables.{false-is-not}
+use Rattle.grammar.specs.Tests.{false-is-not}
 use Rattle.grammar.specs.Tokens.{variable}
 use Rattle.grammar.specs.Scanning.{is-digit, is-word-byte, front, number, variable-of}
 use Rattle.grammar.specs.Numbers.{token-number, token-value, most}

@@ -9,7 +9,7 @@ use native.Mathlib.Omega.{arith as linear}
 use lib.IntN.{ℤ}
 use lib.ListN.{length, getD, drop}
 use Rattle.grammar.specs.Scanning.{is-blank, token-at, Found, Lexeme, Scanned, no-token, lexemes, at-end, scan}
-use Rattle.grammar.specs.Tables.{none-is-not, some-inj}
+use Rattle.grammar.specs.Tests.{none-is-not, some-inj}
 use Rattle.grammar.specs.Numbers.{token-number, token-value}
 use Rattle.scanner.specs.Lexed.{lexed}
 use Rattle.scanner.specs.Progress.{not-told, told, told-end}

@@ -9,7 +9,7 @@ use borrow.Author.Tests.{le-leb, lt-leb}
 use lib.IntN.{ℤ, pos}
 use lib.ListN.{length, length-replicate}
 use Rattle.script.specs.Generated.{zeros}
-use Rattle.grammar.specs.Tables.{false-is-not}
+use Rattle.grammar.specs.Tests.{false-is-not}
 use Rattle.grammar.specs.Grammar.{Phrase}
 use Rattle.grammar.specs.Sizes.{table-length}
 use Rattle.grammar.specs.TextTree.{flat-length}

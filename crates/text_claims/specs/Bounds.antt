@@ -19,11 +19,12 @@ use Rattle.grammar.specs.Tokens.{Token, numeral, variable, truth-word, skip-wor
 use Rattle.grammar.specs.Automaton.{Frame, hole, Mode, operand, after, due, State, at, start}
 use Rattle.grammar.specs.Reader.{take, read}
 use Rattle.grammar.specs.TextRead.{text-read}
-use Rattle.grammar.specs.Tables.{false-is-not}
+use Rattle.grammar.specs.Tests.{false-is-not}
 use Rattle.grammar.specs.Scanning.{Lexeme, tokens-of, Scanned, no-token, lexemes, with-first, past, Found, token-at, scan-from, scan, is-blank}
 use Rattle.grammar.specs.Scanning as Scanning
-use Rattle.grammar.specs.InRange.{limit, mark-fits, depth, after-minus, operand-flag, flag, onward, read-flags, All, all-parts}
-use Rattle.grammar.specs.Outcome.{given, outcome, table-given}
+use Rattle.grammar.specs.Ranges.{limit, mark-fits, depth, after-minus, operand-flag, flag, onward, read-flags, All, all-parts}
+use Rattle.grammar.specs.Outcome.{given, outcome}
+use Rattle.grammar.specs.Given.{table-given}
 use Rattle.text_claims.specs.Reading.{same-lexemes}
 use Rattle.text_claims.specs.FirstOut.{is-number}
 use Rattle.text_claims.specs.Ranges.{One-if, one-flag}

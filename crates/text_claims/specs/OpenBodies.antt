@@ -17,7 +17,7 @@ use Rattle.grammar.specs.Automaton.{prefix, infix-after, Frame, pending, open-a
 use Rattle.grammar.specs.Text.{is-post, post}
 use Rattle.grammar.specs.Reader.{at-post, take}
 use Rattle.grammar.specs.Counts.{begins-body}
-use Rattle.grammar.specs.InRange.{deeper, depth}
+use Rattle.grammar.specs.Ranges.{deeper, depth}
 
 abbrev pub open-bodies : State → ℕ
 open-bodies s = depth (s .stack)

@@ -17,9 +17,10 @@ use Rattle.grammar.specs.Automaton.{Frame, Mode, operand, after, due, State, at
 use Rattle.grammar.specs.Text.{is-post, Spells}
 use Rattle.grammar.specs.Reader.{take, read}
 use Rattle.grammar.specs.TextRead.{text-read}
-use Rattle.grammar.specs.Tables.{false-is-not}
+use Rattle.grammar.specs.Tests.{false-is-not}
 use Rattle.grammar.specs.Scanning.{Lexeme, tokens-of}
-use Rattle.grammar.specs.InRange.{operand-flag, flag, flags, read-flags, All, text-flags}
+use Rattle.grammar.specs.Ranges.{operand-flag, flag, flags, read-flags, All}
+use Rattle.grammar.specs.InRange.{text-flags}
 use Rattle.grammar.specs.Outcome.{all-of, out-of-range}
 use Rattle.text_claims.specs.FirstOut.{is-number, number-places, First-out, first-out, first-says, says-first, none-first, first-none}
 

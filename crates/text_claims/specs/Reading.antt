@@ -14,7 +14,7 @@ use Rattle.grammar.specs.TextRead.{text-unique}
 use Rattle.grammar.specs.Counts.{size}
 use Rattle.grammar.specs.Meaning.{text-table}
 use Rattle.grammar.specs.Scanning.{Lexeme, tokens-of, Scanned, no-token, lexemes, scan}
-use Rattle.grammar.specs.InRange.{flags, All}
+use Rattle.grammar.specs.Ranges.{flags, All}
 
 -- x is a derivation of the text: its tokens are those of the bytes
 pub record Reading (bytes : List ℕ) (x : Phrase) : Type 0 where

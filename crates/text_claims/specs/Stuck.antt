@@ -13,7 +13,8 @@ use Rattle.grammar.specs.Grammar.{Phrase}
 use Rattle.grammar.specs.Automaton.{after, State, at, start}
 use Rattle.grammar.specs.Text.{Spells}
 use Rattle.grammar.specs.Reader.{take, read}
-use Rattle.grammar.specs.TextRead.{text-read, read-append, Begins, text-viable}
+use Rattle.grammar.specs.TextRead.{text-read}
+use Rattle.grammar.specs.TextViable.{read-append, Begins, text-viable}
 use Rattle.grammar.specs.Scanning.{Lexeme, tokens-of, or-at, stuck}
 use Rattle.grammar.specs.Places.{Stuck-at, stuck-exactly}
 
