@@ -28,6 +28,8 @@ pub mod Tried
 pub mod Written
 pub mod Shapes
 pub mod Sizes
+pub mod SameRows
+pub mod SameForms
 pub mod SameTree
 pub mod TextTree
 pub mod Renamed

@@ -14,7 +14,8 @@ use Rattle.grammar.specs.Grammar.{Phrase, sort, Good}
 use Rattle.grammar.specs.Rows.{Quad, by-row}
 use Rattle.grammar.specs.Meaning.{flat, text-rows, text-table, text-tree}
 use Rattle.grammar.specs.Sizes.{table-length}
-use Rattle.grammar.specs.SameTree.{kind-row, quad-row, Stands, same-tree}
+use Rattle.grammar.specs.SameRows.{kind-row, quad-row, Stands}
+use Rattle.grammar.specs.SameTree.{same-tree}
 
 pub flat-append : (ps qs : List Quad) → flat (ps ++ qs) ≡ flat ps ++ flat qs
 unfolding flat
