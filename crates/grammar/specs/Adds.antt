@@ -8,22 +8,22 @@ use mathlib.Core.List.{List, [], _∷_, _++_, append-assoc, append-nil}
 use mathlib.Core.Bool.{Bool, true, false, cond}
 use lib.Dec.{leb}
 use Rattle.script.specs.Listing.{guarded}
+use Rattle.theorems.specs.Options.{none-is-not, some-inj, held, went-on}
 use Rattle.grammar.specs.Sorts.{Sort, statement, takes, begins, same-sort}
 use Rattle.grammar.specs.Operators.{Infix, semicolon, connective, relation, operator, infix-makes}
 use Rattle.grammar.specs.Forms.{Place, next-place}
 use Rattle.grammar.specs.Tokens.{constant-leaf, number-leaf, variable-leaf, truth-leaf, skip-leaf, Due, leaf-makes, opening-makes, opening-due, Ending, ending, same-ending, ends, Token, Beginning, leaf-beginning, opening-beginning, no-beginning, beginning}
 use Rattle.grammar.specs.Grammar.{Phrase, leaf, before, between, closed, Chain, place, sort}
-use Rattle.grammar.specs.Automaton.{prefix, infix-after, Frame, pending, open-at, wants, holds, apply, hole, Mode, operand, after, due, State, at, Reduced, reduce, reduced, token-binds, infix-at, go-on, shift, close, advance, leaf-on, begin, opening-frame, pushed, is-due, step-at, step, run}
+use Rattle.grammar.specs.Text.{is-post, post}
 use Rattle.grammar.specs.Counts.{constant-in}
 use Rattle.grammar.specs.Rows.{Quad}
-use Rattle.grammar.specs.Written.{stack-rows, part-rows, written, written-in, pop-writes, leaf-writes, No-body, advance-writes, shift-writes, push-writes, Apart-on, Settled, apart-none, apart-apply, apart-leaf, apart-advance}
-use Rattle.grammar.specs.InRange.{next-no-body}
-use Rattle.grammar.specs.Tests.{false-is-not, none-is-not, some-inj, held}
-use Rattle.grammar.specs.Reduces.{went-on}
-use Rattle.grammar.specs.Contexts.{Good-stack, Reads}
-use Rattle.grammar.specs.Text.{is-post, post}
+use Rattle.grammar.specs.Automaton.{prefix, infix-after, Frame, pending, open-at, wants, holds, apply, hole, Mode, operand, after, due, State, at, Reduced, reduce, reduced, token-binds, infix-at, go-on, shift, close, advance, leaf-on, begin, opening-frame, pushed, is-due, step-at, step, run}
 use Rattle.grammar.specs.Reader.{at-post, take, read}
+use Rattle.grammar.specs.Tests.{false-is-not}
+use Rattle.grammar.specs.Contexts.{Good-stack, Reads}
 use Rattle.grammar.specs.TextSound.{Came, take-keeps}
+use Rattle.grammar.specs.InRange.{next-no-body}
+use Rattle.grammar.specs.Written.{stack-rows, part-rows, written, written-in, pop-writes, leaf-writes, No-body, advance-writes, shift-writes, push-writes, Apart-on, Settled, apart-none, apart-apply, apart-leaf, apart-advance}
 
 -- rows, and some more
 pub record Adds (rs qs : List Quad) : Type 0 where
@@ -66,7 +66,7 @@ reduce-adds (pending f ∷ fs) n x r rs a h e = at-test (leb n (holds f)) (λ b 
         again (adds-then a (record { new = _; is = pop-writes f x fs h })) (held (same-sort (sort x) (wants f)) (reduce n (apply f x) fs) q .1)
     at-test false again q = left-over x (pending f ∷ fs) a h q
 
-no-body : (o : Option Place) (c : Chain) → next-place (place c) ≡ o → No-body o c
+pub no-body : (o : Option Place) (c : Chain) → next-place (place c) ≡ o → No-body o c
 no-body none c e = tt
 no-body (some q) c e = next-no-body (place c) q e
 
@@ -121,7 +121,7 @@ run-adds (t ∷ ts) s r h e =
 
 -- ---- over the tokens of a text
 
-no-constant : (x : Phrase) → sort x ≡ statement → constant-in x ≡ none
+pub no-constant : (x : Phrase) → sort x ≡ statement → constant-in x ≡ none
 no-constant (leaf (constant-leaf n)) e = false-is-not (ap (λ (s : Sort). same-sort s statement) e)
 no-constant (leaf (number-leaf n)) e = refl
 no-constant (leaf (variable-leaf v)) e = refl

@@ -11,11 +11,11 @@ use lib.Dec.{eqb, leb}
 use borrow.Author.Tests.{leb-true, eq-eqb, eqb-true}
 use lib.ListN.{length, take, length-take}
 use lib.Seq.{take-length, length-take-le}
-use Rattle.grammar.specs.Tests.{false-is-not}
 use Rattle.grammar.specs.Tokens.{Token, variable}
 use Rattle.grammar.specs.Scanning.{is-digit, front, number, same-bytes, begins-with, Spelling, Found, variable-of, word-of, symbol-of}
 use Rattle.grammar.specs.Pieces.{All, Digits, Listed}
-use Rattle.grammar.specs.Fronts.{both, front-fits, all-run, run-longest, same-refl, same-true}
+use Rattle.grammar.specs.Tests.{false-is-not, both}
+use Rattle.grammar.specs.Fronts.{front-fits, all-run, run-longest, same-refl, same-true}
 
 -- ---- a word's token
 

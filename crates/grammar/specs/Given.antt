@@ -4,44 +4,29 @@ use Prim.Native.Nat.{ℕ}
 use mathlib.Core.Path.{_≡_, refl, sym, ap, _∙_, subst}
 use mathlib.Core.Option.{Option, none, some}
 use mathlib.Core.List.{List, [], _∷_, _++_}
-use mathlib.Core.Bool.{Bool, true, false, cond, _&&_}
+use mathlib.Core.Bool.{Bool, true, false, cond}
 use lib.IntN.{ℤ}
 use lib.Dec.{leb}
 use lib.ListN.{length}
 use Rattle.script.specs.Listing.{_>>=_}
+use Rattle.theorems.specs.Options.{none-is-not}
 use Rattle.grammar.specs.Grammar.{Phrase}
-use Rattle.grammar.specs.Automaton.{Frame, Mode, operand, after, due, State, at, start}
+use Rattle.grammar.specs.Text.{Spells}
 use Rattle.grammar.specs.Counts.{size}
 use Rattle.grammar.specs.Meaning.{text-table}
-use Rattle.grammar.specs.Text.{Spells}
+use Rattle.grammar.specs.Automaton.{Frame, Mode, operand, after, due, State, at, start}
 use Rattle.grammar.specs.Reader.{take, read}
+use Rattle.grammar.specs.Scanning.{Lexeme, tokens-of, Scanned, no-token, lexemes, scan, or-at, stuck}
+use Rattle.grammar.specs.Ranges.{flag, onward, read-flags, All, all-of}
+use Rattle.grammar.specs.Outcome.{Outcome, refused, given, out-after, out-of-range, has-room, phrase-out, read-out, range-out, stuck-out, scanned-out, outcome}
 use Rattle.grammar.specs.TextSound.{read-text}
 use Rattle.grammar.specs.TextRead.{text-read}
-use Rattle.grammar.specs.Scanning.{Lexeme, tokens-of, Scanned, no-token, lexemes, scan, or-at, stuck}
+use Rattle.grammar.specs.Stops.{ended}
 use Rattle.grammar.specs.Scans.{scan-ends}
 use Rattle.grammar.specs.Places.{not-stuck}
-use Rattle.grammar.specs.Stops.{ended}
-use Rattle.grammar.specs.Ranges.{flag, onward, read-flags, All, all-parts}
-use Rattle.grammar.specs.Tests.{none-is-not, false-is-not}
-use Rattle.grammar.specs.Outcome.{Outcome, refused, given, all-of, out-after, out-of-range, has-room, phrase-out, read-out, range-out, stuck-out, scanned-out, outcome}
+use Rattle.grammar.specs.AllLaws.{all-parts, all-join, all-true, true-all}
 
 -- ---- in range, both ways
-
-both : (a b : Bool) → (a && b) ≡ true → (a ≡ true) × (b ≡ true)
-both true b e = (refl, e)
-both false b e = false-is-not e
-
-all-true : (bs : List Bool) → all-of bs ≡ true → All bs
-all-true [] h = tt
-all-true (b ∷ bs) h = let t = both b (all-of bs) h in (t .0, all-true bs (t .1))
-
-true-all : (bs : List Bool) → All bs → all-of bs ≡ true
-true-all [] h = refl
-true-all (b ∷ bs) h = rw (h .0) (true-all bs (h .1))
-
-all-join : (us vs : List Bool) → All us → All vs → All (us ++ vs)
-all-join [] vs h k = k
-all-join (u ∷ us) vs h k = (h .0, all-join us vs (h .1) k)
 
 in-range : (ls : List Lexeme) (s : State) → out-of-range s ls ≡ none → All (read-flags s (tokens-of ls))
 unfolding out-of-range read-flags
@@ -70,7 +55,7 @@ range-in (l ∷ ls) s h =
     at-test (some r) again k = again r k
 
 -- a text that is read is stuck nowhere
-read-not-stuck : (ls : List Lexeme) (s r : State) → read s (tokens-of ls) ≡ some r → stuck s ls ≡ none
+pub read-not-stuck : (ls : List Lexeme) (s r : State) → read s (tokens-of ls) ≡ some r → stuck s ls ≡ none
 unfolding read stuck
 read-not-stuck [] s r e = refl
 read-not-stuck (l ∷ ls) s r e = at-test (take s (l .token)) (λ q d. read-not-stuck ls q r d) e

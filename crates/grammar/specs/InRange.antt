@@ -7,31 +7,31 @@ use mathlib.Core.List.{List, [], _∷_, _++_, append-assoc, append-nil}
 use mathlib.Core.Bool.{Bool, true, false, cond}
 use native.Mathlib.Omega.{arith as linear}
 use Rattle.script.specs.Listing.{guarded}
+use Rattle.theorems.specs.Options.{none-is-not, some-inj, held, went-on}
 use Rattle.grammar.specs.Sorts.{Hole, takes, begins}
 use Rattle.grammar.specs.Operators.{semicolon, connective, relation, operator, Infix, infix-makes, not-prefix, minus-prefix, assert-prefix, assign-prefix, tight}
 use Rattle.grammar.specs.Forms.{Place, in-group, in-mark, when-first, when-second, when-third, if-guard, if-then, if-else, while-guard, while-keep, while-fall, while-body, script-pre, script-body, script-post, next-place}
 use Rattle.grammar.specs.Tokens.{Token, Ending, ends, ending, same-ending, beginning}
 use Rattle.grammar.specs.Grammar.{Phrase, Chain, place, words, sort}
-use Rattle.grammar.specs.Automaton.{prefix, infix-after, Frame, pending, open-at, hole, Mode, operand, after, due, State, at, start, reduce, token-binds, infix-at, go-on, shift, close, advance, is-due, step-at, step}
+use Rattle.grammar.specs.Text.{is-post, post, Spells}
 use Rattle.grammar.specs.Counts.{begins-body}
-use Rattle.grammar.specs.Tests.{none-is-not, some-inj, held}
+use Rattle.grammar.specs.Automaton.{prefix, infix-after, Frame, pending, open-at, hole, Mode, operand, after, due, State, at, start, reduce, token-binds, infix-at, go-on, shift, close, advance, is-due, step-at, step}
+use Rattle.grammar.specs.Reader.{at-post, take, read}
+use Rattle.grammar.specs.Ranges.{deeper, flags, chain-flags, depth, after-minus, flag, onward, read-flags}
 use Rattle.grammar.specs.LevelLaws.{binds-tight}
 use Rattle.grammar.specs.WordLaws.{begun-by}
 use Rattle.grammar.specs.Complete.{Below}
 use Rattle.grammar.specs.Contexts.{stack-words, Good-stack, Part, Reads}
-use Rattle.grammar.specs.Text.{is-post, post, Spells}
-use Rattle.grammar.specs.Reader.{at-post, take, read}
+use Rattle.grammar.specs.Reduces.{reduce-keeps}
+use Rattle.grammar.specs.Sound.{lower}
 use Rattle.grammar.specs.TextSound.{post-known, Came, came, before-semicolon, take-keeps}
 use Rattle.grammar.specs.TextRead.{text-read}
-use Rattle.grammar.specs.Reduces.{went-on, reduce-keeps}
-use Rattle.grammar.specs.Sound.{lower}
-use Rattle.grammar.specs.Ranges.{deeper, flags, chain-flags, depth, after-minus, flag, onward, read-flags}
 use Rattle.grammar.specs.StateFlags.{stack-flags, part-flags, mode-flags, state-flags, reduce-flags, of-found, begin-flags}
 
 -- ---- a token after a part
 
 -- the next operator has taken the unary minus away
-no-minus : (fs : List Frame) (n : ℕ) → n ≤ tight → Below fs n → after-minus fs ≡ false
+pub no-minus : (fs : List Frame) (n : ℕ) → n ≤ tight → Below fs n → after-minus fs ≡ false
 no-minus [] n l b = refl
 no-minus (pending (prefix not-prefix) ∷ fs) n l b = refl
 no-minus (pending (prefix minus-prefix) ∷ fs) n l b = absurd (omega linear)

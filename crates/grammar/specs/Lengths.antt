@@ -10,9 +10,9 @@ use lib.ListN.{length, length-append}
 use Rattle.grammar.specs.Forms.{Place, in-group, in-mark, when-first, when-second, when-third, if-guard, if-then, if-else, while-guard, while-keep, while-fall, while-body, script-pre, script-body, script-post}
 use Rattle.grammar.specs.Tokens.{Token, infix-word, ending, ending-word, Leaf, constant-leaf, number-leaf, variable-leaf, truth-leaf, skip-leaf, prefix-opening}
 use Rattle.grammar.specs.Grammar.{Phrase, leaf, before, between, closed, Chain, begun, more, place, opening-words, words, chain-words}
+use Rattle.grammar.specs.Counts.{negated, size, chain-size, leaf-size, prefix-size, form-size, note-size, begins-body}
 use Rattle.grammar.specs.Automaton.{prefix, infix-after, Frame, pending, open-at}
 use Rattle.grammar.specs.Contexts.{pending-words, stack-words}
-use Rattle.grammar.specs.Counts.{negated, size, chain-size, leaf-size, prefix-size, form-size, note-size, begins-body}
 use Rattle.grammar.specs.Written.{stack-size}
 
 leaf-fits : (l : Leaf) → leaf-size l ≤ 1

@@ -11,12 +11,12 @@ use native.Mathlib.Omega.{arith as linear}
 use borrow.Author.Tests.{not-true}
 use lib.ListN.{length, take}
 use lib.Seq.{length-take-le}
-use Rattle.grammar.specs.Tests.{false-is-not}
 use Rattle.grammar.specs.Tokens.{Token}
 use Rattle.grammar.specs.Scanning.{is-digit, is-letter, is-word-byte, front, Spelling, keywords, symbols, Found, word-of, symbol-of, numeral-of, token-at}
 use Rattle.grammar.specs.Pieces.{All, Word, Listed, Piece, digits, word, symbol, Spells, as-numeral, as-variable, as-keyword, as-symbol, Longest, Begins}
+use Rattle.grammar.specs.Tests.{false-is-not, both}
+use Rattle.grammar.specs.Fronts.{digit-range, letter-range, run, front-fits, length-run, all-run, run-longest}
 use Rattle.grammar.specs.Finding.{Finds, Word-token, finds-word, Starts, starts}
-use Rattle.grammar.specs.Fronts.{both, digit-range, letter-range, run, front-fits, length-run, all-run, run-longest}
 
 -- ---- a piece by its first byte
 

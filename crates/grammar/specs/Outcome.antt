@@ -3,17 +3,17 @@
 use Prim.Native.Nat.{ℕ, _*_}
 use mathlib.Core.Option.{Option, none, some}
 use mathlib.Core.List.{List, [], _∷_}
-use mathlib.Core.Bool.{Bool, true, cond, _&&_}
+use mathlib.Core.Bool.{Bool, cond, _&&_}
 use lib.IntN.{ℤ}
 use lib.Dec.{leb}
 use lib.ListN.{length}
 use Rattle.grammar.specs.Grammar.{Phrase}
-use Rattle.grammar.specs.Automaton.{Frame, Mode, operand, after, due, State, start}
 use Rattle.grammar.specs.Counts.{size}
 use Rattle.grammar.specs.Meaning.{text-table}
+use Rattle.grammar.specs.Automaton.{Frame, Mode, operand, after, due, State, start}
 use Rattle.grammar.specs.Reader.{take, read}
 use Rattle.grammar.specs.Scanning.{Lexeme, tokens-of, Scanned, no-token, lexemes, scan, stuck}
-use Rattle.grammar.specs.Ranges.{flag}
+use Rattle.grammar.specs.Ranges.{flag, all-of}
 
 pub data Outcome : Type 0 where
   -- a number and a place
@@ -21,10 +21,6 @@ pub data Outcome : Type 0 where
   given : List ℤ → Outcome
 
 -- ---- 42
-
-abbrev pub all-of : List Bool → Bool
-all-of [] = true
-all-of (b ∷ bs) = b && all-of bs
 
 abbrev pub out-after : Option State → (State → Option ℕ) → Option ℕ
 out-after none go = none

@@ -12,10 +12,10 @@ use Rattle.grammar.specs.Forms.{Form, group-form, mark-form, when-form, 
 use Rattle.grammar.specs.Grammar.{Phrase, leaf, before, between, closed, Chain, begun, more, place, Good, Good-chain}
 use Rattle.grammar.specs.Counts.{negated, minus, size, chain-size, form-size, begins-body, last, roots}
 use Rattle.grammar.specs.Rows.{Quad, prefix-row, prefix-rows, counts, by-row, inside, table, chain-table}
-use Rattle.grammar.specs.Sizes.{table-length, chain-length}
-use Rattle.grammar.specs.Written.{by-count}
 use Rattle.grammar.specs.Tests.{false-is-not}
 use Rattle.grammar.specs.InRange.{next-no-body}
+use Rattle.grammar.specs.Sizes.{table-length, chain-length}
+use Rattle.grammar.specs.Written.{by-count}
 use Rattle.grammar.specs.Renamed.{Passes, nothing-passes, constant-passes, leaf-passes, prefix-passes, infix-passes, note-passes, form-passes, two-pass, three-pass}
 
 body-size : (p : Place) → begins-body p ≡ true → form-size p ≡ 1
@@ -35,7 +35,7 @@ body-size script-pre k = refl
 body-size script-body k = refl
 body-size script-post k = refl
 
-first-no-body : (f : Form) → begins-body (first-place f) ≡ false
+pub first-no-body : (f : Form) → begins-body (first-place f) ≡ false
 first-no-body group-form = refl
 first-no-body mark-form = refl
 first-no-body when-form = refl

@@ -5,12 +5,13 @@ use mathlib.Core.Option.{none, some}
 use mathlib.Core.List.{List, [], _∷_}
 use mathlib.Core.Bool.{Bool, true}
 use native.Mathlib.Omega.{arith as linear}
+use Rattle.theorems.specs.Options.{none-is-not, some-inj}
 use Rattle.grammar.specs.Sorts.{Sort, number, expression, formula, statement, script, same-sort, Hole, only, either, takes, begins}
 use Rattle.grammar.specs.Forms.{Form, group-form, mark-form, when-form, if-form, while-form, script-form, Place, in-group, in-mark, when-first, when-second, when-third, if-guard, if-then, if-else, while-guard, while-keep, while-fall, while-body, script-pre, script-body, script-post, first-place, next-place, place-takes, place-makes}
 use Rattle.grammar.specs.Tokens.{Ending, by-semicolon, by-closer, post-closer, same-ending, ending, ending-word, ends}
 use Rattle.grammar.specs.Grammar.{Phrase, sort, level}
 use Rattle.grammar.specs.Automaton.{infix-at, token-binds, form-takes}
-use Rattle.grammar.specs.Tests.{false-is-not, none-is-not, some-inj}
+use Rattle.grammar.specs.Tests.{false-is-not}
 use Rattle.grammar.specs.LevelLaws.{formula-level}
 
 -- ---- places

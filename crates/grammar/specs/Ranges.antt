@@ -11,8 +11,8 @@ use Rattle.grammar.specs.Operators.{Prefix, not-prefix, minus-prefix, as
 use Rattle.grammar.specs.Forms.{Place}
 use Rattle.grammar.specs.Tokens.{Token, numeral, variable, truth-word, skip-word, not-word, assert-word, becomes, infix-word, form-word, closer-word, Leaf, constant-leaf, number-leaf, variable-leaf, truth-leaf, skip-leaf}
 use Rattle.grammar.specs.Grammar.{Phrase, leaf, before, between, closed, Chain, begun, more, place}
-use Rattle.grammar.specs.Automaton.{prefix, infix-after, Frame, pending, open-at, hole, Mode, operand, after, due, State}
 use Rattle.grammar.specs.Counts.{begins-body}
+use Rattle.grammar.specs.Automaton.{prefix, infix-after, Frame, pending, open-at, hole, Mode, operand, after, due, State}
 use Rattle.grammar.specs.Reader.{take}
 
 -- ---- ranges
@@ -110,6 +110,6 @@ abbrev pub All : List Bool → Type 0
 All [] = Unit {0}
 All (b ∷ bs) = (b ≡ true) × All bs
 
-pub all-parts : (us vs : List Bool) → All (us ++ vs) → All us × All vs
-all-parts [] vs h = (tt, h)
-all-parts (u ∷ us) vs h = let s = all-parts us vs (h .1) in ((h .0, s .0), s .1)
+abbrev pub all-of : List Bool → Bool
+all-of [] = true
+all-of (b ∷ bs) = b && all-of bs

@@ -7,8 +7,8 @@ use Rattle.script.specs.Listing.{_>>=_}
 use Rattle.grammar.specs.Operators.{Infix, semicolon, connective, relation, operator}
 use Rattle.grammar.specs.Tokens.{Token}
 use Rattle.grammar.specs.Grammar.{Phrase}
-use Rattle.grammar.specs.Automaton.{prefix, infix-after, Frame, pending, open-at, Mode, operand, after, due, State, at, step}
 use Rattle.grammar.specs.Text.{is-post, post}
+use Rattle.grammar.specs.Automaton.{prefix, infix-after, Frame, pending, open-at, Mode, operand, after, due, State, at, step}
 
 -- ---- the reader
 

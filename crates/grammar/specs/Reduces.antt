@@ -2,27 +2,23 @@
 -- reduction leaves (`reduce-keeps`). Assumes nothing.
 use Prim.Native.Nat.{ℕ, suc, _≤_, _<_}
 use mathlib.Core.Path.{_≡_, refl, sym, ap, _∙_, subst}
-use mathlib.Core.Option.{Option, none, some}
+use mathlib.Core.Option.{some}
 use mathlib.Core.List.{List, [], _∷_, _++_, append-assoc}
 use mathlib.Core.Bool.{Bool, true, false, cond}
 use native.Mathlib.Omega.{arith as linear}
 use lib.Dec.{leb}
 use borrow.Author.Tests.{leb-true, leb-false}
-use Rattle.script.specs.Listing.{_>>=_, guarded}
+use Rattle.script.specs.Listing.{guarded}
+use Rattle.theorems.specs.Options.{some-inj, held}
 use Rattle.grammar.specs.Sorts.{sort-discrete, same-sort}
 use Rattle.grammar.specs.Operators.{top}
 use Rattle.grammar.specs.Tokens.{Token, infix-word}
 use Rattle.grammar.specs.Grammar.{Phrase, words, sort, level, binds, Good}
 use Rattle.grammar.specs.Automaton.{Pending, prefix, infix-after, Frame, pending, open-at, wants, holds, apply, State, Reduced, reduce, reduced}
-use Rattle.grammar.specs.Tests.{none-is-not, some-inj, held, same-is}
+use Rattle.grammar.specs.Tests.{same-is}
 use Rattle.grammar.specs.LevelLaws.{holds-below}
 use Rattle.grammar.specs.Complete.{Below}
 use Rattle.grammar.specs.Contexts.{pending-words, stack-words, pending-binds, pending-makes, Good-pending, Good-stack, Part, Reads}
-
--- the first part found something, with which the second found the answer
-pub went-on : {A B : Type 0} (o : Option A) (f : A → Option B) {b : B} → (o >>= f) ≡ some b → (a : A) × (o ≡ some a) × (f a ≡ some b)
-went-on none f e = none-is-not e
-went-on (some a) f e = (a, refl, e)
 
 -- what a state reads, of the state as one
 abbrev pub Reads-state : State → List Token → Type 0
@@ -44,7 +40,7 @@ apply-binds : (f : Pending) (x : Phrase) → binds (apply f x) ≡ pending-binds
 apply-binds (prefix p) x = refl
 apply-binds (infix-after o y) x = refl
 
-apply-makes : (f : Pending) (x : Phrase) → sort (apply f x) ≡ pending-makes f
+pub apply-makes : (f : Pending) (x : Phrase) → sort (apply f x) ≡ pending-makes f
 apply-makes (prefix p) x = refl
 apply-makes (infix-after o y) x = refl
 

@@ -15,12 +15,12 @@ use lib.ListN.{length}
 use Rattle.script.specs.declared.Operator.the-variants.{Plus, Minus, Times, Div, Mod}
 use Rattle.script.specs.declared.Relation.the-variants.{Less, AtMost, Equal, Unequal}
 use Rattle.script.specs.declared.Connective.the-variants.{And, Or, Implies}
+use Rattle.theorems.specs.Options.{none-is-not}
 use Rattle.grammar.specs.Operators.{Infix, semicolon, connective, relation, operator, Prefix, not-prefix, minus-prefix, assert-prefix, assign-prefix}
 use Rattle.grammar.specs.Forms.{next-place, Place, in-group, in-mark, when-first, when-second, when-third, if-guard, if-then, if-else, while-guard, while-keep, while-fall, while-body, script-pre, script-body, script-post}
 use Rattle.grammar.specs.Tokens.{Leaf, constant-leaf, number-leaf, variable-leaf, truth-leaf, skip-leaf}
 use Rattle.grammar.specs.Counts.{begins-body}
 use Rattle.grammar.specs.Rows.{Quad, quad, constant, leaf-rows, prefix-row, infix-kind, nth-loop, form-rows, note-rows}
-use Rattle.grammar.specs.Tests.{none-is-not}
 
 -- ---- a row
 

@@ -5,13 +5,13 @@ use mathlib.Core.List.{List, []}
 use Rattle.script.specs.Trees.{tree}
 use Rattle.grammar.specs.Tokens.{Token}
 use Rattle.grammar.specs.Grammar.{Phrase, Good}
-use Rattle.grammar.specs.Automaton.{at, after}
 use Rattle.grammar.specs.Text.{Spells}
 use Rattle.grammar.specs.Meaning.{text-rows, text-table, text-tree, flat}
+use Rattle.grammar.specs.Automaton.{at, after}
+use Rattle.grammar.specs.TextTree.{text-tree-is}
 use Rattle.grammar.specs.Written.{written-in, stack-rows, stack-size}
 use Rattle.grammar.specs.Renamed.{pass-rows}
 use Rattle.grammar.specs.Passed.{passed}
-use Rattle.grammar.specs.TextTree.{text-tree-is}
 
 pub rows-of-text : (x : Phrase) → Good x → pass-rows (written-in (at (after x) [])) 0 [] ≡ text-rows x
 unfolding text-rows stack-rows stack-size

@@ -9,13 +9,14 @@ use lib.IntN.{ℤ, pos}
 use lib.ListN.{getD}
 use Rattle.script.specs.Rows.{row-of, row}
 use Rattle.script.specs.Trees.{expr as expr-in, formula as formula-in, stmt as stmt-in}
+use Rattle.theorems.specs.Options.{none-is-not}
 use Rattle.grammar.specs.Sorts.{Sort, sort-discrete, expression, formula, statement, only, takes}
 use Rattle.grammar.specs.Forms.{Place, in-group, in-mark, when-first, when-second, when-third, if-guard, if-then, if-else, while-guard, while-keep, while-fall, while-body, script-pre, script-body, script-post, place-takes, place-makes, next-place, while-form}
 use Rattle.grammar.specs.Grammar.{Phrase, Chain, begun, more, place, sort, Good-chain}
-use Rattle.grammar.specs.Tests.{none-is-not, same-is}
 use Rattle.grammar.specs.Counts.{size, chain-size, form-size, begins-body, last, roots}
 use Rattle.grammar.specs.Rows.{Quad, quad, nth-loop, counts, form-rows, note-rows}
 use Rattle.grammar.specs.Trees.{Value, to-expr, to-formula, nth, form-value, value, chain-values}
+use Rattle.grammar.specs.Tests.{same-is}
 use Rattle.grammar.specs.Sizes.{sized}
 use Rattle.grammar.specs.Shapes.{form-of, at-third, at-fourth, Two, Three}
 use Rattle.grammar.specs.SameRows.{quad-row, Stands, stands-at, Means}

@@ -10,11 +10,11 @@ use native.Mathlib.Omega.{arith as linear}
 use lib.IntN.{ℤ}
 use Rattle.script.specs.Rows.{row-of, row, rows}
 use Rattle.script.specs.Trees.{expr as expr-in, expr-at, formula-at, stmt-at, tree}
+use Rattle.theorems.specs.Options.{none-is-not}
 use Rattle.grammar.specs.Sorts.{number, script, same-sort}
 use Rattle.grammar.specs.Operators.{Infix, semicolon, connective, relation, operator, infix-takes, infix-makes, Prefix, not-prefix, minus-prefix, assert-prefix, assign-prefix, prefix-takes, prefix-makes}
 use Rattle.grammar.specs.Tokens.{Leaf, constant-leaf, number-leaf, variable-leaf, truth-leaf, skip-leaf, leaf-makes}
 use Rattle.grammar.specs.Grammar.{Phrase, leaf, before, between, closed, Chain, begun, more, place, sort, Good, Good-chain}
-use Rattle.grammar.specs.Tests.{none-is-not}
 use Rattle.grammar.specs.Counts.{negated, minus, size, chain-size, leaf-size, prefix-size, form-size, begins-body, last, roots}
 use Rattle.grammar.specs.Rows.{quad, constant, leaf-rows, prefix-row, prefix-rows, infix-kind, nth-loop, counts, form-rows, note-rows, inside, table, chain-table, by-row}
 use Rattle.grammar.specs.Trees.{Value, leaf-value, prefix-value, infix-value, value}

@@ -11,7 +11,7 @@ use borrow.Author.Tests.{leb-true}
 use lib.ListN.{length, take, drop, length-drop}
 use Rattle.grammar.specs.Tokens.{Token, closer-word, end-of-text}
 use Rattle.grammar.specs.Scanning.{Lexeme, tokens-of, no-token, lexemes, is-blank, is-digit, is-letter, is-word-byte, front, same-bytes, begins-with, numeral-of, keywords, symbols, Spelling, Found, variable-of, word-of, symbol-of, token-at, Scanned, with-first, past, scan-from, scan}
-use Rattle.grammar.specs.Tests.{false-is-not}
+use Rattle.grammar.specs.Tests.{both}
 
 abbrev Sized : Option Found → Type 0
 Sized none = Unit {0}
@@ -38,10 +38,6 @@ sized-word (s ∷ ss) w h = sized-if (same-bytes w (s .bytes)) _ (word-of ss w) 
 abbrev all-long : List Spelling → Bool
 all-long [] = true
 all-long (s ∷ ss) = leb 1 (length (s .bytes)) && all-long ss
-
-both : (a b : Bool) → (a && b) ≡ true → (a ≡ true) × (b ≡ true)
-both true b e = (refl, e)
-both false b e = false-is-not e
 
 sized-symbol : (ss : List Spelling) (bs : List ℕ) → all-long ss ≡ true → Sized (symbol-of ss bs)
 sized-symbol [] bs h = tt

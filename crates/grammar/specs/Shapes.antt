@@ -2,10 +2,10 @@
 use mathlib.Core.Path.{_≡_, refl, sym, ap, _∙_}
 use mathlib.Core.Option.{Option, none, some}
 use mathlib.Core.Bool.{true}
+use Rattle.theorems.specs.Options.{none-is-not, some-inj}
 use Rattle.grammar.specs.Sorts.{takes}
 use Rattle.grammar.specs.Forms.{Form, group-form, mark-form, when-form, if-form, while-form, script-form, Place, in-group, in-mark, when-first, when-second, when-third, if-guard, if-then, if-else, while-guard, while-keep, while-fall, while-body, script-pre, script-body, script-post, first-place, next-place, place-takes}
 use Rattle.grammar.specs.Grammar.{Phrase, Chain, begun, more, place, sort, Good-chain}
-use Rattle.grammar.specs.Tests.{none-is-not, some-inj}
 
 abbrev pub prev : Place → Option Place
 prev in-group = none

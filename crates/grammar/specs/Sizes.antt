@@ -11,9 +11,9 @@ use Rattle.grammar.specs.Operators.{Prefix}
 use Rattle.grammar.specs.Forms.{Place, place-makes, in-group, in-mark, when-first, when-second, when-third, if-guard, if-then, if-else, while-guard, while-keep, while-fall, while-body, script-pre, script-body, script-post}
 use Rattle.grammar.specs.Tokens.{Leaf, constant-leaf, number-leaf, variable-leaf, truth-leaf, skip-leaf}
 use Rattle.grammar.specs.Grammar.{Phrase, leaf, before, between, closed, Chain, begun, more, place, sort}
-use Rattle.grammar.specs.Tests.{false-is-not}
 use Rattle.grammar.specs.Counts.{negated, size, chain-size, leaf-size, prefix-size, form-size, note-size, begins-body, last, roots}
 use Rattle.grammar.specs.Rows.{Quad, Naming, leaf-rows, prefix-row, prefix-rows, form-rows, note-rows, table, chain-table}
+use Rattle.grammar.specs.Tests.{false-is-not}
 
 leaf-length : (l : Leaf) → length (leaf-rows l) ≡ leaf-size l
 leaf-length (constant-leaf n) = refl

@@ -7,20 +7,21 @@ use mathlib.Core.List.{List, [], _∷_, _++_, append-assoc, append-nil}
 use mathlib.Core.Bool.{true}
 use native.Mathlib.Omega.{arith as linear}
 use Rattle.script.specs.Listing.{guarded}
+use Rattle.theorems.specs.Options.{none-is-not, some-inj, held, went-on}
 use Rattle.grammar.specs.Sorts.{Sort, sort-discrete, script, expression, Hole, takes, begins}
 use Rattle.grammar.specs.Operators.{Infix, infix-makes, infix-binds, prefix-level, prefix-makes, tight, not-prefix, minus-prefix, assert-prefix, assign-prefix}
 use Rattle.grammar.specs.Forms.{Place, next-place, place-takes, place-makes}
 use Rattle.grammar.specs.Tokens.{Ending, ending, ending-word, same-ending, closer-discrete, ending-discrete, ends, constant-leaf, number-leaf, variable-leaf, truth-leaf, skip-leaf, Token, infix-word, Leaf, leaf-makes, Opening, prefix-opening, form-opening, opening-makes, opening-due, Due, Beginning, opening-beginning, leaf-beginning, no-beginning, beginning}
 use Rattle.grammar.specs.Grammar.{Phrase, leaf, Chain, begun, more, place, words, chain-words, due-words, opening-words, sort, Good, Good-chain}
 use Rattle.grammar.specs.Automaton.{prefix, infix-after, Frame, pending, open-at, hole, Mode, operand, after, due, State, at, start, Reduced, reduce, token-binds, go-on, shift, close, advance, constant-on, leaf-on, begin, opening-frame, pushed, infix-at, is-due, step-at, step, run}
-use Rattle.grammar.specs.Tests.{none-is-not, some-inj, held, same-is}
+use Rattle.grammar.specs.Tests.{same-is}
 use Rattle.grammar.specs.HoleLaws.{form-takes-less, form-fits}
 use Rattle.grammar.specs.LevelLaws.{binds-tight, prefix-fits}
 use Rattle.grammar.specs.PlaceLaws.{later-makes, next-makes}
 use Rattle.grammar.specs.WordLaws.{Begun, begun-by, infix-known, ends-known, due-known}
 use Rattle.grammar.specs.Complete.{Below, chain-takes}
 use Rattle.grammar.specs.Contexts.{frame-words, stack-words, Good-on, Good-stack, Part, Reads}
-use Rattle.grammar.specs.Reduces.{went-on, Reads-state, below-top, Left, taken, reduce-keeps}
+use Rattle.grammar.specs.Reduces.{Reads-state, below-top, Left, taken, reduce-keeps}
 
 -- ---- a token where a part begins
 

@@ -7,14 +7,15 @@ use mathlib.Core.List.{List, [], _∷_, _++_, append-assoc}
 use mathlib.Core.Bool.{Bool, true, false, cond}
 use lib.Dec.{leb}
 use Rattle.script.specs.Listing.{guarded}
+use Rattle.theorems.specs.Options.{none-is-not, some-inj, held}
 use Rattle.grammar.specs.Sorts.{number, expression, statement, script, same-sort, Hole, only, either, formula, begins}
 use Rattle.grammar.specs.Operators.{not-prefix, minus-prefix, assert-prefix, assign-prefix}
 use Rattle.grammar.specs.Tokens.{Token, Leaf, constant-leaf, number-leaf, variable-leaf, truth-leaf, skip-leaf, leaf-makes, leaf-word, Opening, prefix-opening, form-opening, opening-makes, opening-word, opening-due, Due, Beginning, leaf-beginning, opening-beginning, no-beginning}
 use Rattle.grammar.specs.Grammar.{Phrase, leaf, sort}
 use Rattle.grammar.specs.Automaton.{Pending, prefix, infix-after, Frame, pending, open-at, wants, holds, apply, hole, Mode, operand, after, due, State, Reduced, reduce, reduced, constant-on, leaf-on, begin, opening-frame, pushed}
-use Rattle.grammar.specs.Tests.{false-is-not, none-is-not, some-inj, held}
-use Rattle.grammar.specs.WordLaws.{Begun}
 use Rattle.grammar.specs.Ranges.{is-minus, leaf-flags, prefix-flags, flags, chain-flags, depth, after-minus, operand-flag}
+use Rattle.grammar.specs.Tests.{false-is-not}
+use Rattle.grammar.specs.WordLaws.{Begun}
 
 -- ---- the flags of the complete parts
 
@@ -39,7 +40,7 @@ abbrev pub state-flags : State → List Bool
 state-flags s = mode-flags (s .mode) (s .stack)
 
 -- an operator that takes its part changes nothing
-pop-flags : (f : Pending) (x : Phrase) (fs : List Frame) → part-flags (apply f x) fs ≡ part-flags x (pending f ∷ fs)
+pub pop-flags : (f : Pending) (x : Phrase) (fs : List Frame) → part-flags (apply f x) fs ≡ part-flags x (pending f ∷ fs)
 unfolding flags stack-flags depth
 pop-flags (prefix p) x fs = sym (append-assoc (stack-flags fs) (prefix-flags p) (flags (depth fs) (is-minus p) x))
 pop-flags (infix-after o y) x fs = sym (append-assoc (stack-flags fs) (flags (depth fs) false y) (flags (depth fs) false x))
@@ -66,7 +67,7 @@ no-number (only statement) e = refl
 no-number (only script) e = refl
 no-number either e = refl
 
-leaf-flag : (l : Leaf) (fs : List Frame) → begins (hole fs) (leaf-makes l) ≡ true
+pub leaf-flag : (l : Leaf) (fs : List Frame) → begins (hole fs) (leaf-makes l) ≡ true
     → leaf-flags (depth fs) (after-minus fs) l ≡ operand-flag fs (leaf-word l)
 leaf-flag (constant-leaf n) fs e = rw (no-number (hole fs) e)
 leaf-flag (number-leaf k) fs e = rw e

@@ -6,18 +6,19 @@ use mathlib.Core.List.{List, [], _∷_, _++_, append-assoc}
 use mathlib.Core.Bool.{true, false}
 use native.Mathlib.Omega.{arith as linear}
 use Rattle.script.specs.Listing.{_>>=_, guarded}
+use Rattle.theorems.specs.Options.{none-is-not, some-inj, held, went-on}
 use Rattle.grammar.specs.Sorts.{expression, script, Hole, only, either, number, formula, statement, takes, wide, begins}
 use Rattle.grammar.specs.Operators.{semicolon, connective, relation, operator, not-prefix, minus-prefix, assert-prefix, assign-prefix}
 use Rattle.grammar.specs.Forms.{Place, in-group, in-mark, when-first, when-second, when-third, if-guard, if-then, if-else, while-guard, while-keep, while-fall, while-body, script-pre, script-body, script-post, next-place, place-takes, place-makes, group-form, mark-form, when-form, if-form, while-form, script-form}
 use Rattle.grammar.specs.Tokens.{end-of-text, by-closer, ending, same-ending, Token, closer-word}
 use Rattle.grammar.specs.Grammar.{Phrase, closed, Chain, begun, more, place, sort}
 use Rattle.grammar.specs.Automaton.{Pending, prefix, infix-after, Frame, pending, open-at, wants, hole, Mode, operand, after, due, State, at, start, reduce, go-on, close, advance, step-at}
-use Rattle.grammar.specs.Tests.{false-is-not, none-is-not, some-inj, held}
+use Rattle.grammar.specs.Reader.{take, read}
+use Rattle.grammar.specs.Tests.{false-is-not}
 use Rattle.grammar.specs.Complete.{chain-takes}
 use Rattle.grammar.specs.Contexts.{Good-stack, Reads}
-use Rattle.grammar.specs.Reduces.{went-on, reduce-keeps}
+use Rattle.grammar.specs.Reduces.{reduce-keeps}
 use Rattle.grammar.specs.Sound.{lower}
-use Rattle.grammar.specs.Reader.{take, read}
 use Rattle.grammar.specs.TextSound.{came, read-keeps}
 use Rattle.grammar.specs.TextViable.{read-append, Begins, text-viable, text-refused}
 

@@ -8,21 +8,22 @@ use native.Mathlib.Omega.{arith as linear}
 use lib.Dec.{leb}
 use borrow.Author.Tests.{le-leb}
 use Rattle.script.specs.Listing.{_>>=_, guarded}
+use Rattle.theorems.specs.Options.{none-is-not, some-inj, held, went-on}
 use Rattle.grammar.specs.Sorts.{sort-discrete, statement, same-sort, Hole, only, takes, begins}
 use Rattle.grammar.specs.Operators.{semicolon}
 use Rattle.grammar.specs.Forms.{next-place, group-form, mark-form, when-form, if-form, while-form, script-form}
 use Rattle.grammar.specs.Tokens.{post-closer, by-closer, Token, infix-word}
 use Rattle.grammar.specs.Grammar.{Phrase, Chain, begun, more, place, words, sort}
+use Rattle.grammar.specs.Text.{is-post, post, text, Spells}
 use Rattle.grammar.specs.Automaton.{infix-after, Frame, pending, open-at, wants, holds, apply, hole, Mode, operand, after, due, State, at, start, Reduced, reduce, reduced, go-on, close, advance, step-at, step, run}
-use Rattle.grammar.specs.Tests.{false-is-not, none-is-not, some-inj, held, same-is, same-sorts}
+use Rattle.grammar.specs.Reader.{at-post, take, read}
+use Rattle.grammar.specs.Tests.{false-is-not, same-is, same-sorts}
 use Rattle.grammar.specs.LevelLaws.{loosest-wants}
 use Rattle.grammar.specs.PlaceLaws.{ends-by-post, post-takes}
 use Rattle.grammar.specs.Complete.{Below, chain-takes, read-whole}
 use Rattle.grammar.specs.Contexts.{stack-words, Good-stack, Part, Reads}
-use Rattle.grammar.specs.Reduces.{went-on, reduce-keeps, Reads-state}
+use Rattle.grammar.specs.Reduces.{reduce-keeps, Reads-state}
 use Rattle.grammar.specs.Sound.{lower, step-keeps}
-use Rattle.grammar.specs.Text.{is-post, post, text, Spells}
-use Rattle.grammar.specs.Reader.{at-post, take, read}
 use Rattle.grammar.specs.TextSound.{post-known}
 
 -- ---- the semicolon before post is taken, and given up

@@ -5,19 +5,20 @@ use mathlib.Core.Option.{some}
 use mathlib.Core.List.{List, [], _∷_, _++_, append-assoc, append-nil}
 use mathlib.Core.Bool.{Bool, true, false, cond}
 use native.Mathlib.Omega.{arith as linear}
+use Rattle.theorems.specs.Options.{none-is-not, some-inj, went-on}
 use Rattle.grammar.specs.Sorts.{sort-discrete, script}
 use Rattle.grammar.specs.Operators.{semicolon, connective, relation, operator}
 use Rattle.grammar.specs.Tokens.{closer-discrete, post-closer, Token, numeral, variable, truth-word, skip-word, not-word, assert-word, becomes, infix-word, form-word, closer-word}
 use Rattle.grammar.specs.Grammar.{Phrase, words, sort, binds}
+use Rattle.grammar.specs.Text.{is-post, post, spelled, text, Spells}
 use Rattle.grammar.specs.Automaton.{prefix, infix-after, Frame, pending, open-at, Mode, operand, after, due, State, at, start, step}
-use Rattle.grammar.specs.Tests.{false-is-not, none-is-not, some-inj, same-is}
+use Rattle.grammar.specs.Reader.{at-post, take, read}
+use Rattle.grammar.specs.Tests.{false-is-not, same-is}
 use Rattle.grammar.specs.LevelLaws.{phrase-range}
 use Rattle.grammar.specs.Complete.{below-more}
 use Rattle.grammar.specs.Contexts.{stack-words, Good-stack, Part, Reads}
-use Rattle.grammar.specs.Reduces.{went-on, Reads-state}
+use Rattle.grammar.specs.Reduces.{Reads-state}
 use Rattle.grammar.specs.Sound.{after-keeps, step-keeps}
-use Rattle.grammar.specs.Text.{is-post, post, spelled, text, Spells}
-use Rattle.grammar.specs.Reader.{at-post, take, read}
 
 pub text-append : (us vs : List Token) → text (us ++ vs) ≡ text us ++ text vs
 unfolding text

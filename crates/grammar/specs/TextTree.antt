@@ -6,7 +6,6 @@ use native.Mathlib.Omega.{arith as linear}
 use lib.IntN.{ℤ, pos, negsuc}
 use lib.ListN.{length, length-append, getD}
 use lib.Seq.{getD-append-add}
-use Rattle.script.specs.declared.Row.the-variants as Row
 use Rattle.script.specs.Rows.{row, word, at-kind}
 use Rattle.script.specs.Trees.{tree}
 use Rattle.grammar.specs.Sorts.{script}

@@ -4,13 +4,13 @@ use mathlib.Core.Path.{_≡_, refl, sym, ap, _∙_}
 use mathlib.Core.Option.{Option, none, some}
 use mathlib.Core.List.{List, [], _∷_, _++_}
 use Rattle.script.specs.Listing.{_>>=_}
+use Rattle.theorems.specs.Options.{none-is-not}
 use Rattle.grammar.specs.Tokens.{Token}
 use Rattle.grammar.specs.Grammar.{Phrase}
-use Rattle.grammar.specs.Automaton.{State, start}
-use Rattle.grammar.specs.Tests.{none-is-not}
-use Rattle.grammar.specs.Viable.{state-extends}
 use Rattle.grammar.specs.Text.{text, Spells}
+use Rattle.grammar.specs.Automaton.{State, start}
 use Rattle.grammar.specs.Reader.{take, read}
+use Rattle.grammar.specs.Viable.{state-extends}
 use Rattle.grammar.specs.TextSound.{text-append, read-keeps, came}
 use Rattle.grammar.specs.TextRead.{text-read}
 

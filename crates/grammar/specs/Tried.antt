@@ -12,11 +12,11 @@ use Rattle.grammar.specs.Operators.{semicolon, connective, relation, ope
 use Rattle.grammar.specs.Forms.{group-form, mark-form, while-form, script-form, while-keep, while-fall, while-body, script-body, script-post}
 use Rattle.grammar.specs.Tokens.{Token, numeral, variable, truth-word, skip-word, not-word, becomes, infix-word, form-word, closer-word, constant-leaf, number-leaf, variable-leaf, truth-leaf, skip-leaf, bracket-closer, keep-closer, fall-closer, do-closer, end-closer, post-closer, end-of-text}
 use Rattle.grammar.specs.Grammar.{Phrase, leaf, before, between, closed, begun, more}
-use Rattle.grammar.specs.Automaton.{at, after, start, reduce}
-use Rattle.grammar.specs.Reader.{read}
 use Rattle.grammar.specs.Counts.{size, roots}
 use Rattle.grammar.specs.Rows.{Quad, table}
 use Rattle.grammar.specs.Meaning.{text-rows}
+use Rattle.grammar.specs.Automaton.{at, after, start, reduce}
+use Rattle.grammar.specs.Reader.{read}
 
 -- pre v0 <= 5; skip; while v0 < 10 keep v0 <= 10 fall 10 - v0 do v0 := (v0 + mark(1)) * -1 end; post not v0 < 10 implies true
 abbrev pub tokens : List Token

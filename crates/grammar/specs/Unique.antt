@@ -3,11 +3,12 @@
 use mathlib.Core.Path.{_≡_, sym, ap, _∙_}
 use mathlib.Core.Option.{some}
 use mathlib.Core.List.{List, []}
+use Rattle.theorems.specs.Options.{some-inj}
 use Rattle.grammar.specs.Sorts.{script}
 use Rattle.grammar.specs.Tokens.{Token}
 use Rattle.grammar.specs.Grammar.{Phrase, words, sort, Good}
 use Rattle.grammar.specs.Automaton.{State, at, after, start, run}
-use Rattle.grammar.specs.Tests.{some-inj, same-sorts}
+use Rattle.grammar.specs.Tests.{same-sorts}
 use Rattle.grammar.specs.Complete.{read-whole}
 use Rattle.grammar.specs.Sound.{sound}
 

@@ -9,13 +9,14 @@ use mathlib.Core.Bool.{Bool, true, false}
 use native.Mathlib.Omega.{arith as linear}
 use Rattle.script.specs.declared.Relation.the-variants.{Less}
 use Rattle.script.specs.Listing.{_>>=_}
+use Rattle.theorems.specs.Options.{none-is-not}
 use Rattle.grammar.specs.Sorts.{sort-discrete, number, expression, formula, statement, script, Hole, only, either, takes}
 use Rattle.grammar.specs.Operators.{relation, top}
 use Rattle.grammar.specs.Forms.{Place, place-takes, next-place, script-form, script-body, script-post}
 use Rattle.grammar.specs.Tokens.{ending, ending-word, due-word, Token, numeral, infix-word, constant-leaf, number-leaf, truth-leaf, skip-leaf}
 use Rattle.grammar.specs.Grammar.{Phrase, leaf, between, closed, Chain, begun, more, place, words, chain-words, sort, binds, Good, Good-chain}
 use Rattle.grammar.specs.Automaton.{Frame, pending, open-at, wants, apply, hole, Mode, operand, after, due, State, at, start, step, run, advance}
-use Rattle.grammar.specs.Tests.{none-is-not, same-is, same-sorts}
+use Rattle.grammar.specs.Tests.{same-is, same-sorts}
 use Rattle.grammar.specs.HoleLaws.{takes-begins, begins-other}
 use Rattle.grammar.specs.LevelLaws.{expression-level, holds-formula}
 use Rattle.grammar.specs.PlaceLaws.{later, Later, later-is}

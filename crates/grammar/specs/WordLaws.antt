@@ -5,12 +5,13 @@ use mathlib.Core.Path.{_≡_, refl, ap, _∙_}
 use mathlib.Core.Option.{some}
 use mathlib.Core.Bool.{Bool, true, false, cond}
 use Rattle.script.specs.declared.Operator.the-variants.{Plus, Minus, Times, Div, Mod}
+use Rattle.theorems.specs.Options.{none-is-not, some-inj, held}
 use Rattle.grammar.specs.Sorts.{Sort, number, expression, formula, statement, script, sort-discrete, same-sort, Hole, only, either, begins}
 use Rattle.grammar.specs.Operators.{Infix, semicolon, connective, relation, operator, Prefix, not-prefix, minus-prefix, assert-prefix, assign-prefix, infix-takes, prefix-makes}
 use Rattle.grammar.specs.Forms.{Form, group-form, mark-form, when-form, if-form, while-form, script-form}
 use Rattle.grammar.specs.Tokens.{Ending, ending-word, ends, Token, numeral, variable, truth-word, skip-word, not-word, assert-word, becomes, infix-word, form-word, closer-word, Leaf, constant-leaf, number-leaf, variable-leaf, truth-leaf, skip-leaf, leaf-makes, leaf-word, opening-word, prefix-opening, Due, bracket-due, becomes-due, due-word, Beginning, leaf-beginning, opening-beginning, no-beginning, infix-begins, infix-ends, beginning}
 use Rattle.grammar.specs.Automaton.{form-due, becomes-is, infix-at, is-due}
-use Rattle.grammar.specs.Tests.{false-is-not, none-is-not, some-inj, held, same-is}
+use Rattle.grammar.specs.Tests.{false-is-not, same-is}
 
 -- ---- beginnings
 

@@ -7,15 +7,15 @@ use mathlib.Core.Path.{_≡_, refl, sym, _∙_}
 use mathlib.Core.Option.{Option, none, some}
 use mathlib.Core.List.{List, [], _∷_, _++_, append-assoc, append-nil}
 use mathlib.Core.Bool.{false}
+use lib.IntN.{pos}
 use Rattle.grammar.specs.Sorts.{Hole}
 use Rattle.grammar.specs.Operators.{Infix, Prefix, not-prefix, minus-prefix, assert-prefix, assign-prefix}
 use Rattle.grammar.specs.Forms.{Place}
 use Rattle.grammar.specs.Tokens.{Leaf, constant-leaf, number-leaf, variable-leaf, truth-leaf, skip-leaf, Due, Opening, prefix-opening, form-opening}
 use Rattle.grammar.specs.Grammar.{Phrase, leaf, before, between, closed, Chain, place}
-use Rattle.grammar.specs.Automaton.{Pending, prefix, infix-after, Frame, pending, open-at, apply, Mode, operand, after, due, State, advance, constant-on, leaf-on, opening-frame, pushed}
 use Rattle.grammar.specs.Counts.{constant-in, negated, minus, size, chain-size, last, roots, begins-body}
 use Rattle.grammar.specs.Rows.{Quad, quad, constant, leaf-rows, prefix-row, infix-kind, counts, form-rows, note-rows, Naming, table, chain-table}
-use lib.IntN.{pos}
+use Rattle.grammar.specs.Automaton.{Pending, prefix, infix-after, Frame, pending, open-at, apply, Mode, operand, after, due, State, advance, constant-on, leaf-on, opening-frame, pushed}
 
 -- a mark's row holds its number
 abbrev pub by-count : Naming

@@ -11,12 +11,12 @@ use lib.ListN.{length, getD, length-append}
 use Rattle.grammar.specs.Sorts.{Hole, only, either}
 use Rattle.grammar.specs.Forms.{Place, next-place as place-after, place-takes, place-makes, in-group, in-mark, when-first, when-second, when-third, if-guard, if-then, if-else, while-guard, while-keep, while-fall, while-body, script-pre, script-body, script-post}
 use Rattle.grammar.specs.Grammar.{Phrase, closed, Chain, more, place, sort}
-use Rattle.grammar.specs.Automaton.{Frame, open-at, after, at, advance}
 use Rattle.grammar.specs.Counts.{begins-body, roots, last, size, chain-size}
 use Rattle.grammar.specs.Rows.{Quad, form-rows, note-rows, counts}
-use Rattle.grammar.specs.Written.{stack-size, part-rows, advance-rows, advance-writes}
+use Rattle.grammar.specs.Automaton.{Frame, open-at, after, at, advance}
 use Rattle.grammar.specs.Ranges.{deeper, depth}
 use Rattle.grammar.specs.InRange.{next-no-body}
+use Rattle.grammar.specs.Written.{stack-size, part-rows, advance-rows, advance-writes}
 use Rattle.parser.specs.declared.State.{State}
 use Rattle.parser.specs.Symbols.{makes}
 use Rattle.parser.specs.Machine.{Config, config, complete, frame, first-part, second-part, put, top-after, rows-after, form-kind, bodies-after, close-form, close-mark, open-body, next-place, close}

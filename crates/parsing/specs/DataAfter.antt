@@ -10,22 +10,22 @@ use native.Mathlib.Omega.{arith as linear}
 use lib.Dec.{leb}
 use lib.ListN.{length, length-append}
 use Rattle.script.specs.Listing.{guarded}
+use Rattle.theorems.specs.Options.{none-is-not, some-inj, held, went-on}
 use Rattle.grammar.specs.Sorts.{same-sort, takes, begins}
 use Rattle.grammar.specs.Operators.{Infix, infix-makes}
-use Rattle.grammar.specs.Forms.{Place, place-takes, next-place}
+use Rattle.grammar.specs.Forms.{place-takes, next-place}
 use Rattle.grammar.specs.Tokens.{Token, Ending, ends, ending, same-ending}
-use Rattle.grammar.specs.Grammar.{Phrase, Chain, place, sort}
+use Rattle.grammar.specs.Grammar.{Phrase, place, sort}
 use Rattle.grammar.specs.Automaton.{infix-after, Frame, pending, open-at, wants, holds, apply, hole, operand, after, State, at, Reduced, reduce, reduced, token-binds, infix-at, advance, close, shift, go-on, step-at}
-use Rattle.grammar.specs.Contexts.{Good-stack, Part}
-use Rattle.grammar.specs.Written.{part-rows, written-in, Apart-on, No-body, advance-rows, advance-writes, shift-writes}
 use Rattle.grammar.specs.Ranges.{All}
-use Rattle.grammar.specs.StateFlags.{part-flags}
-use Rattle.grammar.specs.InRange.{next-no-body}
 use Rattle.grammar.specs.Outcome.{has-room}
 use Rattle.grammar.specs.Numbers.{infix-number}
-use Rattle.grammar.specs.Tests.{held, none-is-not, some-inj}
-use Rattle.grammar.specs.Reduces.{went-on, reduce-keeps}
+use Rattle.grammar.specs.Contexts.{Good-stack, Part}
+use Rattle.grammar.specs.Reduces.{reduce-keeps}
 use Rattle.grammar.specs.Sound.{chain-takes-less}
+use Rattle.grammar.specs.StateFlags.{part-flags}
+use Rattle.grammar.specs.Written.{part-rows, written-in, Apart-on, advance-rows, advance-writes, shift-writes}
+use Rattle.grammar.specs.Adds.{no-body}
 use Rattle.parser.specs.Machine.{Config, config, complete, top-frame, reduce as machine-reduce, push-infix, close as machine-close}
 use Rattle.parsing.specs.Encoding.{sort-letter, Data}
 use Rattle.parsing.specs.DataRows.{room-for-less}
@@ -100,10 +100,6 @@ reduce-shorter (pending f ∷ fs) n x r e = at-test (leb n (holds f)) (λ d. red
     at-test false again q = omega (linear, ap (λ (p : Reduced). length (p .rest)) (some-inj q))
 
 -- ---- then an operator, or an end
-
-no-body : (o : Option Place) (c : Chain) → next-place (place c) ≡ o → No-body o c
-no-body none c e = tt
-no-body (some q) c e = next-no-body (place c) q e
 
 -- the states that were found
 pub found-data : {s t : State} {m : Config} → Data s m → some s ≡ some t → Data t m

@@ -11,21 +11,23 @@ use borrow.Author.Tests.{leb-true, ltb-true}
 use lib.IntN.{ℤ, pos}
 use lib.Dec.{leb}
 use lib.ListN.{length, replicate}
-use Rattle.grammar.specs.Sorts.{number, expression, formula, statement, script, same-sort, Hole, only, either, begins}
+use Rattle.theorems.specs.Options.{none-is-not, some-inj, held}
+use Rattle.grammar.specs.Sorts.{number, same-sort, begins}
 use Rattle.grammar.specs.Operators.{Infix, not-prefix, minus-prefix, assert-prefix, assign-prefix}
-use Rattle.grammar.specs.Tokens.{Leaf, constant-leaf, number-leaf, variable-leaf, truth-leaf, skip-leaf, leaf-makes, leaf-word, Opening, prefix-opening, form-opening, opening-makes, opening-word, opening-due, Token, numeral, variable, Beginning, leaf-beginning, opening-beginning, no-beginning}
+use Rattle.grammar.specs.Tokens.{Leaf, constant-leaf, number-leaf, variable-leaf, truth-leaf, skip-leaf, leaf-makes, Opening, prefix-opening, form-opening, opening-makes, opening-word, opening-due, Token, numeral, variable, Beginning, leaf-beginning, opening-beginning, no-beginning}
 use Rattle.grammar.specs.Grammar.{Phrase, sort}
-use Rattle.grammar.specs.Automaton.{infix-after, Frame, pending, hole, operand, after, State, at, start, leaf-on, opening-frame, pushed, begin}
 use Rattle.grammar.specs.Meaning.{flat}
-use Rattle.grammar.specs.Written.{stack-rows, written-in, shift-writes}
+use Rattle.grammar.specs.Automaton.{infix-after, Frame, pending, hole, operand, after, State, at, start, leaf-on, opening-frame, pushed, begin}
 use Rattle.grammar.specs.Ranges.{limit, variable-fits, mark-fits, leaf-flags, prefix-flags, depth, after-minus, operand-flag, All}
 use Rattle.grammar.specs.Outcome.{has-room}
 use Rattle.grammar.specs.Numbers.{most, token-number, token-value}
-use Rattle.grammar.specs.Tests.{false-is-not, none-is-not, some-inj, held}
+use Rattle.grammar.specs.Tests.{both}
 use Rattle.grammar.specs.WordLaws.{Begun}
+use Rattle.grammar.specs.StateFlags.{leaf-flag}
+use Rattle.grammar.specs.Written.{stack-rows, written-in, shift-writes}
 use Rattle.parser.specs.Machine.{Config, config, complete, S, top-frame, hole as machine-hole, begin-count, begin-constant, begin-variable, begin-assignment, begin-leaf, begin-form, start as machine-start}
 use Rattle.parsing.specs.Encoding.{hole-letter, frame-words, Data}
-use Rattle.parsing.specs.DataRows.{Held, both}
+use Rattle.parsing.specs.DataRows.{Held}
 use Rattle.parsing.specs.DataStack.{top-counts, topped, framed-popped}
 use Rattle.parsing.specs.DataLeaf.{part-after, count-data, constant-data, variable-data, truth-data, skip-data}
 use Rattle.parsing.specs.DataOpen.{assign-data, form-data}
@@ -66,22 +68,6 @@ Begun-range no-beginning fs = Unit {0}
 Begun-range (leaf-beginning l) fs = All (leaf-flags (depth fs) (after-minus fs) l)
 Begun-range (opening-beginning o) fs = All (opening-flags o)
 
-no-number : (h : Hole) → begins h expression ≡ true → begins h number ≡ false
-no-number (only number) e = false-is-not e
-no-number (only expression) e = refl
-no-number (only formula) e = refl
-no-number (only statement) e = refl
-no-number (only script) e = refl
-no-number either e = refl
-
-leaf-range : (l : Leaf) (fs : List Frame) → begins (hole fs) (leaf-makes l) ≡ true
-    → leaf-flags (depth fs) (after-minus fs) l ≡ operand-flag fs (leaf-word l)
-leaf-range (constant-leaf n) fs e = rw (no-number (hole fs) e)
-leaf-range (number-leaf k) fs e = rw e
-leaf-range (variable-leaf v) fs e = refl
-leaf-range (truth-leaf b) fs e = refl
-leaf-range skip-leaf fs e = refl
-
 opening-range : (o : Opening) (fs : List Frame) → opening-flags o ≡ operand-flag fs (opening-word o)
 opening-range (prefix-opening not-prefix) fs = refl
 opening-range (prefix-opening minus-prefix) fs = refl
@@ -96,7 +82,7 @@ pub begun-range : (b : Beginning) (t : Token) (fs : List Frame) (s : State) → 
 begun-range no-beginning t fs s b e a = tt
 begun-range (leaf-beginning l) t fs s b e a =
     let g = held (begins (hole fs) (leaf-makes l)) (some (leaf-on l fs)) e .0 in
-    subst All (sym (leaf-range l fs g ∙ ap (λ (w : Token). operand-flag fs w) b)) a
+    subst All (sym (leaf-flag l fs g ∙ ap (λ (w : Token). operand-flag fs w) b)) a
 begun-range (opening-beginning o) t fs s b e a =
     subst All (sym (opening-range o fs ∙ ap (λ (w : Token). operand-flag fs w) b)) a
 

@@ -10,14 +10,14 @@ use lib.ListN.{length}
 use Rattle.grammar.specs.Sorts.{Sort, number, expression, formula, statement, script, same-sort, sort-discrete, Hole, only, either, takes}
 use Rattle.grammar.specs.Forms.{Place, in-group, in-mark, when-first, when-second, when-third, if-guard, if-then, if-else, while-guard, while-keep, while-fall, while-body, script-pre, script-body, script-post, next-place, place-takes, place-makes}
 use Rattle.grammar.specs.Grammar.{Phrase, closed, Chain, place, sort}
-use Rattle.grammar.specs.Automaton.{Frame, open-at, after, at, advance}
 use Rattle.grammar.specs.Counts.{begins-body}
 use Rattle.grammar.specs.Rows.{counts, form-rows, three}
-use Rattle.grammar.specs.Written.{part-rows, written-in}
+use Rattle.grammar.specs.Automaton.{Frame, open-at, after, at, advance}
 use Rattle.grammar.specs.Ranges.{All}
-use Rattle.grammar.specs.StateFlags.{part-flags}
 use Rattle.grammar.specs.Outcome.{has-room}
 use Rattle.grammar.specs.Tests.{false-is-not, same-is}
+use Rattle.grammar.specs.StateFlags.{part-flags}
+use Rattle.grammar.specs.Written.{part-rows, written-in}
 use Rattle.parser.specs.Machine.{Config, top-frame, form-kind, is-last, is-group, close-form, close-mark, open-body, next-place as machine-next, close}
 use Rattle.parsing.specs.Encoding.{group-number, place-number, Data}
 use Rattle.parsing.specs.DataPlace.{place-number-is, next-data, body-data}

@@ -12,13 +12,14 @@ use lib.ListN.{length, getD}
 use Rattle.grammar.specs.Sorts.{number, same-sort, Hole}
 use Rattle.grammar.specs.Forms.{Place, in-group, in-mark}
 use Rattle.grammar.specs.Grammar.{Phrase, closed, Chain, place, sort}
-use Rattle.grammar.specs.Automaton.{Frame, open-at, after, at}
 use Rattle.grammar.specs.Counts.{size, chain-size, last, roots}
 use Rattle.grammar.specs.Rows.{counts, form-rows, three, Quad, quad}
-use Rattle.grammar.specs.Written.{stack-size, part-rows, advance-rows, advance-writes}
-use Rattle.grammar.specs.Ranges.{flags, depth, after-minus, All, all-parts}
-use Rattle.grammar.specs.StateFlags.{stack-flags, part-flags}
+use Rattle.grammar.specs.Automaton.{Frame, open-at, after, at}
+use Rattle.grammar.specs.Ranges.{flags, depth, after-minus, All}
 use Rattle.grammar.specs.Outcome.{has-room}
+use Rattle.grammar.specs.AllLaws.{all-parts}
+use Rattle.grammar.specs.StateFlags.{stack-flags, part-flags}
+use Rattle.grammar.specs.Written.{stack-size, part-rows, advance-rows, advance-writes}
 use Rattle.parser.specs.Machine.{Config, config, complete, top-frame, form-kind, close-form, close-mark}
 use Rattle.parsing.specs.Encoding.{place-number, Data}
 use Rattle.parsing.specs.DataRows.{Held, with-row-held, row-small}

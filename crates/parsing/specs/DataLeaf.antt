@@ -13,13 +13,13 @@ use Rattle.grammar.specs.Sorts.{Sort, number, same-sort}
 use Rattle.grammar.specs.Operators.{not-prefix, minus-prefix, assert-prefix, assign-prefix}
 use Rattle.grammar.specs.Tokens.{constant-leaf, number-leaf, variable-leaf, truth-leaf, skip-leaf}
 use Rattle.grammar.specs.Grammar.{Phrase, leaf, before, sort}
-use Rattle.grammar.specs.Automaton.{prefix, infix-after, Frame, pending, open-at, operand, after, at, constant-on, leaf-on}
 use Rattle.grammar.specs.Counts.{minus}
 use Rattle.grammar.specs.Rows.{Quad, quad, constant}
-use Rattle.grammar.specs.Written.{stack-rows, part-rows, written-in, constant-writes, leaf-writes}
+use Rattle.grammar.specs.Automaton.{prefix, infix-after, Frame, pending, open-at, operand, after, at, constant-on, leaf-on}
 use Rattle.grammar.specs.Ranges.{limit, variable-fits, mark-fits, after-minus}
 use Rattle.grammar.specs.Outcome.{has-room}
 use Rattle.grammar.specs.Tests.{false-is-not}
+use Rattle.grammar.specs.Written.{stack-rows, part-rows, written-in, constant-writes, leaf-writes}
 use Rattle.parser.specs.Machine.{Config, config, begin-count, begin-constant, begin-variable, begin-leaf}
 use Rattle.parsing.specs.Encoding.{Data, frame-words, framed}
 use Rattle.parsing.specs.DataRows.{Held, Writable, with-words-held, with-row-held}

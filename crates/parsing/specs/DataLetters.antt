@@ -13,11 +13,11 @@ use Rattle.grammar.specs.Sorts.{Hole, only, either}
 use Rattle.grammar.specs.Operators.{semicolon, connective, relation, operator, not-prefix, minus-prefix, assert-prefix, assign-prefix}
 use Rattle.grammar.specs.Forms.{Place, in-group, in-mark, when-first, when-second, when-third, if-guard, if-then, if-else, while-guard, while-keep, while-fall, while-body, script-pre, script-body, script-post}
 use Rattle.grammar.specs.Grammar.{Chain, place}
-use Rattle.grammar.specs.Automaton.{Pending, prefix, infix-after, Frame, pending, open-at, wants, holds as levels}
-use Rattle.grammar.specs.Contexts.{pending-makes}
 use Rattle.grammar.specs.Counts.{size, last, roots}
-use Rattle.grammar.specs.Written.{stack-size}
+use Rattle.grammar.specs.Automaton.{Pending, prefix, infix-after, Frame, pending, open-at, wants, holds as levels}
 use Rattle.grammar.specs.Numbers.{infix-number}
+use Rattle.grammar.specs.Contexts.{pending-makes}
+use Rattle.grammar.specs.Written.{stack-size}
 use Rattle.parser.specs.Symbols.{holds, holes, makes}
 use Rattle.parser.specs.Machine.{hold, hole, maker}
 use Rattle.parsing.specs.Encoding.{sort-letter, prefix-number, assigned, group-number, place-number, pending-number, frame-number, pending-word, frame-word, frame-words}

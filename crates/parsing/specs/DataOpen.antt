@@ -12,13 +12,13 @@ use Rattle.grammar.specs.Operators.{Infix, not-prefix, minus-prefix, assert-pre
 use Rattle.grammar.specs.Forms.{group-form, mark-form, when-form, if-form, while-form, script-form}
 use Rattle.grammar.specs.Tokens.{Due, becomes-due, Opening, prefix-opening, form-opening, opening-makes, opening-word, opening-due}
 use Rattle.grammar.specs.Grammar.{Phrase}
-use Rattle.grammar.specs.Automaton.{prefix, infix-after, Frame, pending, hole, operand, after, due, at, opening-frame, pushed}
 use Rattle.grammar.specs.Counts.{size, last, roots}
 use Rattle.grammar.specs.Rows.{Quad}
-use Rattle.grammar.specs.Written.{stack-size, stack-rows, part-rows, push-writes, shift-writes}
+use Rattle.grammar.specs.Automaton.{prefix, infix-after, Frame, pending, hole, operand, after, due, at, opening-frame, pushed}
 use Rattle.grammar.specs.Ranges.{variable-fits}
 use Rattle.grammar.specs.Numbers.{infix-number, token-number}
 use Rattle.grammar.specs.Tests.{false-is-not}
+use Rattle.grammar.specs.Written.{stack-size, stack-rows, part-rows, push-writes, shift-writes}
 use Rattle.parser.specs.Machine.{Config, config, frame, top-frame, hole as machine-hole, opened, begin-assignment, begin-form, push-infix, due as machine-due}
 use Rattle.parsing.specs.Encoding.{hole-letter, frame-word, frame-words, framed, Data}
 use Rattle.parsing.specs.DataRows.{Held}

@@ -13,13 +13,13 @@ use Rattle.script.specs.declared.Relation.the-variants.{Less, AtMost, Equal, Un
 use Rattle.script.specs.declared.Connective.the-variants.{And, Or, Implies}
 use Rattle.grammar.specs.Operators.{Infix, semicolon, connective, relation, operator, not-prefix, minus-prefix, assert-prefix, assign-prefix}
 use Rattle.grammar.specs.Grammar.{Phrase}
-use Rattle.grammar.specs.Automaton.{Pending, prefix, infix-after, Frame, pending}
 use Rattle.grammar.specs.Counts.{size, last}
 use Rattle.grammar.specs.Rows.{Quad, quad, infix-kind}
-use Rattle.grammar.specs.Written.{stack-size, pending-row}
+use Rattle.grammar.specs.Automaton.{Pending, prefix, infix-after, Frame, pending}
 use Rattle.grammar.specs.Ranges.{depth, All}
-use Rattle.grammar.specs.StateFlags.{frame-flags}
 use Rattle.grammar.specs.Numbers.{infix-number}
+use Rattle.grammar.specs.StateFlags.{frame-flags}
+use Rattle.grammar.specs.Written.{stack-size, pending-row}
 use Rattle.parser.specs.Machine.{first-part, word, with-words, with-row, is-single, operator-row}
 use Rattle.parsing.specs.Encoding.{pending-word}
 use Rattle.parsing.specs.DataRows.{Held, with-row-held, with-words-length, Writable, row-small}

@@ -4,23 +4,25 @@ use Prim.Native.Nat.{ℕ, _+_, _≤_}
 use mathlib.Core.Path.{_≡_, refl, sym, ap, _∙_, subst}
 use mathlib.Core.Option.{some}
 use mathlib.Core.Bool.{Bool, true, false, cond}
-use mathlib.Core.List.{List, [], _∷_, append-assoc}
+use mathlib.Core.List.{List, [], _∷_}
 use native.Mathlib.Omega.{arith as linear}
 use lib.IntN.{ℤ}
 use lib.Dec.{leb}
 use lib.ListN.{length, length-append}
 use Rattle.script.specs.Listing.{guarded}
+use Rattle.theorems.specs.Options.{some-inj, held}
 use Rattle.grammar.specs.Sorts.{Sort, number, same-sort}
 use Rattle.grammar.specs.Operators.{semicolon, connective, relation, operator, not-prefix, minus-prefix, assert-prefix, assign-prefix}
 use Rattle.grammar.specs.Grammar.{Phrase, sort}
-use Rattle.grammar.specs.Automaton.{Pending, prefix, infix-after, Frame, pending, open-at, wants, holds, apply, Reduced, reduce, reduced}
 use Rattle.grammar.specs.Counts.{size}
 use Rattle.grammar.specs.Rows.{Quad, counts}
-use Rattle.grammar.specs.Written.{stack-size, part-rows, pending-row, Apart-on, pop-writes, apart-apply}
-use Rattle.grammar.specs.Ranges.{prefix-flags, flags, depth, is-minus, All, all-parts}
-use Rattle.grammar.specs.StateFlags.{frame-flags, stack-flags, part-flags}
+use Rattle.grammar.specs.Automaton.{Pending, prefix, infix-after, Frame, pending, open-at, wants, holds, apply, Reduced, reduce, reduced}
+use Rattle.grammar.specs.Ranges.{depth, All}
 use Rattle.grammar.specs.Outcome.{has-room}
-use Rattle.grammar.specs.Tests.{false-is-not, held, some-inj}
+use Rattle.grammar.specs.Tests.{false-is-not}
+use Rattle.grammar.specs.AllLaws.{all-parts}
+use Rattle.grammar.specs.StateFlags.{frame-flags, stack-flags, part-flags, pop-flags}
+use Rattle.grammar.specs.Written.{stack-size, part-rows, pending-row, Apart-on, pop-writes, apart-apply}
 use Rattle.parser.specs.Machine.{rows-after, operator-row}
 use Rattle.parsing.specs.Encoding.{pending-word, frame-words, framed}
 use Rattle.parsing.specs.DataRows.{Held, Writable, row-counted}
@@ -66,12 +68,6 @@ reduce-grows (pending f ∷ fs) n x r h e = at-test (leb n (holds f))
         let l = again (held (same-sort (sort x) (wants f)) (reduce n (apply f x) fs) q .1) in
         omega (linear, pop-length f x fs h)
     at-test false again q = omega (linear, ap (λ (p : Reduced). length (part-rows (p .got) (p .rest))) (some-inj q))
-
-pop-flags : (f : Pending) (x : Phrase) (fs : List Frame) → part-flags (apply f x) fs ≡ part-flags x (pending f ∷ fs)
-unfolding flags stack-flags depth
-pop-flags (prefix p) x fs = sym (append-assoc (stack-flags fs) (prefix-flags p) (flags (depth fs) (is-minus p) x))
-pop-flags (infix-after o y) x fs = sym (append-assoc (stack-flags fs) (flags (depth fs) false y)
-    (flags (depth fs) false x))
 
 -- the numbers in a frame are in range
 pub frame-ranges : (f : Frame) (x : Phrase) (fs : List Frame) → All (part-flags x (f ∷ fs))

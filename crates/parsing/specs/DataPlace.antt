@@ -12,12 +12,12 @@ use lib.ListN.{length, getD, length-append}
 use Rattle.grammar.specs.Sorts.{number, same-sort, Hole}
 use Rattle.grammar.specs.Forms.{Place, place-takes, while-body}
 use Rattle.grammar.specs.Grammar.{Phrase, Chain, place, sort}
-use Rattle.grammar.specs.Automaton.{Frame, open-at, after, at, advance}
 use Rattle.grammar.specs.Counts.{size, chain-size, last, with-note, roots, begins-body}
 use Rattle.grammar.specs.Rows.{Quad, quad}
-use Rattle.grammar.specs.Written.{stack-size, part-rows, written-in, advance-rows, advance-writes}
+use Rattle.grammar.specs.Automaton.{Frame, open-at, after, at, advance}
 use Rattle.grammar.specs.Outcome.{has-room}
 use Rattle.grammar.specs.Sizes.{sized}
+use Rattle.grammar.specs.Written.{stack-size, part-rows, written-in, advance-rows, advance-writes}
 use Rattle.parser.specs.Machine.{Config, frame, first-part, second-part, top-frame, rows-after, next-place, open-body}
 use Rattle.parsing.specs.Encoding.{place-number, frame-word, frame-words, Data}
 use Rattle.parsing.specs.DataRows.{Held, room-is, with-row-held, row-small, row-counted}

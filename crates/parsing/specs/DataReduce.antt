@@ -11,13 +11,14 @@ use lib.IntN.{ℤ}
 use lib.Dec.{eqb, leb, ltb}
 use lib.ListN.{length, getD}
 use Rattle.script.specs.Listing.{guarded}
+use Rattle.theorems.specs.Options.{some-inj, held}
 use Rattle.grammar.specs.Sorts.{same-sort, sort-discrete}
 use Rattle.grammar.specs.Grammar.{Phrase, sort}
-use Rattle.grammar.specs.Automaton.{Pending, prefix, infix-after, Frame, pending, open-at, wants, holds, apply, Reduced, reduce, reduced}
-use Rattle.grammar.specs.Contexts.{pending-makes}
-use Rattle.grammar.specs.Written.{stack-size, part-rows, apart-apply}
+use Rattle.grammar.specs.Automaton.{Pending, Frame, pending, open-at, wants, holds, apply, Reduced, reduce, reduced}
 use Rattle.grammar.specs.Outcome.{has-room}
-use Rattle.grammar.specs.Tests.{held, some-inj, same-is}
+use Rattle.grammar.specs.Tests.{same-is}
+use Rattle.grammar.specs.Reduces.{apply-makes}
+use Rattle.grammar.specs.Written.{stack-size, part-rows, apart-apply}
 use Rattle.parser.specs.Machine.{hold, hole, maker, rows-after, operator-row, Reduced as Machine-reduced, reduce as machine-reduce, reduced-to}
 use Rattle.parsing.specs.Encoding.{sort-letter, pending-word, frame-word, frame-words}
 use Rattle.parsing.specs.DataRows.{room-for-less}
@@ -47,10 +48,6 @@ machine-stays st b n t r ws w e h = rw (e, h)
 machine-ends : (st : List ℕ) (b t r : ℕ) (ws : List ℤ) → machine-reduce st b 0 t r ws ≡ reduced-to t r 0 ws
 unfolding machine-reduce
 machine-ends st b t r ws = refl
-
-apply-sort : (f : Pending) (x : Phrase) → sort (apply f x) ≡ pending-makes f
-apply-sort (prefix p) x = refl
-apply-sort (infix-after o y) x = refl
 
 -- the part stays as it is
 left-data : (st : List ℕ) (i top rows : ℕ) (ws : List ℤ) (x : Phrase) (fs : List Frame) (r : Reduced)
@@ -106,7 +103,7 @@ pops-data f fs n x r st i top rows ws p l q e room again =
     ap (λ (j : ℕ). machine-reduce st (98 + n) j s rows ws) (t .is)
     ∙ machine-pops st (98 + n) (t .below) s rows ws w (t .top) tight fits
     ∙ ap (λ (j : ℕ). machine-reduce st (98 + n) (t .below) j k u)
-    (operator-maker f b ∙ ap sort-letter (sym (apply-sort f x))) in
+    (operator-maker f b ∙ ap sort-letter (sym (apply-makes f x))) in
     subst (λ (m : Machine-reduced). Left-data st i (length ws) r m) (sym is)
     (subst (λ (j : ℕ). Left-data st i j r (machine-reduce st (98 + n) (t .below) made k u)) same d)
 

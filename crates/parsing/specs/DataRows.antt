@@ -14,14 +14,11 @@ use lib.Seq.{sets, sets-eq, length-sets, take-at, drop-at, drop-drop}
 use Rattle.grammar.specs.Rows.{Quad, quad}
 use Rattle.grammar.specs.Meaning.{flat}
 use Rattle.grammar.specs.Outcome.{has-room}
-use Rattle.grammar.specs.Tests.{false-is-not}
+use Rattle.grammar.specs.Tests.{both}
+use Rattle.grammar.specs.TextTree.{flat-append, flat-length}
 use Rattle.parser.specs.Machine.{row-fits, rows-after, word, with-words, with-row}
 
 -- ---- room
-
-pub both : (a b : Bool) → (a && b) ≡ true → (a ≡ true) × (b ≡ true)
-both true b e = (refl, e)
-both false b e = false-is-not e
 
 pub has-both : {a b : Bool} → a ≡ true → b ≡ true → (a && b) ≡ true
 has-both {a} {b} p q = rw p q
@@ -54,16 +51,6 @@ pub rows-counted : (ws : List ℤ) (rows : ℕ) → has-room (length ws) (rows +
 rows-counted ws rows e = rw (room-fits (length ws) rows e)
 
 -- ---- the words of rows
-
-pub flat-length : (qs : List Quad) → length (flat qs) ≡ 4 * length qs
-unfolding flat
-flat-length [] = refl
-flat-length (q ∷ qs) = omega (linear, flat-length qs)
-
-pub flat-append : (qs rs : List Quad) → flat (qs ++ rs) ≡ flat qs ++ flat rs
-unfolding flat
-flat-append [] rs = refl
-flat-append (q ∷ qs) rs = ap (λ (l : List ℤ). q .kind ∷ q .first ∷ q .second ∷ q .third ∷ l) (flat-append qs rs)
 
 -- the rows, and zeros after them
 abbrev pub Held : List ℤ → List Quad → Type 0

@@ -4,29 +4,26 @@ use Prim.Native.Nat.{ℕ}
 use mathlib.Core.Path.{_≡_, sym, subst}
 use mathlib.Core.Option.{some}
 use mathlib.Core.Bool.{Bool, true, false, cond}
-use mathlib.Core.List.{List, [], _∷_, _++_}
+use mathlib.Core.List.{List, []}
 use lib.ListN.{length}
 use Rattle.grammar.specs.Tokens.{Token}
 use Rattle.grammar.specs.Grammar.{Phrase}
-use Rattle.grammar.specs.Automaton.{State, at, after, step}
+use Rattle.grammar.specs.Text.{is-post}
 use Rattle.grammar.specs.Rows.{table}
-use Rattle.grammar.specs.Written.{by-count, stack-size, stack-rows, written-in, Settled}
+use Rattle.grammar.specs.Automaton.{State, at, after, step}
+use Rattle.grammar.specs.Reader.{at-post, take, read}
 use Rattle.grammar.specs.Ranges.{flag, All}
+use Rattle.grammar.specs.Outcome.{has-room}
+use Rattle.grammar.specs.TextSound.{Came}
+use Rattle.grammar.specs.AllLaws.{all-join}
 use Rattle.grammar.specs.StateFlags.{state-flags}
 use Rattle.grammar.specs.InRange.{step-flags}
-use Rattle.grammar.specs.Outcome.{has-room}
-use Rattle.grammar.specs.Text.{is-post}
-use Rattle.grammar.specs.Reader.{at-post, take, read}
-use Rattle.grammar.specs.TextSound.{Came}
+use Rattle.grammar.specs.Written.{by-count, stack-size, stack-rows, written-in, Settled}
 use Rattle.grammar.specs.Adds.{read-adds}
 use Rattle.parser.specs.Machine.{Config}
 use Rattle.parsing.specs.Encoding.{Data}
 use Rattle.parsing.specs.DataRows.{Held}
 use Rattle.parsing.specs.DataTake.{room-before, post-ranges}
-
-all-join : (us vs : List Bool) → All us → All vs → All (us ++ vs)
-all-join [] vs h k = k
-all-join (u ∷ us) vs h k = (h .0, all-join us vs (h .1) k)
 
 pub take-ranges : (s : State) (t : Token) (ts : List Token) (r : State) → Came s ts → All (state-flags s)
     → All (flag (s .mode) (s .stack) t) → take s t ≡ some r → All (state-flags r)

@@ -9,16 +9,16 @@ use native.Mathlib.Omega.{arith as linear}
 use borrow.Author.Tests.{leb-true}
 use lib.Dec.{leb}
 use lib.ListN.{length, getD, length-append}
-use Rattle.grammar.specs.Forms.{Form, group-form, mark-form, when-form, if-form, while-form, script-form, first-place}
 use Rattle.grammar.specs.Tokens.{constant-leaf, number-leaf, variable-leaf, truth-leaf, skip-leaf}
 use Rattle.grammar.specs.Grammar.{Phrase, leaf, before, between, closed, Chain, begun, more, place}
-use Rattle.grammar.specs.Automaton.{prefix, infix-after, Frame, pending, open-at}
 use Rattle.grammar.specs.Counts.{begins-body, size, chain-size, last, with-note, roots}
 use Rattle.grammar.specs.Rows.{table, chain-table, counts}
-use Rattle.grammar.specs.Written.{by-count, stack-size, stack-rows, part-rows}
-use Rattle.grammar.specs.Sizes.{table-length, chain-length}
+use Rattle.grammar.specs.Automaton.{prefix, infix-after, Frame, pending, open-at}
 use Rattle.grammar.specs.Ranges.{flags, depth, All}
-use Rattle.parsing.specs.DataRows.{both}
+use Rattle.grammar.specs.Tests.{both}
+use Rattle.grammar.specs.Sizes.{table-length, chain-length}
+use Rattle.grammar.specs.Written.{by-count, stack-size, stack-rows, part-rows}
+use Rattle.grammar.specs.Passed.{first-no-body}
 
 -- ---- rows
 
@@ -62,14 +62,6 @@ roots-below (more c x q) b i =
     )
 
 -- ---- bodies and marks
-
-first-no-body : (f : Form) → begins-body (first-place f) ≡ false
-first-no-body group-form = refl
-first-no-body mark-form = refl
-first-no-body when-form = refl
-first-no-body if-form = refl
-first-no-body while-form = refl
-first-no-body script-form = refl
 
 -- an open body has its note
 chain-deep : (c : Chain) → cond (begins-body (place c)) 1 0 ≤ chain-size c

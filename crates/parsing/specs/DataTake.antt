@@ -1,34 +1,32 @@
 -- What is known of words, frames and the mark's number is kept by every token that is taken (`take-data`): the machine's
 -- move is the one that `take-move` names. That the machine makes this move is shown with `Control`. Assumes nothing.
-use Prim.Native.Nat.{ℕ, _+_, _-_, _≤_, _<_}
-use mathlib.Core.Path.{_≡_, refl, sym, ap, _∙_, subst}
+use Prim.Native.Nat.{ℕ, _+_, _-_, _<_}
+use mathlib.Core.Path.{_≡_, sym, ap, _∙_, subst}
 use mathlib.Core.Option.{Option, none, some}
 use mathlib.Core.Bool.{Bool, true, false, cond}
 use mathlib.Core.List.{List, [], _∷_, _++_}
 use native.Mathlib.Omega.{arith as linear}
 use lib.ListN.{length, length-append}
+use Rattle.theorems.specs.Options.{none-is-not, held}
 use Rattle.grammar.specs.Sorts.{Sort, statement, number, same-sort}
-use Rattle.grammar.specs.Operators.{semicolon, connective, relation, operator, not-prefix, minus-prefix, assert-prefix, assign-prefix, tight}
-use Rattle.grammar.specs.Tokens.{constant-leaf, number-leaf, variable-leaf, truth-leaf, skip-leaf, Token, beginning}
-use Rattle.grammar.specs.Grammar.{Phrase, leaf, before, between, closed, words, sort}
-use Rattle.grammar.specs.Automaton.{prefix, infix-after, Frame, pending, open-at, hole, Mode, operand, after, due, State, at, Reduced, reduce, token-binds, infix-at, is-due, step-at, step}
-use Rattle.grammar.specs.Complete.{Below}
-use Rattle.grammar.specs.Contexts.{stack-words, Good-stack, Part, Reads}
-use Rattle.grammar.specs.Counts.{constant-in}
+use Rattle.grammar.specs.Operators.{semicolon, connective, relation, operator}
+use Rattle.grammar.specs.Tokens.{Token, beginning}
+use Rattle.grammar.specs.Grammar.{Phrase, words, sort}
+use Rattle.grammar.specs.Text.{is-post, post}
 use Rattle.grammar.specs.Rows.{Quad}
-use Rattle.grammar.specs.Written.{written, written-in, Settled, apart-none, shift-writes}
-use Rattle.grammar.specs.Ranges.{flags, depth, after-minus, flag, All}
-use Rattle.grammar.specs.StateFlags.{stack-flags, mode-flags, state-flags, part-flags}
-use Rattle.grammar.specs.InRange.{after-flags}
+use Rattle.grammar.specs.Automaton.{prefix, infix-after, Frame, pending, open-at, hole, Mode, operand, after, due, State, at, Reduced, reduce, token-binds, infix-at, is-due, step-at, step}
+use Rattle.grammar.specs.Reader.{at-post, take}
+use Rattle.grammar.specs.Ranges.{flags, depth, flag, All}
 use Rattle.grammar.specs.Outcome.{has-room}
-use Rattle.grammar.specs.Tests.{false-is-not, none-is-not, held}
 use Rattle.grammar.specs.LevelLaws.{binds-tight}
 use Rattle.grammar.specs.WordLaws.{begun-by}
+use Rattle.grammar.specs.Contexts.{stack-words, Good-stack, Part, Reads}
 use Rattle.grammar.specs.Sound.{lower}
-use Rattle.grammar.specs.Text.{is-post, post}
-use Rattle.grammar.specs.Reader.{at-post, take}
 use Rattle.grammar.specs.TextSound.{Came, before-semicolon}
-use Rattle.grammar.specs.Adds.{Adds, step-adds, take-adds}
+use Rattle.grammar.specs.StateFlags.{stack-flags, mode-flags, state-flags, part-flags}
+use Rattle.grammar.specs.InRange.{after-flags, no-minus}
+use Rattle.grammar.specs.Written.{written, written-in, Settled, apart-none, shift-writes}
+use Rattle.grammar.specs.Adds.{Adds, step-adds, take-adds, no-constant}
 use Rattle.parser.specs.Machine.{full, Config, config, complete, S, due as machine-due}
 use Rattle.parsing.specs.Encoding.{sort-letter, Control, Data}
 use Rattle.parsing.specs.DataRows.{room-for-less}
@@ -102,25 +100,6 @@ step-data (due u f) fs t ts s c p h z a g l k d e room =
     found-data (due-data u f fs c d) (held (is-due u t) (some (at operand (f ∷ fs))) e .1)
 
 -- ---- post
-
-no-minus : (fs : List Frame) (n : ℕ) → n ≤ tight → Below fs n → after-minus fs ≡ false
-no-minus [] n l b = refl
-no-minus (pending (prefix not-prefix) ∷ fs) n l b = refl
-no-minus (pending (prefix minus-prefix) ∷ fs) n l b = absurd (omega linear)
-no-minus (pending (prefix assert-prefix) ∷ fs) n l b = refl
-no-minus (pending (prefix (assign-prefix v)) ∷ fs) n l b = refl
-no-minus (pending (infix-after o x) ∷ fs) n l b = refl
-no-minus (open-at h c ∷ fs) n l b = refl
-
-pub no-constant : (x : Phrase) → sort x ≡ statement → constant-in x ≡ none
-no-constant (leaf (constant-leaf n)) e = false-is-not (ap (λ (s : Sort). same-sort s statement) e)
-no-constant (leaf (number-leaf n)) e = refl
-no-constant (leaf (variable-leaf v)) e = refl
-no-constant (leaf (truth-leaf b)) e = refl
-no-constant (leaf skip-leaf) e = refl
-no-constant (before p x) e = refl
-no-constant (between o x y) e = refl
-no-constant (closed c x) e = refl
 
 -- the part before the semicolon that is given up has its numbers in range
 plain-ranges : (x : Phrase) (fs : List Frame) → Good-stack (pending (infix-after semicolon x) ∷ fs)

@@ -4,23 +4,23 @@
 -- range so far. Assumes nothing.
 use Prim.Native.Nat.{ℕ, zero, suc, _+_, _*_, _-_, _%_}
 use mathlib.Core.Path.{_≡_}
-use mathlib.Core.Bool.{Bool, true, false, cond}
+use mathlib.Core.Bool.{cond}
 use mathlib.Core.List.{List, [], _∷_, _++_, map}
-use lib.IntN.{ℤ, pos}
+use lib.IntN.{pos}
 use lib.ListN.{length, getD, replicate}
 use Rattle.grammar.specs.Sorts.{Sort, number, expression, formula, statement, script, Hole, only, either}
-use Rattle.grammar.specs.Operators.{Prefix, not-prefix, minus-prefix, assert-prefix, assign-prefix, Infix}
+use Rattle.grammar.specs.Operators.{Prefix, not-prefix, minus-prefix, assert-prefix, assign-prefix}
 use Rattle.grammar.specs.Forms.{Place, in-group, in-mark, when-first, when-second, when-third, if-guard, if-then, if-else, while-guard, while-keep, while-fall, while-body, script-pre, script-body, script-post}
-use Rattle.grammar.specs.Tokens.{Due, bracket-due, becomes-due}
-use Rattle.grammar.specs.Grammar.{Phrase, Chain, place, sort}
-use Rattle.grammar.specs.Automaton.{Pending, prefix, infix-after, Frame, pending, open-at, Mode, operand, after, due, State}
-use Rattle.grammar.specs.Counts.{size, chain-size, last, roots}
+use Rattle.grammar.specs.Tokens.{bracket-due, becomes-due}
+use Rattle.grammar.specs.Grammar.{place, sort}
+use Rattle.grammar.specs.Counts.{size, last, roots}
 use Rattle.grammar.specs.Rows.{counts}
 use Rattle.grammar.specs.Meaning.{flat}
-use Rattle.grammar.specs.Written.{stack-size, written-in}
+use Rattle.grammar.specs.Automaton.{Pending, prefix, infix-after, Frame, pending, open-at, Mode, operand, after, due, State}
 use Rattle.grammar.specs.Ranges.{depth}
 use Rattle.grammar.specs.Outcome.{has-room}
 use Rattle.grammar.specs.Numbers.{infix-number}
+use Rattle.grammar.specs.Written.{stack-size, written-in}
 use Rattle.parser.specs.Machine.{frame, full, Config}
 
 -- ---- sorts and holes

@@ -10,18 +10,18 @@ use lib.IntN.{ℤ, pos}
 use lib.ListN.{length, replicate}
 use borrow.Author.Tests.{le-leb}
 use Rattle.grammar.specs.Grammar.{Phrase}
-use Rattle.grammar.specs.Automaton.{start, at, after}
 use Rattle.grammar.specs.Counts.{size}
 use Rattle.grammar.specs.Rows.{table}
 use Rattle.grammar.specs.Meaning.{flat}
-use Rattle.grammar.specs.Written.{by-count, stack-size, stack-rows, part-rows}
-use Rattle.grammar.specs.Sizes.{table-length}
-use Rattle.grammar.specs.Ranges.{depth}
-use Rattle.grammar.specs.StateFlags.{stack-flags}
-use Rattle.grammar.specs.Scanning.{Lexeme, tokens-of, stuck}
+use Rattle.grammar.specs.Automaton.{start, at, after}
 use Rattle.grammar.specs.Reader.{read}
-use Rattle.grammar.specs.TextSound.{came}
+use Rattle.grammar.specs.Scanning.{Lexeme, tokens-of, stuck}
+use Rattle.grammar.specs.Ranges.{depth}
 use Rattle.grammar.specs.Outcome.{has-room, out-of-range}
+use Rattle.grammar.specs.TextSound.{came}
+use Rattle.grammar.specs.StateFlags.{stack-flags}
+use Rattle.grammar.specs.Sizes.{table-length}
+use Rattle.grammar.specs.Written.{by-count, stack-size, stack-rows, part-rows}
 use Rattle.parser.specs.Machine.{Config, nowhere, start as machine-start, run}
 use Rattle.parsing.specs.Encoding.{framed, counted-rows, Control}
 use Rattle.parsing.specs.DataBegin.{start-data}

@@ -14,18 +14,18 @@ use Rattle.grammar.specs.Sorts.{statement}
 use Rattle.grammar.specs.Operators.{semicolon, connective, relation, operator}
 use Rattle.grammar.specs.Tokens.{Token, Due, bracket-due, becomes-due}
 use Rattle.grammar.specs.Grammar.{Phrase, place, sort}
-use Rattle.grammar.specs.Automaton.{prefix, infix-after, Frame, pending, open-at, Mode, operand, after as after-part, due as due-then, State, at, reduce, token-binds, is-due, step-at}
-use Rattle.grammar.specs.Contexts.{Good-stack, Reads}
-use Rattle.grammar.specs.Written.{stack-rows, Settled, apart-none}
-use Rattle.grammar.specs.Ranges.{depth, flag}
-use Rattle.grammar.specs.Outcome.{all-of}
-use Rattle.grammar.specs.Numbers.{token-number, token-value}
 use Rattle.grammar.specs.Text.{is-post, post}
+use Rattle.grammar.specs.Automaton.{prefix, infix-after, Frame, pending, open-at, Mode, operand, after as after-part, due as due-then, State, at, reduce, token-binds, is-due, step-at}
 use Rattle.grammar.specs.Reader.{at-post as post-at, take as take-token}
+use Rattle.grammar.specs.Ranges.{depth, flag, all-of}
+use Rattle.grammar.specs.Numbers.{token-number, token-value}
+use Rattle.grammar.specs.Contexts.{Good-stack, Reads}
 use Rattle.grammar.specs.TextSound.{post-known, Came}
+use Rattle.grammar.specs.Written.{stack-rows, Settled, apart-none}
+use Rattle.grammar.specs.Adds.{no-constant}
 use Rattle.parser.specs.Machine.{Config, config, due, at-post, expect, take-part, take-after, take}
 use Rattle.parsing.specs.Encoding.{sort-letter, Control}
-use Rattle.parsing.specs.DataTake.{reduced-move, step-move, given-up, post-move, take-move, no-constant}
+use Rattle.parsing.specs.DataTake.{reduced-move, step-move, given-up, post-move, take-move}
 use Rattle.parsing.specs.FrameLetters.{top-number, prefix-apart, connective-apart, relation-apart, operator-apart, place-letters}
 use Rattle.parsing.specs.TokenLetters.{post-number}
 use Rattle.parsing.specs.DueLetters.{due-word-number, due-test}

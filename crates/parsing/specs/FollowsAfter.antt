@@ -9,16 +9,16 @@ use native.Mathlib.Omega.{arith as linear}
 use lib.Dec.{eqb, leb}
 use lib.ListN.{length}
 use Rattle.script.specs.Listing.{_>>=_, guarded}
+use Rattle.theorems.specs.Options.{some-inj, held}
 use Rattle.grammar.specs.Sorts.{Sort, number, expression, formula, statement, script, same-sort}
 use Rattle.grammar.specs.Operators.{infix-takes}
 use Rattle.grammar.specs.Tokens.{Token, numeral, variable, truth-word, skip-word, not-word, assert-word, becomes, infix-word, form-word, closer-word}
 use Rattle.grammar.specs.Grammar.{Phrase, sort}
 use Rattle.grammar.specs.Automaton.{Frame, pending, open-at, wants, holds, apply, after as after-part, at, Reduced, reduce, reduced, token-binds, infix-at, go-on as go-on-at, step-at}
-use Rattle.grammar.specs.Tests.{some-inj, held}
-use Rattle.grammar.specs.Contexts.{Good-stack}
-use Rattle.grammar.specs.Written.{Apart-on}
 use Rattle.grammar.specs.Ranges.{depth}
 use Rattle.grammar.specs.Numbers.{token-number}
+use Rattle.grammar.specs.Contexts.{Good-stack}
+use Rattle.grammar.specs.Written.{Apart-on}
 use Rattle.parser.specs.Machine.{Config, config, complete, top-frame, end-of, binding, operand-sort, closing, Reduced as Machine-reduced, reduce as machine-reduce, go-on, after}
 use Rattle.parsing.specs.Encoding.{sort-letter, Control}
 use Rattle.parsing.specs.DataAfter.{reduced-config as config-after, shift-move}

@@ -15,14 +15,13 @@ use Rattle.grammar.specs.Operators.{semicolon, connective, relation, operator, 
 use Rattle.grammar.specs.Forms.{group-form, mark-form, when-form, if-form, while-form, script-form}
 use Rattle.grammar.specs.Tokens.{bracket-closer, comma-closer, then-closer, else-closer, end-closer, keep-closer, fall-closer, do-closer, post-closer, end-of-text, Token, numeral, variable, truth-word, skip-word, not-word, assert-word, becomes, infix-word, form-word, closer-word, Leaf, truth-leaf, skip-leaf, leaf-makes, Opening, prefix-opening, form-opening, opening-makes, opening-due, opening-beginning, beginning as beginning-of}
 use Rattle.grammar.specs.Grammar.{leaf, place}
+use Rattle.grammar.specs.Rows.{Quad}
 use Rattle.grammar.specs.Automaton.{Frame, operand, after, at, hole as hole-of, opening-frame, begin as begin-at}
+use Rattle.grammar.specs.Ranges.{depth, operand-flag, all-of}
+use Rattle.grammar.specs.Numbers.{most, token-number, token-value}
 use Rattle.grammar.specs.Tests.{false-is-not}
 use Rattle.grammar.specs.Contexts.{Good-stack}
-use Rattle.grammar.specs.Rows.{Quad}
 use Rattle.grammar.specs.Written.{stack-rows, part-rows, leaf-writes}
-use Rattle.grammar.specs.Ranges.{depth, operand-flag}
-use Rattle.grammar.specs.Outcome.{all-of}
-use Rattle.grammar.specs.Numbers.{most, token-number, token-value}
 use Rattle.parser.specs.Symbols.{begins as beginnings}
 use Rattle.parser.specs.Machine.{Config, beginning, begins as begins-by, is-leaf, opened, due-after, begin-leaf, begin-form, begin-word, begin}
 use Rattle.parsing.specs.Encoding.{sort-letter, hole-letter, frame-number, group-number, Control}

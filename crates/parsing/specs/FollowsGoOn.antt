@@ -13,12 +13,12 @@ use Rattle.grammar.specs.Sorts.{same-sort, takes, begins}
 use Rattle.grammar.specs.Operators.{Infix, infix-takes, infix-makes}
 use Rattle.grammar.specs.Tokens.{Token, numeral, variable, truth-word, skip-word, not-word, assert-word, becomes, infix-word, form-word, closer-word, Ending, ending, same-ending, ends as ends-of}
 use Rattle.grammar.specs.Grammar.{Phrase, place, sort}
-use Rattle.grammar.specs.Automaton.{infix-after, Frame, pending, open-at, hole as hole-of, operand, after as after-part, State, at, infix-at, close as close-at, shift}
-use Rattle.grammar.specs.Contexts.{Good-stack}
 use Rattle.grammar.specs.Counts.{begins-body}
-use Rattle.grammar.specs.Written.{shift-writes}
+use Rattle.grammar.specs.Automaton.{infix-after, Frame, pending, open-at, hole as hole-of, operand, after as after-part, State, at, infix-at, close as close-at, shift}
 use Rattle.grammar.specs.Ranges.{depth}
 use Rattle.grammar.specs.Numbers.{infix-number}
+use Rattle.grammar.specs.Contexts.{Good-stack}
+use Rattle.grammar.specs.Written.{shift-writes}
 use Rattle.parser.specs.Symbols.{ends}
 use Rattle.parser.specs.Machine.{Config, config, refused, frame, top-frame, hole, maker, end-of, operand-sort, closing, fits, begins as begins-by, close, push-infix, go-on}
 use Rattle.parsing.specs.Encoding.{sort-letter, hole-letter, Control}

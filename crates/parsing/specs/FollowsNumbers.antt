@@ -12,10 +12,9 @@ use Rattle.grammar.specs.Operators.{not-prefix, minus-prefix, assert-prefix, as
 use Rattle.grammar.specs.Tokens.{numeral, variable, constant-leaf, number-leaf, variable-leaf, prefix-opening, leaf-beginning, opening-beginning, beginning as beginning-of}
 use Rattle.grammar.specs.Grammar.{place}
 use Rattle.grammar.specs.Automaton.{prefix, infix-after, Frame, pending, open-at, operand, at, hole as hole-of, begin as begin-at}
-use Rattle.grammar.specs.Contexts.{Good-stack}
-use Rattle.grammar.specs.Ranges.{limit, mark-fits, variable-fits, after-minus, depth, operand-flag}
-use Rattle.grammar.specs.Outcome.{all-of}
+use Rattle.grammar.specs.Ranges.{limit, mark-fits, variable-fits, after-minus, depth, operand-flag, all-of}
 use Rattle.grammar.specs.Numbers.{most, token-value}
+use Rattle.grammar.specs.Contexts.{Good-stack}
 use Rattle.parser.specs.Machine.{Config, config, top-frame, hole, begins as begins-by, refused, begin-count, begin-constant, begin-numeral, begin-variable, begin-assignment, begin-name}
 use Rattle.parsing.specs.Encoding.{sort-letter, hole-letter, Control}
 use Rattle.parsing.specs.DataBegin.{begin-move, constant-value, mark-value, variable-value}

@@ -10,19 +10,20 @@ use lib.Dec.{eqb}
 use lib.ListN.{length, length-append}
 use borrow.Author.Tests.{ne-eqb}
 use Rattle.script.specs.Listing.{_>>=_}
+use Rattle.theorems.specs.Options.{none-is-not, some-inj}
 use Rattle.grammar.specs.Tokens.{Token}
 use Rattle.grammar.specs.Grammar.{words}
 use Rattle.grammar.specs.Automaton.{State}
-use Rattle.grammar.specs.Tests.{false-is-not, none-is-not, some-inj}
-use Rattle.grammar.specs.Written.{written-in, Settled}
-use Rattle.grammar.specs.Ranges.{flag, All}
-use Rattle.grammar.specs.StateFlags.{state-flags}
-use Rattle.grammar.specs.Outcome.{has-room, all-of, out-of-range, out-after as range-after}
-use Rattle.grammar.specs.Numbers.{token-number, token-value}
-use Rattle.grammar.specs.Scanning.{Lexeme, tokens-of, stuck, or-at}
-use Rattle.grammar.specs.Adds.{take-adds}
 use Rattle.grammar.specs.Reader.{take as take-token, read}
+use Rattle.grammar.specs.Scanning.{Lexeme, tokens-of, stuck, or-at}
+use Rattle.grammar.specs.Ranges.{flag, All, all-of}
+use Rattle.grammar.specs.Outcome.{has-room, out-of-range, out-after as range-after}
+use Rattle.grammar.specs.Numbers.{token-number, token-value}
 use Rattle.grammar.specs.TextSound.{Came, take-keeps}
+use Rattle.grammar.specs.AllLaws.{all-true}
+use Rattle.grammar.specs.StateFlags.{state-flags}
+use Rattle.grammar.specs.Written.{written-in, Settled}
+use Rattle.grammar.specs.Adds.{take-adds}
 use Rattle.parser.specs.Machine.{Config, nowhere, out-after, take, run}
 use Rattle.parsing.specs.Encoding.{Control, Data}
 use Rattle.parsing.specs.DataTake.{take-move, take-data}
@@ -56,11 +57,6 @@ in-range true v p e = (refl, e)
 in-range false v p e = none-is-not (sym e)
 
 -- ---- ranges
-
-all-true : (bs : List Bool) → all-of bs ≡ true → All bs
-all-true [] h = tt
-all-true (true ∷ bs) h = (refl, all-true bs h)
-all-true (false ∷ bs) h = false-is-not h
 
 -- ---- along a text
 

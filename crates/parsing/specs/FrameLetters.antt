@@ -17,12 +17,12 @@ use Rattle.grammar.specs.Sorts.{number, expression, formula, statement, script,
 use Rattle.grammar.specs.Operators.{semicolon, connective, relation, operator, Prefix, not-prefix, minus-prefix, assert-prefix, assign-prefix}
 use Rattle.grammar.specs.Forms.{group-form, mark-form, when-form, if-form, while-form, script-form, Place, place-takes, in-group, in-mark, when-first, when-second, when-third, if-guard, if-then, if-else, while-guard, while-keep, while-fall, while-body, script-pre, script-body, script-post}
 use Rattle.grammar.specs.Tokens.{ending}
-use Rattle.grammar.specs.Tests.{false-is-not}
 use Rattle.grammar.specs.Grammar.{Phrase, Chain, begun, more, sort}
 use Rattle.grammar.specs.Automaton.{Pending, prefix, infix-after, Frame, pending, open-at, apply, hole as hole-of}
+use Rattle.grammar.specs.Numbers.{infix-number}
+use Rattle.grammar.specs.Tests.{false-is-not}
 use Rattle.grammar.specs.Complete.{chain-takes}
 use Rattle.grammar.specs.Contexts.{Good-stack, Good-on}
-use Rattle.grammar.specs.Numbers.{infix-number}
 use Rattle.parser.specs.Symbols.{holds, holes, makes, ends}
 use Rattle.parsing.specs.Encoding.{sort-letter, hole-letter, prefix-number, group-number, place-number, pending-number, frame-number}
 use Rattle.parsing.specs.DataLetters.{operator-letters}

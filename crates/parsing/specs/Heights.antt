@@ -9,11 +9,11 @@ use lib.ListN.{length, length-append}
 use Rattle.grammar.specs.Operators.{semicolon}
 use Rattle.grammar.specs.Tokens.{Token, infix-word, due-word}
 use Rattle.grammar.specs.Grammar.{words}
+use Rattle.grammar.specs.Text.{is-post, text}
 use Rattle.grammar.specs.Automaton.{Frame, Mode, operand, after, due, State}
 use Rattle.grammar.specs.Contexts.{stack-words, Reads}
-use Rattle.grammar.specs.Lengths.{stack-fits}
-use Rattle.grammar.specs.Text.{is-post, text}
 use Rattle.grammar.specs.TextSound.{Came}
+use Rattle.grammar.specs.Lengths.{stack-fits}
 
 text-longer : (us : List Token) → length us ≤ length (text us)
 unfolding text

@@ -9,8 +9,8 @@ use native.Mathlib.Omega.{arith as linear}
 use lib.Dec.{eqb}
 use lib.ListN.{length, take, drop, length-take, length-drop}
 use Rattle.grammar.specs.Scanning.{Lexeme, Scanned, no-token, lexemes, is-blank, is-digit, is-letter, is-word-byte, front, same-bytes, begins-with, keywords, symbols, Spelling, Found, variable-of, word-of, symbol-of, token-at, with-first, past, scan-from, scan}
-use Rattle.grammar.specs.Scans.{token-size}
 use Rattle.grammar.specs.Tests.{false-is-not}
+use Rattle.grammar.specs.Scans.{token-size}
 use Rattle.parser.specs.Machine.{nowhere}
 use Rattle.parsing.specs.FollowsRun.{Placed}
 

@@ -12,8 +12,8 @@ use Rattle.grammar.specs.Forms.{group-form, mark-form, when-form, if-form, whil
 use Rattle.grammar.specs.Tokens.{Due, bracket-due, becomes-due, Opening, prefix-opening, form-opening, opening-due}
 use Rattle.grammar.specs.Grammar.{sort}
 use Rattle.grammar.specs.Automaton.{prefix, Frame, pending, operand, due, at, hole as hole-of, opening-frame, pushed}
-use Rattle.grammar.specs.Written.{push-writes}
 use Rattle.grammar.specs.Ranges.{variable-fits, depth}
+use Rattle.grammar.specs.Written.{push-writes}
 use Rattle.parser.specs.declared.State.{State}
 use Rattle.parser.specs.Machine.{Config, config, frame, top-frame, put, top-after, hole, kept, begin-assignment, opened, due-after, begin-form}
 use Rattle.parsing.specs.Encoding.{frame-number, mode-number, Control}

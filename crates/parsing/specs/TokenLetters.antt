@@ -11,9 +11,9 @@ use Rattle.script.specs.declared.Connective.the-variants.{And, Or, Implies}
 use Rattle.grammar.specs.Operators.{Infix, semicolon, connective, relation, operator, infix-takes, infix-makes, infix-binds}
 use Rattle.grammar.specs.Forms.{Form, group-form, mark-form, when-form, if-form, while-form, script-form}
 use Rattle.grammar.specs.Tokens.{infix-ends, Closer, bracket-closer, comma-closer, then-closer, else-closer, end-closer, keep-closer, fall-closer, do-closer, post-closer, end-of-text, Token, numeral, variable, truth-word, skip-word, not-word, assert-word, becomes, infix-word, form-word, closer-word, Ending, by-closer, ends}
+use Rattle.grammar.specs.Text.{is-post}
 use Rattle.grammar.specs.Automaton.{token-binds}
 use Rattle.grammar.specs.Numbers.{infix-number, form-number, closer-number, token-number}
-use Rattle.grammar.specs.Text.{is-post}
 use Rattle.parser.specs.Symbols.{binds, takes, makes, closes}
 use Rattle.parser.specs.Machine.{maker, binding, operand-sort, closing}
 use Rattle.parsing.specs.Encoding.{sort-letter}

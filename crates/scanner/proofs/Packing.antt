@@ -8,8 +8,8 @@ use native.Mathlib.Omega.{arith}
 use lib.Dec.{eqb, ltb}
 use borrow.Author.Tests.{eq-eqb, ne-eqb, ltb-true}
 use lib.ListN.{length}
-use Rattle.grammar.specs.Tests.{false-is-not}
-use Rattle.grammar.specs.Fronts.{both, same-refl, same-true}
+use Rattle.grammar.specs.Tests.{false-is-not, both}
+use Rattle.grammar.specs.Fronts.{same-refl, same-true}
 use Rattle.grammar.specs.Scanning.{same-bytes}
 use Rattle.scanner.specs.Words.{packed, longest, word-number}
 

@@ -4,12 +4,12 @@ use Prim.Native.Nat.{ℕ, _+_, _≤_, _<_}
 use mathlib.Core.Path.{_≡_, refl, sym, ap, _∙_}
 use mathlib.Core.Option.{Option, none, some}
 use mathlib.Core.Bool.{true, false}
-use mathlib.Core.List.{List, [], _∷_}
+use mathlib.Core.List.{List}
 use native.Mathlib.Omega.{arith as linear}
 use lib.IntN.{ℤ}
 use lib.ListN.{length, getD, drop}
-use Rattle.grammar.specs.Scanning.{is-blank, token-at, Found, Lexeme, Scanned, no-token, lexemes, at-end, scan}
-use Rattle.grammar.specs.Tests.{none-is-not, some-inj}
+use Rattle.theorems.specs.Options.{none-is-not, some-inj}
+use Rattle.grammar.specs.Scanning.{is-blank, token-at, Found, Lexeme, Scanned, no-token, at-end, scan}
 use Rattle.grammar.specs.Numbers.{token-number, token-value}
 use Rattle.scanner.specs.Lexed.{lexed}
 use Rattle.scanner.specs.Progress.{not-told, told, told-end}

@@ -1,31 +1,30 @@
 -- From what is known after the tokens, and in the end, the answer (`stopped`, `taken`, `answered`). Assumes nothing.
 use Prim.Native.Nat.{ℕ, _*_, _-_, _≤_, _<_}
 use mathlib.Core.Path.{_≡_, refl, sym, ap, _∙_, subst}
-use mathlib.Core.Bool.{Bool, true, false, cond}
+use mathlib.Core.Bool.{true, false}
 use mathlib.Core.List.{List, [], _++_}
 use native.Mathlib.Omega.{arith as linear}
-use lib.Dec.{leb}
 use borrow.Author.Tests.{le-leb, lt-leb}
 use lib.IntN.{ℤ, pos}
 use lib.ListN.{length, length-replicate}
 use Rattle.script.specs.Generated.{zeros}
-use Rattle.grammar.specs.Tests.{false-is-not}
 use Rattle.grammar.specs.Grammar.{Phrase}
-use Rattle.grammar.specs.Sizes.{table-length}
-use Rattle.grammar.specs.TextTree.{flat-length}
 use Rattle.grammar.specs.Counts.{size}
 use Rattle.grammar.specs.Rows.{by-row}
 use Rattle.grammar.specs.Meaning.{text-rows, text-table}
+use Rattle.grammar.specs.Scanning.{Scanned, no-token, lexemes, scan}
+use Rattle.grammar.specs.Outcome.{refused, scanned-out, outcome}
+use Rattle.grammar.specs.Answer.{told, answer}
+use Rattle.grammar.specs.Tests.{false-is-not}
+use Rattle.grammar.specs.Sizes.{table-length}
+use Rattle.grammar.specs.TextTree.{flat-length}
 use Rattle.grammar.specs.Written.{stack-rows, stack-size}
-use Rattle.grammar.specs.Scanning.{Lexeme, Scanned, no-token, lexemes, scan}
-use Rattle.grammar.specs.Outcome.{Outcome, refused, given, scanned-out, outcome}
-use Rattle.grammar.specs.Answer.{Answer, told, answer}
+use Rattle.marks.specs.Quads.{marks-named}
+use Rattle.marks.specs.Texts.{text-named}
 use Rattle.parser.specs.declared.State.{State}
 use Rattle.parser.specs.Machine.{Config, start, run}
 use Rattle.parsing.specs.DataRows.{room-is}
 use Rattle.parsing.specs.Answers.{Table, Answers, text-answers}
-use Rattle.marks.specs.Quads.{marks-named}
-use Rattle.marks.specs.Texts.{text-named}
 use Rattle.script_reader.specs.declared.TextAnswer.{TextAnswer}
 use Rattle.script_reader.specs.declared.tokens.Passage.{Passage}
 use Rattle.script_reader.specs.Takes.{Takes, Taken, Told, no-text, out-of-range, no-room, read, Gives}

@@ -1,16 +1,16 @@
 -- The scan of a text from a place on (`rest`), one blank or token at a time, and what a machine makes of it: the state after the last
 -- token (`after-scan`), or the first byte that begins none (`bad-place`). Assumes nothing.
 use Prim.Native.Nat.{ℕ, zero, suc, _+_, _-_, _≤_, _<_}
-use mathlib.Core.Path.{_≡_, refl, sym, ap, _∙_}
+use mathlib.Core.Path.{_≡_, refl, sym, _∙_}
 use mathlib.Core.Option.{Option, none, some}
 use mathlib.Core.List.{List, [], _∷_}
-use mathlib.Core.Bool.{Bool, true, false, cond}
+use mathlib.Core.Bool.{true, false, cond}
 use native.Mathlib.Omega.{arith as linear}
 use lib.ListN.{length, getD, drop, length-drop}
 use lib.Seq.{drop-drop}
 use Rattle.grammar.specs.Scanning.{is-blank, Found, token-at, Lexeme, Scanned, no-token, lexemes, with-first, at-end, past, scan-from, scan}
-use Rattle.grammar.specs.Scans.{scan-enough}
 use Rattle.grammar.specs.Numbers.{token-number, token-value}
+use Rattle.grammar.specs.Scans.{scan-enough}
 use Rattle.parser.specs.Machine.{Config, take, run}
 
 unfoldable pub rest : List ℕ → ℕ → Scanned

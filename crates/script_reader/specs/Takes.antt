@@ -8,9 +8,9 @@ use lib.ListN.{length}
 use Rattle.script.specs.Generated.{zeros}
 use Rattle.grammar.specs.Scanning.{Scanned, no-token, lexemes, Lexeme}
 use Rattle.grammar.specs.Answer.{Answer}
+use Rattle.marks.specs.Quads.{marks-named}
 use Rattle.parser.specs.declared.State.{State}
 use Rattle.parser.specs.Machine.{Config, run, nowhere, full}
-use Rattle.marks.specs.Quads.{marks-named}
 use Rattle.script_reader.specs.declared.tokens.Passage.{Passage}
 use Rattle.script_reader.specs.declared.TextAnswer.{TextAnswer}
 

@@ -7,7 +7,7 @@ use Prim.Native.Nat.{ℕ, zero, suc, _+_, _≤_, _<_}
 use mathlib.Core.Path.{_≡_, sym, ap, _∙_, subst}
 use mathlib.Core.Option.{Option, none, some}
 use mathlib.Core.List.{List, [], _∷_}
-use mathlib.Core.Bool.{Bool, true, false, cond, _&&_}
+use mathlib.Core.Bool.{Bool, true, false, cond}
 use native.Mathlib.Omega.{arith as linear}
 use borrow.Author.Tests.{leb-true, ltb-true}
 use lib.Dec.{leb}
@@ -18,12 +18,13 @@ use Rattle.grammar.specs.Sorts.{number, begins}
 use Rattle.grammar.specs.Tokens.{Token, numeral, variable, truth-word, skip-word, not-word, assert-word, becomes, infix-word, form-word, closer-word}
 use Rattle.grammar.specs.Automaton.{Frame, hole, Mode, operand, after, due, State, at, start}
 use Rattle.grammar.specs.Reader.{take, read}
-use Rattle.grammar.specs.TextRead.{text-read}
-use Rattle.grammar.specs.Tests.{false-is-not}
 use Rattle.grammar.specs.Scanning.{Lexeme, tokens-of, Scanned, no-token, lexemes, with-first, past, Found, token-at, scan-from, scan, is-blank}
 use Rattle.grammar.specs.Scanning as Scanning
-use Rattle.grammar.specs.Ranges.{limit, mark-fits, depth, after-minus, operand-flag, flag, onward, read-flags, All, all-parts}
+use Rattle.grammar.specs.Ranges.{limit, mark-fits, depth, after-minus, operand-flag, flag, onward, read-flags, All}
 use Rattle.grammar.specs.Outcome.{given, outcome}
+use Rattle.grammar.specs.Tests.{both}
+use Rattle.grammar.specs.TextRead.{text-read}
+use Rattle.grammar.specs.AllLaws.{all-parts}
 use Rattle.grammar.specs.Given.{table-given}
 use Rattle.text_claims.specs.Reading.{same-lexemes}
 use Rattle.text_claims.specs.FirstOut.{is-number}
@@ -54,13 +55,9 @@ leading-zero-out d ds = (λ h. omega linear, λ h. omega linear)
 
 -- ---- a flag says it
 
-both : (a b : Bool) → (a && b) ≡ true → b ≡ true
-both true b e = e
-both false b e = false-is-not e
-
 numeral-within : (mark minus : Bool) (d n : ℕ) → d ≤ 2147483648 → cond mark (mark-fits d n) (leb n (limit minus)) ≡ true
     → n ≤ 2147483648
-numeral-within true minus d n l e = let k = leb-true n d (both (leb 1 n) (leb n d) e) in omega linear
+numeral-within true minus d n l e = let k = leb-true n d (both (leb 1 n) (leb n d) e .1) in omega linear
 numeral-within false true d n l e = leb-true n 2147483648 e
 numeral-within false false d n l e = let k = leb-true n 2147483647 e in omega linear
 

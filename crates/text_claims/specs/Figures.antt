@@ -8,13 +8,13 @@ use mathlib.Core.List.{List, [], _∷_, _++_, map}
 use lib.IntN.{ℤ, pos, negsuc}
 use lib.ListN.{length}
 use Rattle.script.specs.Computed.{Row4, _⨾_}
-use Rattle.grammar.specs.Automaton.{reduce}
-use Rattle.grammar.specs.Reader.{read}
 use Rattle.grammar.specs.Counts.{size, roots}
 use Rattle.grammar.specs.Rows.{table}
 use Rattle.grammar.specs.Meaning.{flat, text-rows, text-table}
-use Rattle.grammar.specs.Ranges.{depth}
+use Rattle.grammar.specs.Automaton.{reduce}
+use Rattle.grammar.specs.Reader.{read}
 use Rattle.grammar.specs.Scanning.{bytes, token-at, scan-from, scan, stuck}
+use Rattle.grammar.specs.Ranges.{depth}
 use Rattle.grammar.specs.Outcome.{Outcome, given, out-of-range, outcome}
 
 -- a room, a text, and its answer

@@ -11,9 +11,9 @@ use native.Mathlib.Omega.{arith as linear}
 use lib.ListN.{length, getElem?}
 use Rattle.theorems.specs.Options.{none-is-not, some-inj}
 use Rattle.grammar.specs.Tokens.{Token, numeral, variable, truth-word, skip-word, not-word, assert-word, becomes, infix-word, form-word, closer-word}
-use Rattle.grammar.specs.Tests.{false-is-not}
 use Rattle.grammar.specs.Scanning.{Lexeme}
 use Rattle.grammar.specs.Ranges.{All}
+use Rattle.grammar.specs.Tests.{false-is-not}
 
 abbrev pub is-number : Token → Bool
 is-number (numeral n) = true

@@ -8,12 +8,12 @@ use mathlib.Core.List.{List, [], _∷_}
 use mathlib.Core.Bool.{Bool, false}
 use lib.ListN.{getElem?}
 use Rattle.theorems.specs.Options.{none-is-not, some-inj}
-use Rattle.grammar.specs.Tests.{false-is-not}
 use Rattle.grammar.specs.Grammar.{Phrase}
 use Rattle.grammar.specs.Automaton.{start}
 use Rattle.grammar.specs.Scanning.{Lexeme}
 use Rattle.grammar.specs.Ranges.{flags, All}
 use Rattle.grammar.specs.Outcome.{refused, out-of-range, outcome}
+use Rattle.grammar.specs.Tests.{false-is-not}
 use Rattle.text_claims.specs.Reading.{Reading, Short, In-range, same-lexemes, one-reading}
 use Rattle.text_claims.specs.FirstOut.{number-places, First-out}
 use Rattle.text_claims.specs.Ranges.{out-exactly, none-out}

@@ -13,8 +13,8 @@ use lib.ListN.{length}
 use Rattle.grammar.specs.Grammar.{Phrase}
 use Rattle.grammar.specs.Scanning.{Lexeme, no-token, lexemes, scan}
 use Rattle.grammar.specs.Ranges.{flags}
-use Rattle.grammar.specs.Places.{Stuck-at}
 use Rattle.grammar.specs.Outcome.{refused, given, outcome}
+use Rattle.grammar.specs.Places.{Stuck-at}
 use Rattle.text_claims.specs.Reading.{Reading, Short, In-range, Fits, Read}
 use Rattle.text_claims.specs.FirstOut.{number-places, First-out}
 

@@ -13,10 +13,10 @@ use Rattle.grammar.specs.Operators.{Infix, semicolon, connective, relation, ope
 use Rattle.grammar.specs.Forms.{Place, next-place}
 use Rattle.grammar.specs.Tokens.{Token, Leaf, constant-leaf, number-leaf, variable-leaf, truth-leaf, skip-leaf, leaf-makes, opening-makes, opening-due, Due, Ending, ends, ending, same-ending, Beginning, leaf-beginning, opening-beginning, no-beginning, beginning}
 use Rattle.grammar.specs.Grammar.{Phrase, Chain, place, sort}
-use Rattle.grammar.specs.Automaton.{prefix, infix-after, Frame, pending, open-at, wants, holds, apply, hole, Mode, operand, after, due, State, at, Reduced, reduce, reduced, token-binds, infix-at, go-on, shift, close, advance, constant-on, leaf-on, begin, opening-frame, pushed, is-due, step-at, step}
 use Rattle.grammar.specs.Text.{is-post, post}
-use Rattle.grammar.specs.Reader.{at-post, take}
 use Rattle.grammar.specs.Counts.{begins-body}
+use Rattle.grammar.specs.Automaton.{prefix, infix-after, Frame, pending, open-at, wants, holds, apply, hole, Mode, operand, after, due, State, at, Reduced, reduce, reduced, token-binds, infix-at, go-on, shift, close, advance, constant-on, leaf-on, begin, opening-frame, pushed, is-due, step-at, step}
+use Rattle.grammar.specs.Reader.{at-post, take}
 use Rattle.grammar.specs.Ranges.{deeper, depth}
 
 abbrev pub open-bodies : State → ℕ

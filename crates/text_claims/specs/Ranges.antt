@@ -13,15 +13,15 @@ use Rattle.theorems.specs.Options.{none-is-not, went-on}
 use Rattle.grammar.specs.Sorts.{Sort}
 use Rattle.grammar.specs.Tokens.{Token, numeral, variable, truth-word, skip-word, not-word, assert-word, becomes, infix-word, form-word, closer-word, Due, ends}
 use Rattle.grammar.specs.Grammar.{Phrase}
-use Rattle.grammar.specs.Automaton.{Frame, Mode, operand, after, due, State, at, start, token-binds, infix-at, reduce, go-on, is-due}
 use Rattle.grammar.specs.Text.{is-post, Spells}
+use Rattle.grammar.specs.Automaton.{Frame, Mode, operand, after, due, State, at, start, token-binds, infix-at, reduce, go-on, is-due}
 use Rattle.grammar.specs.Reader.{take, read}
-use Rattle.grammar.specs.TextRead.{text-read}
-use Rattle.grammar.specs.Tests.{false-is-not}
 use Rattle.grammar.specs.Scanning.{Lexeme, tokens-of}
-use Rattle.grammar.specs.Ranges.{operand-flag, flag, flags, read-flags, All}
+use Rattle.grammar.specs.Ranges.{operand-flag, flag, flags, read-flags, All, all-of}
+use Rattle.grammar.specs.Outcome.{out-of-range}
+use Rattle.grammar.specs.Tests.{false-is-not}
+use Rattle.grammar.specs.TextRead.{text-read}
 use Rattle.grammar.specs.InRange.{text-flags}
-use Rattle.grammar.specs.Outcome.{all-of, out-of-range}
 use Rattle.text_claims.specs.FirstOut.{is-number, number-places, First-out, first-out, first-says, says-first, none-first, first-none}
 
 -- ---- a numeral or variable is taken only where a part begins

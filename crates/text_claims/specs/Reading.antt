@@ -10,11 +10,11 @@ use lib.IntN.{ℤ}
 use lib.ListN.{length}
 use Rattle.grammar.specs.Grammar.{Phrase}
 use Rattle.grammar.specs.Text.{Spells}
-use Rattle.grammar.specs.TextRead.{text-unique}
 use Rattle.grammar.specs.Counts.{size}
 use Rattle.grammar.specs.Meaning.{text-table}
 use Rattle.grammar.specs.Scanning.{Lexeme, tokens-of, Scanned, no-token, lexemes, scan}
 use Rattle.grammar.specs.Ranges.{flags, All}
+use Rattle.grammar.specs.TextRead.{text-unique}
 
 -- x is a derivation of the text: its tokens are those of the bytes
 pub record Reading (bytes : List ℕ) (x : Phrase) : Type 0 where

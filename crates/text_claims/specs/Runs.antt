@@ -34,8 +34,8 @@ use Rattle.smt.specs.Verdicts.{List-unsatisfiable, Solved, unsatisfiable-correc
 use Rattle.smt.specs.Refutations.{Refuted, verdicts-to-runs}
 use Rattle.grammar.specs.Grammar.{Phrase}
 use Rattle.grammar.specs.Meaning.{text-table, text-tree}
-use Rattle.grammar.specs.TextTree.{text-tree-is}
 use Rattle.grammar.specs.Outcome.{given, outcome}
+use Rattle.grammar.specs.TextTree.{text-tree-is}
 use Rattle.grammar.specs.Given.{table-given}
 use Rattle.text_claims.specs.Reading.{Reading, one-reading}
 

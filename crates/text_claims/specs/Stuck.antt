@@ -10,13 +10,14 @@ use Rattle.script.specs.Listing.{_>>=_}
 use Rattle.theorems.specs.Options.{went-on}
 use Rattle.grammar.specs.Tokens.{Token}
 use Rattle.grammar.specs.Grammar.{Phrase}
-use Rattle.grammar.specs.Automaton.{after, State, at, start}
 use Rattle.grammar.specs.Text.{Spells}
+use Rattle.grammar.specs.Automaton.{after, State, at, start}
 use Rattle.grammar.specs.Reader.{take, read}
+use Rattle.grammar.specs.Scanning.{Lexeme, tokens-of, or-at, stuck}
 use Rattle.grammar.specs.TextRead.{text-read}
 use Rattle.grammar.specs.TextViable.{read-append, Begins, text-viable}
-use Rattle.grammar.specs.Scanning.{Lexeme, tokens-of, or-at, stuck}
 use Rattle.grammar.specs.Places.{Stuck-at, stuck-exactly}
+use Rattle.grammar.specs.Given.{read-not-stuck}
 
 -- what begins a text is taken
 taken-state : (ts : List Token) → Begins ts → (s : State) × (read start ts ≡ some s)
@@ -56,13 +57,6 @@ stuck-iff ls p = (stuck-exactly ls p, found)
         ap (λ (ms : List Lexeme). stuck start ms) (sym (h .parted))
         ∙ stuck-past (h .taken) (h .lexeme ∷ h .rest) start (s .0) (s .1)
         ∙ ap (λ (o : Option State). or-at o (h .lexeme .place) (λ q. stuck q (h .rest))) stop ∙ ap some (h .placed)
-
-read-not-stuck : (ls : List Lexeme) (s r : State) → read s (tokens-of ls) ≡ some r → stuck s ls ≡ none
-unfolding read stuck
-read-not-stuck [] s r e = refl
-read-not-stuck (l ∷ ls) s r e =
-    let k = went-on (take s (l .token)) (λ q. read q (tokens-of ls)) e in
-    rw (k .1) (read-not-stuck ls (k .0) r (k .2))
 
 pub derived-not-stuck : (x : Phrase) (ls : List Lexeme) → Spells x (tokens-of ls) → stuck start ls ≡ none
 derived-not-stuck x ls h = read-not-stuck ls start (at (after x) []) (text-read x (tokens-of ls) h)
