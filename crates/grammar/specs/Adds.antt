@@ -17,7 +17,8 @@ use Rattle.grammar.specs.Grammar.{Phrase, leaf, before, between, closed,
 use Rattle.grammar.specs.Text.{is-post, post}
 use Rattle.grammar.specs.Counts.{constant-in}
 use Rattle.grammar.specs.Rows.{Quad}
-use Rattle.grammar.specs.Automaton.{prefix, infix-after, Frame, pending, open-at, wants, holds, apply, hole, Mode, operand, after, due, State, at, Reduced, reduce, reduced, token-binds, infix-at, go-on, shift, close, advance, leaf-on, begin, opening-frame, pushed, is-due, step-at, step, run}
+use Rattle.grammar.specs.States.{prefix, infix-after, Frame, pending, open-at, wants, holds, apply, hole, Mode, operand, after, due, State, at}
+use Rattle.grammar.specs.Automaton.{Reduced, reduce, reduced, token-binds, infix-at, go-on, shift, close, advance, leaf-on, begin, opening-frame, pushed, is-due, step-at, step, run}
 use Rattle.grammar.specs.Reader.{at-post, take, read}
 use Rattle.grammar.specs.Tests.{false-is-not}
 use Rattle.grammar.specs.Contexts.{Good-stack, Reads}

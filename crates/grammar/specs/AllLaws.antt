@@ -1,5 +1,5 @@
--- A list of tests that all hold: of its parts and of two together (`all-parts`, `all-join`), and as one test (`all-true`,
--- `true-all`). Assumes nothing.
+-- A list of tests that all hold: of its parts and of two together (`all-parts`, `all-join`), and as one test
+-- (`all-true`, `true-all`). Assumes nothing.
 use mathlib.Core.Path.{_≡_, refl}
 use mathlib.Core.List.{List, [], _∷_, _++_}
 use mathlib.Core.Bool.{Bool, true}

@@ -1,5 +1,5 @@
--- What the reader of a text answers, and what it leaves in the words that are lent: "Rows come out", with zeros behind them; on a refusal
--- only zeros. Assumes nothing.
+-- What the reader of a text answers, and what it leaves in the words that are lent: "Rows come out", with zeros behind
+-- them; on a refusal only zeros. Assumes nothing.
 use Prim.Native.Nat.{ℕ, _-_}
 use mathlib.Core.List.{List, _++_}
 use lib.IntN.{ℤ}

@@ -1,64 +1,17 @@
--- The reader as an automaton with a stack: `step` takes a token. A frame is an operator that waits for the part right of it, or the
--- chain of a form that waits for the part at its place. Assumes nothing.
+-- The reader as an automaton with a stack: `step` takes a token, where a part begins, after a part, or where a second
+-- word is due. `run` takes tokens one after the other. Assumes nothing.
 use Prim.Native.Nat.{ℕ}
 use mathlib.Core.Option.{Option, none, some}
 use mathlib.Core.List.{List, [], _∷_}
 use mathlib.Core.Bool.{Bool, true, false, cond}
 use lib.Dec.{leb}
 use Rattle.script.specs.Listing.{_>>=_, guarded}
-use Rattle.grammar.specs.Sorts.{Sort, script, same-sort, Hole, only, takes, wide, begins}
-use Rattle.grammar.specs.Operators.{Infix, Prefix, not-prefix, minus-prefix, assert-prefix, assign-prefix, infix-takes, infix-makes, prefix-takes, infix-level, infix-binds, prefix-level}
+use Rattle.grammar.specs.Sorts.{Sort, same-sort, Hole, takes, wide, begins}
+use Rattle.grammar.specs.Operators.{Infix, not-prefix, minus-prefix, assert-prefix, assign-prefix, infix-takes, infix-makes, infix-binds}
 use Rattle.grammar.specs.Forms.{Form, group-form, mark-form, when-form, if-form, while-form, script-form, Place, first-place, next-place, place-takes}
 use Rattle.grammar.specs.Tokens.{Token, numeral, variable, truth-word, skip-word, not-word, assert-word, becomes, infix-word, form-word, closer-word, Due, bracket-due, becomes-due, Ending, same-ending, ends, ending, Leaf, constant-leaf, number-leaf, variable-leaf, truth-leaf, skip-leaf, leaf-makes, Opening, prefix-opening, form-opening, opening-makes, opening-due, Beginning, leaf-beginning, opening-beginning, no-beginning, beginning}
-use Rattle.grammar.specs.Grammar.{Phrase, leaf, before, between, closed, Chain, begun, more, place, sort}
-
--- ---- frames
-
-pub data Pending : Type 0 where
-  prefix : Prefix → Pending
-  infix-after : Infix → Phrase → Pending
-
-pub data Frame : Type 0 where
-  pending : Pending → Frame
-  -- what the place takes here, and what stands before it
-  open-at : Hole → Chain → Frame
-
-abbrev pub wants : Pending → Sort
-wants (prefix p) = prefix-takes p
-wants (infix-after o x) = infix-takes o
-
-abbrev pub holds : Pending → ℕ
-holds (prefix p) = prefix-level p
-holds (infix-after o x) = infix-level o
-
-abbrev pub apply : Pending → Phrase → Phrase
-apply (prefix p) y = before p y
-apply (infix-after o x) y = between o x y
-
-abbrev pub hole : List Frame → Hole
-hole [] = only script
-hole (pending f ∷ fs) = only (wants f)
-hole (open-at h c ∷ fs) = h
-
--- ---- states
-
-pub data Mode : Type 0 where
-  -- a part begins
-  operand : Mode
-  -- a part is complete, as far as it was read
-  after : Phrase → Mode
-  -- a word is due, and then the frame
-  due : Due → Frame → Mode
-
-pub record State : Type 0 where
-  pub mode : Mode
-  pub stack : List Frame
-
-abbrev pub at : Mode → List Frame → State
-at m fs = record { mode = m; stack = fs }
-
-abbrev pub start : State
-start = at operand []
+use Rattle.grammar.specs.Grammar.{Phrase, leaf, before, closed, Chain, begun, more, place, sort}
+use Rattle.grammar.specs.States.{prefix, infix-after, Frame, pending, open-at, wants, holds, apply, hole, Mode, operand, after, due, State, at}
 
 -- ---- operators that bind at least as tight as n take what was read
 

@@ -1,15 +1,16 @@
--- Texts and what they give, by computation: good ones, and one or more for each number. The answers are the prototype's. Assumes nothing.
+-- Texts and what they give, by computation: good ones, and one or more for each number. The answers are the
+-- prototype's. Assumes nothing.
 use mathlib.Core.Path.{_≡_, refl}
 use mathlib.Core.List.{[], _∷_}
 use lib.IntN.{pos, negsuc}
+use Rattle.grammar.specs.Scanning.{bytes, token-at, scan-from, scan}
 use Rattle.grammar.specs.Counts.{size, roots}
 use Rattle.grammar.specs.Rows.{table}
 use Rattle.grammar.specs.Meaning.{flat, text-rows, text-table}
 use Rattle.grammar.specs.Automaton.{reduce}
 use Rattle.grammar.specs.Reader.{read}
-use Rattle.grammar.specs.Scanning.{bytes, token-at, scan-from, scan, stuck}
 use Rattle.grammar.specs.Ranges.{depth}
-use Rattle.grammar.specs.Outcome.{refused, given, out-of-range, outcome}
+use Rattle.grammar.specs.Outcome.{refused, given, out-of-range, outcome, stuck}
 
 case-1 : outcome 8192 (bytes "pre true; skip; post true") ≡ given ((pos 16) ∷ (pos 0) ∷ (pos 0) ∷ (pos 0) ∷ (pos 32) ∷ (pos 0) ∷ (pos 0) ∷ (pos 0) ∷ (pos 16) ∷ (pos 0) ∷ (pos 0) ∷ (pos 0) ∷ (pos 48) ∷ (pos 0) ∷ (pos 1) ∷ (pos 2) ∷ [])
 unfolding outcome scan scan-from token-at stuck out-of-range read reduce depth text-table text-rows table size roots flat

@@ -1,6 +1,6 @@
--- Completeness: from any stack whose hole a good phrase may begin, the automaton passes the words of the phrase and comes to
--- `after` with that phrase, provided that the next token binds no tighter than the phrase (`passes`); a script is read
--- whole (`read-whole`). By induction on the phrase. Assumes nothing.
+-- Completeness: from any stack whose hole a good phrase may begin, the automaton passes the words of the phrase and
+-- comes to `after` with that phrase, provided that the next token binds no tighter than the phrase (`passes`); a script
+-- is read whole (`read-whole`). By induction on the phrase. Assumes nothing.
 use Prim.Native.Nat.{ℕ, _≤_, _<_}
 use mathlib.Core.Path.{_≡_, refl, sym, ap, _∙_}
 use mathlib.Core.Option.{Option, none, some}
@@ -14,7 +14,8 @@ use Rattle.grammar.specs.Operators.{semicolon, connective, relation, ope
 use Rattle.grammar.specs.Forms.{next-place, place-takes, place-makes}
 use Rattle.grammar.specs.Tokens.{constant-leaf, number-leaf, variable-leaf, truth-leaf, skip-leaf, ending, ending-word, closer-discrete, ending-discrete, Token, infix-word, Leaf, leaf-makes, leaf-word, Opening, prefix-opening, form-opening, opening-makes, opening-word, opening-due, Due, opening-beginning, beginning}
 use Rattle.grammar.specs.Grammar.{Phrase, leaf, before, between, closed, Chain, begun, more, place, words, chain-words, due-words, opening-words, sort, level, binds, Good, Good-chain}
-use Rattle.grammar.specs.Automaton.{Pending, prefix, infix-after, Frame, pending, open-at, wants, holds, apply, hole, operand, after, at, start, reduce, reduced, token-binds, go-on, advance, constant-on, leaf-on, opening-frame, form-takes, pushed, run}
+use Rattle.grammar.specs.States.{Pending, prefix, infix-after, Frame, pending, open-at, wants, holds, apply, hole, operand, after, at, start}
+use Rattle.grammar.specs.Automaton.{reduce, reduced, token-binds, go-on, advance, constant-on, leaf-on, opening-frame, form-takes, pushed, run}
 use Rattle.grammar.specs.Tests.{false-is-not, same-refl, same-is, same-sorts}
 use Rattle.grammar.specs.HoleLaws.{begins-own, takes-begins, begins-left}
 use Rattle.grammar.specs.LevelLaws.{binds-tight, phrase-range}

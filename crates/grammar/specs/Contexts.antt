@@ -9,7 +9,7 @@ use Rattle.grammar.specs.Operators.{infix-takes, infix-makes, infix-bind
 use Rattle.grammar.specs.Forms.{place-makes}
 use Rattle.grammar.specs.Tokens.{Token, infix-word, due-word, prefix-opening}
 use Rattle.grammar.specs.Grammar.{Phrase, place, words, chain-words, opening-words, sort, level, binds, Good, Good-chain}
-use Rattle.grammar.specs.Automaton.{Pending, prefix, infix-after, Frame, pending, open-at, hole, Mode, operand, after, due}
+use Rattle.grammar.specs.States.{Pending, prefix, infix-after, Frame, pending, open-at, hole, Mode, operand, after, due}
 use Rattle.grammar.specs.Complete.{Below, chain-takes}
 
 abbrev pub pending-words : Pending → List Token

@@ -25,7 +25,7 @@ constant-in (before p x) = none
 constant-in (between o x y) = none
 constant-in (closed c x) = none
 
--- the numeral that a unary minus stands before
+-- the numeral that a unary minus stands before: "unary minus, which before a numeral makes a constant"
 abbrev pub negated : Prefix → Phrase → Option ℕ
 negated not-prefix x = none
 negated minus-prefix x = constant-in x

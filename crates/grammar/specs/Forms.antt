@@ -1,11 +1,13 @@
 -- The closed forms of a script, which words open and close, and the places in them: a bracketed group, mark, when, if,
--- while, and the whole script. Everything that tells one place from another stands here and in `ending` of `Tokens`; the
--- other files speak of all places at once. Assumes nothing.
+-- while, and the whole script. Everything that tells one place from another stands here and in `ending` of `Tokens`;
+-- the other files speak of all places at once. Assumes nothing.
 use mathlib.Core.Option.{Option, none, some}
 use Rattle.grammar.specs.Sorts.{Sort, number, expression, formula, statement, script, Hole, only, either}
 
 -- ---- closed forms, and the places in them
 
+-- "if F then S else S end, and while F keep F fall E do S end"; "the whole is pre F; S; post F"; "when(F, E, E)";
+-- "mark(k)"; "parentheses"
 pub data Form : Type 0 where
   group-form mark-form when-form if-form while-form script-form : Form
 

@@ -10,15 +10,15 @@ use lib.Dec.{leb}
 use lib.ListN.{length}
 use Rattle.script.specs.Listing.{_>>=_}
 use Rattle.theorems.specs.Options.{none-is-not}
+use Rattle.grammar.specs.Scanning.{Lexeme, tokens-of, Scanned, no-token, lexemes, scan}
 use Rattle.grammar.specs.Grammar.{Phrase}
 use Rattle.grammar.specs.Text.{Spells}
 use Rattle.grammar.specs.Counts.{size}
 use Rattle.grammar.specs.Meaning.{text-table}
-use Rattle.grammar.specs.Automaton.{Frame, Mode, operand, after, due, State, at, start}
+use Rattle.grammar.specs.States.{Frame, Mode, operand, after, due, State, at, start}
 use Rattle.grammar.specs.Reader.{take, read}
-use Rattle.grammar.specs.Scanning.{Lexeme, tokens-of, Scanned, no-token, lexemes, scan, or-at, stuck}
 use Rattle.grammar.specs.Ranges.{flag, onward, read-flags, All, all-of}
-use Rattle.grammar.specs.Outcome.{Outcome, refused, given, out-after, out-of-range, has-room, phrase-out, read-out, range-out, stuck-out, scanned-out, outcome}
+use Rattle.grammar.specs.Outcome.{Outcome, refused, given, out-after, out-of-range, has-room, phrase-out, read-out, range-out, stuck-out, scanned-out, outcome, or-at, stuck}
 use Rattle.grammar.specs.TextSound.{read-text}
 use Rattle.grammar.specs.TextRead.{text-read}
 use Rattle.grammar.specs.Stops.{ended}

@@ -1,5 +1,5 @@
--- The flags along a run are those of what was read (`text-flags`): each token adds its own flag to those of the complete
--- parts (`step-flags`). Assumes nothing.
+-- The flags along a run are those of what was read (`text-flags`): each token adds its own flag to those of the
+-- complete parts (`step-flags`). Assumes nothing.
 use Prim.Native.Nat.{ℕ, _≤_}
 use mathlib.Core.Path.{_≡_, refl, sym, ap, _∙_}
 use mathlib.Core.Option.{Option, none, some}
@@ -15,7 +15,8 @@ use Rattle.grammar.specs.Tokens.{Token, Ending, ends, ending, same-endin
 use Rattle.grammar.specs.Grammar.{Phrase, Chain, place, words, sort}
 use Rattle.grammar.specs.Text.{is-post, post, Spells}
 use Rattle.grammar.specs.Counts.{begins-body}
-use Rattle.grammar.specs.Automaton.{prefix, infix-after, Frame, pending, open-at, hole, Mode, operand, after, due, State, at, start, reduce, token-binds, infix-at, go-on, shift, close, advance, is-due, step-at, step}
+use Rattle.grammar.specs.States.{prefix, infix-after, Frame, pending, open-at, hole, Mode, operand, after, due, State, at, start}
+use Rattle.grammar.specs.Automaton.{reduce, token-binds, infix-at, go-on, shift, close, advance, is-due, step-at, step}
 use Rattle.grammar.specs.Reader.{at-post, take, read}
 use Rattle.grammar.specs.Ranges.{deeper, flags, chain-flags, depth, after-minus, flag, onward, read-flags}
 use Rattle.grammar.specs.LevelLaws.{binds-tight}

@@ -11,7 +11,7 @@ use Rattle.grammar.specs.Forms.{Place, in-group, in-mark, when-first, wh
 use Rattle.grammar.specs.Tokens.{Token, infix-word, ending, ending-word, Leaf, constant-leaf, number-leaf, variable-leaf, truth-leaf, skip-leaf, prefix-opening}
 use Rattle.grammar.specs.Grammar.{Phrase, leaf, before, between, closed, Chain, begun, more, place, opening-words, words, chain-words}
 use Rattle.grammar.specs.Counts.{negated, size, chain-size, leaf-size, prefix-size, form-size, note-size, begins-body}
-use Rattle.grammar.specs.Automaton.{prefix, infix-after, Frame, pending, open-at}
+use Rattle.grammar.specs.States.{prefix, infix-after, Frame, pending, open-at}
 use Rattle.grammar.specs.Contexts.{pending-words, stack-words}
 use Rattle.grammar.specs.Written.{stack-size}
 

@@ -9,7 +9,8 @@ use Rattle.grammar.specs.Sorts.{Sort, number, expression, formula, state
 use Rattle.grammar.specs.Operators.{Infix, semicolon, connective, relation, operator, Prefix, not-prefix, minus-prefix, assert-prefix, assign-prefix, prefix-makes, infix-level, infix-binds, prefix-level, tight, top}
 use Rattle.grammar.specs.Tokens.{Token, numeral, variable, truth-word, skip-word, not-word, assert-word, becomes, infix-word, form-word, closer-word}
 use Rattle.grammar.specs.Grammar.{Phrase, leaf, before, between, closed, sort, level, binds}
-use Rattle.grammar.specs.Automaton.{Pending, prefix, infix-after, wants, holds, token-binds}
+use Rattle.grammar.specs.States.{Pending, prefix, infix-after, wants, holds}
+use Rattle.grammar.specs.Automaton.{token-binds}
 use Rattle.grammar.specs.Tests.{false-is-not}
 
 -- ---- levels

@@ -1,8 +1,8 @@
--- Scripts as text (P4). First what is to be believed, in the order of the request: what a script is made of and how it is
--- spelled; the rows and the tree that it stands for; the reader and the answer. Then two files of texts that are read by
--- computation. Then the theorems: each text has one reading and exactly those texts are read; the places of 40, 41 and
--- 42; the rows that are written are those of the text, and have its tree; a table is given exactly where it should be.
--- Assumes nothing.
+-- Scripts as text (P4). First what is to be believed, in the order of the request: what a script is made of and how it
+-- is spelled; the rows and the tree that it stands for; the reader and the answer. Then two files of texts that are
+-- read by computation. Then the theorems: each text has one reading and exactly those texts are read; the places of 40,
+-- 41 and 42; the rows that are written are those of the text, and have its tree; a table is given exactly where it
+-- should be. Assumes nothing.
 
 -- ---- a script and its spelling
 
@@ -10,6 +10,8 @@ pub mod Sorts
 pub mod Operators
 pub mod Forms
 pub mod Tokens
+pub mod Scanning
+pub mod Pieces
 pub mod Grammar
 pub mod Text
 -- ---- what it stands for
@@ -20,10 +22,9 @@ pub mod Trees
 pub mod Meaning
 -- ---- the reader and the answer
 
+pub mod States
 pub mod Automaton
 pub mod Reader
-pub mod Scanning
-pub mod Pieces
 pub mod Ranges
 pub mod Outcome
 pub mod Answer
@@ -46,6 +47,7 @@ pub mod Contexts
 pub mod Reduces
 pub mod Sound
 pub mod Unique
+pub mod Filling
 pub mod Viable
 pub mod TextSound
 pub mod TextRead

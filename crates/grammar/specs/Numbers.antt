@@ -1,5 +1,6 @@
--- The numbers that the code has for tokens: a token that makes a row has the kind of that row, as 01 numbers them, and the others have
--- numbers that are no kind. A numeral's value is told up to `most`, which is beyond every range. Assumes nothing.
+-- The numbers that the code has for tokens: a token that makes a row has the kind of that row, as 01 numbers them, and
+-- the others have numbers that are no kind. A numeral's value is told up to `most`, which is beyond every range.
+-- Assumes nothing.
 use Prim.Native.Nat.{ℕ, min}
 use mathlib.Core.Bool.{cond}
 use Rattle.script.specs.declared.Operator.the-variants.{Plus, Minus, Times, Div, Mod}

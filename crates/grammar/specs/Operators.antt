@@ -49,7 +49,9 @@ prefix-makes minus-prefix = expression
 prefix-makes assert-prefix = statement
 prefix-makes (assign-prefix v) = statement
 
--- "Binding from loosest"
+-- "Binding from loosest: implies (to the right); or, then and (to the left); not; one comparison <, <=, = or <>;
+-- + and -, then *, div and mod (to the left); unary minus"; looser than all of them are statements, "joined by
+-- semicolons to the right"
 abbrev pub infix-level : Infix → ℕ
 infix-level semicolon = 0
 infix-level (connective Implies) = 2
@@ -62,7 +64,7 @@ infix-level (operator Times) = 8
 infix-level (operator Div) = 8
 infix-level (operator Mod) = 8
 
--- the level from which on what stands left of it is complete: its own, or the next where it groups to the right
+-- the level from which on what stands left of it is complete: its own, or the next where it groups "to the right"
 abbrev pub infix-binds : Infix → ℕ
 infix-binds semicolon = 1
 infix-binds (connective Implies) = 3

@@ -1,14 +1,15 @@
--- Number 41: the place where the reader is stuck is that of the first token with which no text goes on (`stuck-exactly`); where it
--- is stuck nowhere, it has read all (`not-stuck`). Assumes nothing.
+-- Number 41: the place where the reader is stuck is that of the first token with which no text goes on
+-- (`stuck-exactly`); where it is stuck nowhere, it has read all (`not-stuck`). Assumes nothing.
 use Prim.Native.Nat.{ℕ}
 use mathlib.Core.Path.{_≡_, refl, sym, ap, _∙_}
 use mathlib.Core.Option.{Option, none, some}
 use mathlib.Core.List.{List, [], _∷_, _++_, append-assoc}
 use Rattle.script.specs.Listing.{_>>=_}
 use Rattle.theorems.specs.Options.{none-is-not, some-inj}
-use Rattle.grammar.specs.Automaton.{State, start}
+use Rattle.grammar.specs.Scanning.{Lexeme, tokens-of}
+use Rattle.grammar.specs.States.{State, start}
 use Rattle.grammar.specs.Reader.{take, read}
-use Rattle.grammar.specs.Scanning.{Lexeme, tokens-of, or-at, stuck}
+use Rattle.grammar.specs.Outcome.{or-at, stuck}
 use Rattle.grammar.specs.TextViable.{read-append, Begins, text-viable, text-refused}
 
 pub record Stuck-at (ls : List Lexeme) (p : ℕ) : Type 0 where

@@ -1,5 +1,5 @@
--- Number 42: each numeral and variable of a text is within its range or not, in the order of the tokens. `flags` says it
--- of a phrase, `flag` of a token that is taken in a state, `read-flags` along a text. Assumes nothing.
+-- Number 42: each numeral and variable of a text is within its range or not, in the order of the tokens. `flags` says
+-- it of a phrase, `flag` of a token that is taken in a state, `read-flags` along a text. Assumes nothing.
 use Prim.Native.Nat.{ℕ, suc}
 use mathlib.Core.Path.{_≡_}
 use mathlib.Core.Option.{Option, none, some}
@@ -12,7 +12,7 @@ use Rattle.grammar.specs.Forms.{Place}
 use Rattle.grammar.specs.Tokens.{Token, numeral, variable, truth-word, skip-word, not-word, assert-word, becomes, infix-word, form-word, closer-word, Leaf, constant-leaf, number-leaf, variable-leaf, truth-leaf, skip-leaf}
 use Rattle.grammar.specs.Grammar.{Phrase, leaf, before, between, closed, Chain, begun, more, place}
 use Rattle.grammar.specs.Counts.{begins-body}
-use Rattle.grammar.specs.Automaton.{prefix, infix-after, Frame, pending, open-at, hole, Mode, operand, after, due, State}
+use Rattle.grammar.specs.States.{prefix, infix-after, Frame, pending, open-at, hole, Mode, operand, after, due, State}
 use Rattle.grammar.specs.Reader.{take}
 
 -- ---- ranges
@@ -25,7 +25,7 @@ limit minus = cond minus 2147483648 2147483647
 abbrev pub variable-fits : ℕ → Bool
 variable-fits v = ltb v 1024
 
--- with d loops around
+-- with d loops around: "mark(k) names the k-th loop, outward from 1, whose body it stands in"
 abbrev pub mark-fits : ℕ → ℕ → Bool
 mark-fits d k = leb 1 k && leb k d
 

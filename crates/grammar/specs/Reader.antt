@@ -1,5 +1,5 @@
--- The reader of a text's tokens (`read`): a semicolon is taken as an operator, and `post` after it gives the operator up
--- again; any other token is a step of the automaton. Assumes nothing.
+-- The reader of a text's tokens (`read`): a semicolon is taken as an operator, and `post` after it gives the operator
+-- up again; any other token is a step of the automaton. Assumes nothing.
 use mathlib.Core.Option.{Option, none, some}
 use mathlib.Core.List.{List, [], _∷_}
 use mathlib.Core.Bool.{cond}
@@ -8,7 +8,8 @@ use Rattle.grammar.specs.Operators.{Infix, semicolon, connective, relati
 use Rattle.grammar.specs.Tokens.{Token}
 use Rattle.grammar.specs.Grammar.{Phrase}
 use Rattle.grammar.specs.Text.{is-post, post}
-use Rattle.grammar.specs.Automaton.{prefix, infix-after, Frame, pending, open-at, Mode, operand, after, due, State, at, step}
+use Rattle.grammar.specs.States.{prefix, infix-after, Frame, pending, open-at, Mode, operand, after, due, State, at}
+use Rattle.grammar.specs.Automaton.{step}
 
 -- ---- the reader
 

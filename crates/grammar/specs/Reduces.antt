@@ -14,7 +14,8 @@ use Rattle.grammar.specs.Sorts.{sort-discrete, same-sort}
 use Rattle.grammar.specs.Operators.{top}
 use Rattle.grammar.specs.Tokens.{Token, infix-word}
 use Rattle.grammar.specs.Grammar.{Phrase, words, sort, level, binds, Good}
-use Rattle.grammar.specs.Automaton.{Pending, prefix, infix-after, Frame, pending, open-at, wants, holds, apply, State, Reduced, reduce, reduced}
+use Rattle.grammar.specs.States.{Pending, prefix, infix-after, Frame, pending, open-at, wants, holds, apply, State}
+use Rattle.grammar.specs.Automaton.{Reduced, reduce, reduced}
 use Rattle.grammar.specs.Tests.{same-is}
 use Rattle.grammar.specs.LevelLaws.{holds-below}
 use Rattle.grammar.specs.Complete.{Below}

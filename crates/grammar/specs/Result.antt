@@ -7,7 +7,7 @@ use Rattle.grammar.specs.Tokens.{Token}
 use Rattle.grammar.specs.Grammar.{Phrase, Good}
 use Rattle.grammar.specs.Text.{Spells}
 use Rattle.grammar.specs.Meaning.{text-rows, text-table, text-tree, flat}
-use Rattle.grammar.specs.Automaton.{at, after}
+use Rattle.grammar.specs.States.{at, after}
 use Rattle.grammar.specs.TextTree.{text-tree-is}
 use Rattle.grammar.specs.Written.{written-in, stack-rows, stack-size}
 use Rattle.grammar.specs.Renamed.{pass-rows}

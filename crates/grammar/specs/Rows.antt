@@ -1,7 +1,8 @@
--- The rows that a phrase makes (`table`): "Rows come out with parts left to right before their parent", so the root of a
--- phrase is its last row, and a loop's row is known before its body is gone through. What the row of a mark holds is a
--- `Naming`: in the table that is asked for it names its loop by the loop's row (`by-row`); in one that is written from
--- left to right, where that row is not there yet, it holds the number of the mark (`Written.by-count`). Assumes nothing.
+-- The rows that a phrase makes (`table`): "Rows come out with parts left to right before their parent", so the root of
+-- a phrase is its last row, and a loop's row is known before its body is gone through. What the row of a mark holds is
+-- a `Naming`: in the table that is asked for it names its loop by the loop's row (`by-row`); in one that is written
+-- from left to right, where that row is not there yet, it holds the number of the mark (`Written.by-count`). Assumes
+-- nothing.
 use Prim.Native.Nat.{ℕ, _+_, _-_}
 use mathlib.Core.Option.{Option, none, some}
 use mathlib.Core.List.{List, [], _∷_, _++_}
@@ -53,7 +54,7 @@ infix-kind (connective c) = conn-word c
 infix-kind (relation r) = rel-word r
 infix-kind (operator o) = op-word o
 
--- the k-th loop from here outward
+-- "mark(k) names the k-th loop, outward from 1, whose body it stands in"
 abbrev pub nth-loop : List ℕ → ℕ → ℕ
 nth-loop ls k = getD ls (k - 1) 0
 
@@ -96,8 +97,8 @@ abbrev pub note-rows : Bool → List ℕ → ℕ → List Quad
 note-rows false rs r = []
 note-rows true rs r = quad (pos 37) (getD rs 0 0) r 0 ∷ []
 
--- how the row of a mark names its loop: what is known of the loops around, with one loop more whose row is r (`around r`), and
--- what the row of mark(k) says then
+-- how the row of a mark names its loop: what is known of the loops around, with one loop more whose row is r (`around
+-- r`), and what the row of mark(k) says then
 pub record Naming : Type 1 where
   pub Loops : Type 0
   pub around : ℕ → Loops → Loops

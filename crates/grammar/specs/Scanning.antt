@@ -1,6 +1,6 @@
--- Bytes into tokens, each with the place of its first byte: "The longest token is taken, spaces, tabs, CR and LF part tokens, and
--- letters and digits from a letter on are one word". `scan` gives the tokens, or the first byte that begins none. Then
--- the place of the first token that is refused (`stuck`). Assumes nothing.
+-- Bytes into tokens, each with the place of its first byte: "The longest token is taken, spaces, tabs, CR and LF part
+-- tokens, and letters and digits from a letter on are one word". `scan` gives the tokens, or the first byte that begins
+-- none. Assumes nothing.
 use Prim.Native.Nat.{ℕ, zero, suc, _+_, _*_, _-_}
 use Prim.Native.Char.{code}
 use Prim.Native.String.{String, [] as end, _∷_ as _before_}
@@ -15,8 +15,6 @@ use Rattle.script.specs.declared.Connective.the-variants.{And, Or, Implies}
 use Rattle.grammar.specs.Operators.{semicolon, connective, relation, operator}
 use Rattle.grammar.specs.Forms.{group-form, mark-form, when-form, if-form, while-form, script-form}
 use Rattle.grammar.specs.Tokens.{Token, numeral, variable, truth-word, skip-word, not-word, assert-word, becomes, infix-word, form-word, closer-word, bracket-closer, comma-closer, then-closer, else-closer, end-closer, keep-closer, fall-closer, do-closer, post-closer, end-of-text}
-use Rattle.grammar.specs.Automaton.{State}
-use Rattle.grammar.specs.Reader.{take as take-token}
 
 -- the bytes of an ASCII text
 abbrev pub bytes : String → List ℕ
@@ -93,14 +91,14 @@ pub record Found : Type 0 where
 abbrev found : Token → ℕ → Option Found
 found t n = some (record { token = t; size = n })
 
--- v and digits
+-- "v with digits"
 abbrev pub variable-of : List ℕ → Option Found
 variable-of [] = none
 variable-of (b ∷ []) = none
 variable-of (b ∷ d ∷ ds) =
     cond (eqb b 118 && eqb (front is-digit (d ∷ ds)) (length (d ∷ ds))) (found (variable (number (d ∷ ds))) (length (b ∷ d ∷ ds))) none
 
--- a whole word
+-- a whole word: "a keyword, or v with digits"
 abbrev pub word-of : List Spelling → List ℕ → Option Found
 word-of [] w = variable-of w
 word-of (s ∷ ss) w = cond (same-bytes w (s .bytes)) (found (s .token) (length w)) (word-of ss w)
@@ -129,7 +127,7 @@ pub record Lexeme : Type 0 where
   pub place : ℕ
 
 pub data Scanned : Type 0 where
-  -- the first byte that begins no token
+  -- "40 at the first byte that begins no token"
   no-token : ℕ → Scanned
   lexemes : List Lexeme → Scanned
 
@@ -157,12 +155,3 @@ scan bs = scan-from (length bs) 0 bs
 
 abbrev pub tokens-of : List Lexeme → List Token
 tokens-of ls = map (λ (l : Lexeme). l .token) ls
-
-abbrev pub or-at : Option State → ℕ → (State → Option ℕ) → Option ℕ
-or-at none p go = some p
-or-at (some r) p go = go r
-
--- the place of the first token that is refused
-unfoldable pub stuck : State → List Lexeme → Option ℕ
-stuck s [] = none
-stuck s (l ∷ ls) = or-at (take-token s (l .token)) (l .place) (λ r. stuck r ls)

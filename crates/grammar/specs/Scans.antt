@@ -1,5 +1,5 @@
--- Each token has a byte at least (`token-size`), so the number of bytes bounds the scan: every larger bound gives the same
--- (`scan-enough`). The last token is the end of the text (`scan-ends`). Assumes nothing.
+-- Each token has a byte at least (`token-size`), so the number of bytes bounds the scan: every larger bound gives the
+-- same (`scan-enough`). The last token is the end of the text (`scan-ends`). Assumes nothing.
 use Prim.Native.Nat.{ℕ, zero, suc, _+_, _≤_}
 use mathlib.Core.Path.{_≡_, refl, ap, subst}
 use mathlib.Core.Option.{Option, none, some}

@@ -1,4 +1,5 @@
--- A phrase makes as many rows as `size` says (`table-length`), and one at least, a mark's number apart (`sized`). Assumes nothing.
+-- A phrase makes as many rows as `size` says (`table-length`), and one at least, a mark's number apart (`sized`).
+-- Assumes nothing.
 use Prim.Native.Nat.{ℕ, _+_, _≤_}
 use mathlib.Core.Path.{_≡_, refl, sym}
 use mathlib.Core.Option.{Option, none, some}

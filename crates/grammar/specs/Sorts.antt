@@ -20,7 +20,7 @@ pub data Sort : Type 0 where
 
 pub data Hole : Type 0 where
   only : Sort → Hole
-  -- an expression or a formula
+  -- an expression or a formula: "parentheses group either sort"
   either : Hole
 
 abbrev pub same-sort : Sort → Sort → Bool

@@ -13,7 +13,8 @@ use Rattle.grammar.specs.Operators.{Infix, infix-makes, infix-binds, pre
 use Rattle.grammar.specs.Forms.{Place, next-place, place-takes, place-makes}
 use Rattle.grammar.specs.Tokens.{Ending, ending, ending-word, same-ending, closer-discrete, ending-discrete, ends, constant-leaf, number-leaf, variable-leaf, truth-leaf, skip-leaf, Token, infix-word, Leaf, leaf-makes, Opening, prefix-opening, form-opening, opening-makes, opening-due, Due, Beginning, opening-beginning, leaf-beginning, no-beginning, beginning}
 use Rattle.grammar.specs.Grammar.{Phrase, leaf, Chain, begun, more, place, words, chain-words, due-words, opening-words, sort, Good, Good-chain}
-use Rattle.grammar.specs.Automaton.{prefix, infix-after, Frame, pending, open-at, hole, Mode, operand, after, due, State, at, start, Reduced, reduce, token-binds, go-on, shift, close, advance, constant-on, leaf-on, begin, opening-frame, pushed, infix-at, is-due, step-at, step, run}
+use Rattle.grammar.specs.States.{prefix, infix-after, Frame, pending, open-at, hole, Mode, operand, after, due, State, at, start}
+use Rattle.grammar.specs.Automaton.{Reduced, reduce, token-binds, go-on, shift, close, advance, constant-on, leaf-on, begin, opening-frame, pushed, infix-at, is-due, step-at, step, run}
 use Rattle.grammar.specs.Tests.{same-is}
 use Rattle.grammar.specs.HoleLaws.{form-takes-less, form-fits}
 use Rattle.grammar.specs.LevelLaws.{binds-tight, prefix-fits}

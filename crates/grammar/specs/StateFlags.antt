@@ -12,7 +12,8 @@ use Rattle.grammar.specs.Sorts.{number, expression, statement, script, s
 use Rattle.grammar.specs.Operators.{not-prefix, minus-prefix, assert-prefix, assign-prefix}
 use Rattle.grammar.specs.Tokens.{Token, Leaf, constant-leaf, number-leaf, variable-leaf, truth-leaf, skip-leaf, leaf-makes, leaf-word, Opening, prefix-opening, form-opening, opening-makes, opening-word, opening-due, Due, Beginning, leaf-beginning, opening-beginning, no-beginning}
 use Rattle.grammar.specs.Grammar.{Phrase, leaf, sort}
-use Rattle.grammar.specs.Automaton.{Pending, prefix, infix-after, Frame, pending, open-at, wants, holds, apply, hole, Mode, operand, after, due, State, Reduced, reduce, reduced, constant-on, leaf-on, begin, opening-frame, pushed}
+use Rattle.grammar.specs.States.{Pending, prefix, infix-after, Frame, pending, open-at, wants, holds, apply, hole, Mode, operand, after, due, State}
+use Rattle.grammar.specs.Automaton.{Reduced, reduce, reduced, constant-on, leaf-on, begin, opening-frame, pushed}
 use Rattle.grammar.specs.Ranges.{is-minus, leaf-flags, prefix-flags, flags, chain-flags, depth, after-minus, operand-flag}
 use Rattle.grammar.specs.Tests.{false-is-not}
 use Rattle.grammar.specs.WordLaws.{Begun}

@@ -1,5 +1,5 @@
--- Where the reader stops. The first token that is refused is the first with which no text goes on (`stops-exactly`); and when
--- the end of the text is taken, a script is read whole (`ended`). Assumes nothing.
+-- Where the reader stops. The first token that is refused is the first with which no text goes on (`stops-exactly`);
+-- and when the end of the text is taken, a script is read whole (`ended`). Assumes nothing.
 use mathlib.Core.Path.{_≡_, refl, sym, ap, _∙_, subst}
 use mathlib.Core.Option.{Option, none, some}
 use mathlib.Core.List.{List, [], _∷_, _++_, append-assoc}
@@ -12,7 +12,8 @@ use Rattle.grammar.specs.Operators.{semicolon, connective, relation, ope
 use Rattle.grammar.specs.Forms.{Place, in-group, in-mark, when-first, when-second, when-third, if-guard, if-then, if-else, while-guard, while-keep, while-fall, while-body, script-pre, script-body, script-post, next-place, place-takes, place-makes, group-form, mark-form, when-form, if-form, while-form, script-form}
 use Rattle.grammar.specs.Tokens.{end-of-text, by-closer, ending, same-ending, Token, closer-word}
 use Rattle.grammar.specs.Grammar.{Phrase, closed, Chain, begun, more, place, sort}
-use Rattle.grammar.specs.Automaton.{Pending, prefix, infix-after, Frame, pending, open-at, wants, hole, Mode, operand, after, due, State, at, start, reduce, go-on, close, advance, step-at}
+use Rattle.grammar.specs.States.{Pending, prefix, infix-after, Frame, pending, open-at, wants, hole, Mode, operand, after, due, State, at, start}
+use Rattle.grammar.specs.Automaton.{reduce, go-on, close, advance, step-at}
 use Rattle.grammar.specs.Reader.{take, read}
 use Rattle.grammar.specs.Tests.{false-is-not}
 use Rattle.grammar.specs.Complete.{chain-takes}

@@ -1,9 +1,7 @@
--- What it tells that a test held. Assumes nothing.
+-- What it tells that a test held (`false-is-not`, `same-is`, `both`), and when one does (`same-refl`). Assumes nothing.
 use mathlib.Core.Path.{_≡_, refl, sym, subst}
 use mathlib.Core.Bool.{Bool, true, false, _&&_}
 use Rattle.grammar.specs.Sorts.{same, Sort, sort-discrete, same-sort}
-
--- ---- tests
 
 abbrev Is-true : Bool → Type 0
 Is-true true = Unit {0}

@@ -30,7 +30,7 @@ unfoldable pub text : List Token → List Token
 text [] = []
 text (t ∷ ts) = spelled t ++ text ts
 
--- the derivation x of a text
+-- the derivation x of a text; "Each text of the grammar has one reading" is `TextRead.text-unique`
 pub record Spells (x : Phrase) (ts : List Token) : Type 0 where
   pub good : Good x
   pub whole : sort x ≡ script

@@ -15,7 +15,8 @@ use Rattle.grammar.specs.Forms.{next-place, group-form, mark-form, when-
 use Rattle.grammar.specs.Tokens.{post-closer, by-closer, Token, infix-word}
 use Rattle.grammar.specs.Grammar.{Phrase, Chain, begun, more, place, words, sort}
 use Rattle.grammar.specs.Text.{is-post, post, text, Spells}
-use Rattle.grammar.specs.Automaton.{infix-after, Frame, pending, open-at, wants, holds, apply, hole, Mode, operand, after, due, State, at, start, Reduced, reduce, reduced, go-on, close, advance, step-at, step, run}
+use Rattle.grammar.specs.States.{infix-after, Frame, pending, open-at, wants, holds, apply, hole, Mode, operand, after, due, State, at, start}
+use Rattle.grammar.specs.Automaton.{Reduced, reduce, reduced, go-on, close, advance, step-at, step, run}
 use Rattle.grammar.specs.Reader.{at-post, take, read}
 use Rattle.grammar.specs.Tests.{false-is-not, same-is, same-sorts}
 use Rattle.grammar.specs.LevelLaws.{loosest-wants}

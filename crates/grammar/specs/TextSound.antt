@@ -1,5 +1,5 @@
--- The reader of a text reads only what has a derivation (`read-text`): what it has taken is spelled by what the automaton
--- would have taken (`Came`), since a semicolon which is given up leaves the state as it was. Assumes nothing.
+-- The reader of a text reads only what has a derivation (`read-text`): what it has taken is spelled by what the
+-- automaton would have taken (`Came`), since a semicolon which is given up leaves the state as it was. Assumes nothing.
 use mathlib.Core.Path.{_≡_, refl, sym, ap, _∙_, subst}
 use mathlib.Core.Option.{some}
 use mathlib.Core.List.{List, [], _∷_, _++_, append-assoc, append-nil}
@@ -11,7 +11,8 @@ use Rattle.grammar.specs.Operators.{semicolon, connective, relation, ope
 use Rattle.grammar.specs.Tokens.{closer-discrete, post-closer, Token, numeral, variable, truth-word, skip-word, not-word, assert-word, becomes, infix-word, form-word, closer-word}
 use Rattle.grammar.specs.Grammar.{Phrase, words, sort, binds}
 use Rattle.grammar.specs.Text.{is-post, post, spelled, text, Spells}
-use Rattle.grammar.specs.Automaton.{prefix, infix-after, Frame, pending, open-at, Mode, operand, after, due, State, at, start, step}
+use Rattle.grammar.specs.States.{prefix, infix-after, Frame, pending, open-at, Mode, operand, after, due, State, at, start}
+use Rattle.grammar.specs.Automaton.{step}
 use Rattle.grammar.specs.Reader.{at-post, take, read}
 use Rattle.grammar.specs.Tests.{false-is-not, same-is}
 use Rattle.grammar.specs.LevelLaws.{phrase-range}

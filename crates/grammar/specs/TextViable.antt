@@ -8,7 +8,7 @@ use Rattle.theorems.specs.Options.{none-is-not}
 use Rattle.grammar.specs.Tokens.{Token}
 use Rattle.grammar.specs.Grammar.{Phrase}
 use Rattle.grammar.specs.Text.{text, Spells}
-use Rattle.grammar.specs.Automaton.{State, start}
+use Rattle.grammar.specs.States.{State, start}
 use Rattle.grammar.specs.Reader.{take, read}
 use Rattle.grammar.specs.Viable.{state-extends}
 use Rattle.grammar.specs.TextSound.{text-append, read-keeps, came}

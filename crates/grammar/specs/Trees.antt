@@ -73,7 +73,8 @@ infix-value (operator o) v w = expr-value (arith o (to-expr v) (to-expr w))
 abbrev pub nth : List Value → ℕ → Value
 nth vs i = getD vs i (number-value 0)
 
--- the form at row r, with the parts vs before the last, latest first, and the last v; m is the loop of a mark
+-- "when(F, E, E) is choose". The form at row r, with the parts vs before the last, latest first, and the last v; m is
+-- the loop of a mark
 abbrev pub form-value : Place → ℕ → ℕ → List Value → Value → Value
 form-value in-group r m vs v = v
 form-value in-mark r m vs v = expr-value (mark m)

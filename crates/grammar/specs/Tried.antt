@@ -15,10 +15,12 @@ use Rattle.grammar.specs.Grammar.{Phrase, leaf, before, between, closed,
 use Rattle.grammar.specs.Counts.{size, roots}
 use Rattle.grammar.specs.Rows.{Quad, table}
 use Rattle.grammar.specs.Meaning.{text-rows}
-use Rattle.grammar.specs.Automaton.{at, after, start, reduce}
+use Rattle.grammar.specs.States.{at, after, start}
+use Rattle.grammar.specs.Automaton.{reduce}
 use Rattle.grammar.specs.Reader.{read}
 
--- pre v0 <= 5; skip; while v0 < 10 keep v0 <= 10 fall 10 - v0 do v0 := (v0 + mark(1)) * -1 end; post not v0 < 10 implies true
+-- pre v0 <= 5; skip; while v0 < 10 keep v0 <= 10 fall 10 - v0 do v0 := (v0 + mark(1)) * -1 end; post not v0 < 10
+-- implies true
 abbrev pub tokens : List Token
 tokens =
     form-word script-form ∷ variable 0 ∷ infix-word (relation AtMost) ∷ numeral 5 ∷ infix-word semicolon ∷ skip-word ∷ infix-word semicolon

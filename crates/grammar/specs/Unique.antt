@@ -1,5 +1,5 @@
--- What is read is exactly the words of the good scripts, each of one (`derived-read`, `read-derived`, `unique`): the automaton is a function.
--- Assumes nothing.
+-- What is read is exactly the words of the good scripts, each of one (`derived-read`, `read-derived`, `unique`): the
+-- automaton is a function. Assumes nothing.
 use mathlib.Core.Path.{_≡_, sym, ap, _∙_}
 use mathlib.Core.Option.{some}
 use mathlib.Core.List.{List, []}
@@ -7,7 +7,8 @@ use Rattle.theorems.specs.Options.{some-inj}
 use Rattle.grammar.specs.Sorts.{script}
 use Rattle.grammar.specs.Tokens.{Token}
 use Rattle.grammar.specs.Grammar.{Phrase, words, sort, Good}
-use Rattle.grammar.specs.Automaton.{State, at, after, start, run}
+use Rattle.grammar.specs.States.{State, at, after, start}
+use Rattle.grammar.specs.Automaton.{run}
 use Rattle.grammar.specs.Tests.{same-sorts}
 use Rattle.grammar.specs.Complete.{read-whole}
 use Rattle.grammar.specs.Sound.{sound}

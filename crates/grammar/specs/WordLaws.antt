@@ -1,5 +1,5 @@
--- What the proofs ask of the tokens: what a word begins (`leaf-begins`, `prefix-begins`), and the other way, what a token
--- that was taken must have been (`begun-by`, `infix-known`, `ends-known`, `due-known`). Assumes nothing.
+-- What the proofs ask of the tokens: what a word begins (`leaf-begins`, `prefix-begins`), and the other way, what a
+-- token that was taken must have been (`begun-by`, `infix-known`, `ends-known`, `due-known`). Assumes nothing.
 use Prim.Native.Nat.{ℕ}
 use mathlib.Core.Path.{_≡_, refl, ap, _∙_}
 use mathlib.Core.Option.{some}

@@ -15,7 +15,8 @@ use Rattle.grammar.specs.Tokens.{Leaf, constant-leaf, number-leaf, varia
 use Rattle.grammar.specs.Grammar.{Phrase, leaf, before, between, closed, Chain, place}
 use Rattle.grammar.specs.Counts.{constant-in, negated, minus, size, chain-size, last, roots, begins-body}
 use Rattle.grammar.specs.Rows.{Quad, quad, constant, leaf-rows, prefix-row, infix-kind, counts, form-rows, note-rows, Naming, table, chain-table}
-use Rattle.grammar.specs.Automaton.{Pending, prefix, infix-after, Frame, pending, open-at, apply, Mode, operand, after, due, State, advance, constant-on, leaf-on, opening-frame, pushed}
+use Rattle.grammar.specs.States.{Pending, prefix, infix-after, Frame, pending, open-at, apply, Mode, operand, after, due, State}
+use Rattle.grammar.specs.Automaton.{advance, constant-on, leaf-on, opening-frame, pushed}
 
 -- a mark's row holds its number
 abbrev pub by-count : Naming

@@ -6,7 +6,7 @@ use mathlib.Core.List.{List, [], _++_}
 use lib.IntN.{ℤ}
 use lib.ListN.{length}
 use Rattle.grammar.specs.Grammar.{Phrase, Good}
-use Rattle.grammar.specs.Automaton.{at, after}
+use Rattle.grammar.specs.States.{at, after}
 use Rattle.grammar.specs.Counts.{size}
 use Rattle.grammar.specs.Meaning.{flat, text-table}
 use Rattle.grammar.specs.Sizes.{table-length}

@@ -12,15 +12,15 @@ use borrow.Author.Tests.{leb-true}
 use lib.IntN.{ℤ, pos}
 use lib.ListN.{length, replicate}
 use Rattle.theorems.specs.Options.{none-is-not, some-inj}
+use Rattle.grammar.specs.Scanning.{Lexeme, tokens-of, Scanned, lexemes, scan}
 use Rattle.grammar.specs.Grammar.{Phrase}
 use Rattle.grammar.specs.Counts.{size}
 use Rattle.grammar.specs.Rows.{table}
 use Rattle.grammar.specs.Meaning.{flat, text-table}
-use Rattle.grammar.specs.Automaton.{State, start, at, after}
+use Rattle.grammar.specs.States.{State, start, at, after}
 use Rattle.grammar.specs.Reader.{take, read}
-use Rattle.grammar.specs.Scanning.{Lexeme, tokens-of, Scanned, lexemes, scan, stuck}
 use Rattle.grammar.specs.Ranges.{flag, all-of}
-use Rattle.grammar.specs.Outcome.{has-room, out-after, out-of-range, refused, given, read-out, range-out, stuck-out, outcome}
+use Rattle.grammar.specs.Outcome.{has-room, out-after, out-of-range, refused, given, read-out, range-out, stuck-out, outcome, stuck}
 use Rattle.grammar.specs.TextRead.{text-read}
 use Rattle.grammar.specs.Written.{by-count}
 use Rattle.grammar.specs.Given.{Text-of, gives-table, table-given, read-to-end}

@@ -12,7 +12,8 @@ use Rattle.grammar.specs.Operators.{not-prefix, minus-prefix, assert-prefix, as
 use Rattle.grammar.specs.Tokens.{Leaf, constant-leaf, number-leaf, variable-leaf, leaf-makes}
 use Rattle.grammar.specs.Grammar.{Phrase, leaf, before, sort}
 use Rattle.grammar.specs.Rows.{Quad}
-use Rattle.grammar.specs.Automaton.{prefix, infix-after, Frame, pending, open-at, operand, after, at, constant-on}
+use Rattle.grammar.specs.States.{prefix, infix-after, Frame, pending, open-at, operand, after, at}
+use Rattle.grammar.specs.Automaton.{constant-on}
 use Rattle.grammar.specs.Ranges.{limit, mark-fits, variable-fits, after-minus, depth}
 use Rattle.grammar.specs.Written.{stack-rows, part-rows, constant-row, constant-writes, leaf-writes}
 use Rattle.parser.specs.declared.State.{State}

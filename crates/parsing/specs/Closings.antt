@@ -13,7 +13,8 @@ use Rattle.grammar.specs.Forms.{Place, next-place as place-after, place-takes, 
 use Rattle.grammar.specs.Grammar.{Phrase, closed, Chain, more, place, sort}
 use Rattle.grammar.specs.Counts.{begins-body, roots, last, size, chain-size}
 use Rattle.grammar.specs.Rows.{Quad, form-rows, note-rows, counts}
-use Rattle.grammar.specs.Automaton.{Frame, open-at, after, at, advance}
+use Rattle.grammar.specs.States.{Frame, open-at, after, at}
+use Rattle.grammar.specs.Automaton.{advance}
 use Rattle.grammar.specs.Ranges.{deeper, depth}
 use Rattle.grammar.specs.InRange.{next-no-body}
 use Rattle.grammar.specs.Written.{stack-size, part-rows, advance-rows, advance-writes}

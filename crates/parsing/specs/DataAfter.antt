@@ -16,7 +16,8 @@ use Rattle.grammar.specs.Operators.{Infix, infix-makes}
 use Rattle.grammar.specs.Forms.{place-takes, next-place}
 use Rattle.grammar.specs.Tokens.{Token, Ending, ends, ending, same-ending}
 use Rattle.grammar.specs.Grammar.{Phrase, place, sort}
-use Rattle.grammar.specs.Automaton.{infix-after, Frame, pending, open-at, wants, holds, apply, hole, operand, after, State, at, Reduced, reduce, reduced, token-binds, infix-at, advance, close, shift, go-on, step-at}
+use Rattle.grammar.specs.States.{infix-after, Frame, pending, open-at, wants, holds, apply, hole, operand, after, State, at}
+use Rattle.grammar.specs.Automaton.{Reduced, reduce, reduced, token-binds, infix-at, advance, close, shift, go-on, step-at}
 use Rattle.grammar.specs.Ranges.{All}
 use Rattle.grammar.specs.Outcome.{has-room}
 use Rattle.grammar.specs.Numbers.{infix-number}

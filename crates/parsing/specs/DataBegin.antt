@@ -17,7 +17,8 @@ use Rattle.grammar.specs.Operators.{Infix, not-prefix, minus-prefix, assert-pre
 use Rattle.grammar.specs.Tokens.{Leaf, constant-leaf, number-leaf, variable-leaf, truth-leaf, skip-leaf, leaf-makes, Opening, prefix-opening, form-opening, opening-makes, opening-word, opening-due, Token, numeral, variable, Beginning, leaf-beginning, opening-beginning, no-beginning}
 use Rattle.grammar.specs.Grammar.{Phrase, sort}
 use Rattle.grammar.specs.Meaning.{flat}
-use Rattle.grammar.specs.Automaton.{infix-after, Frame, pending, hole, operand, after, State, at, start, leaf-on, opening-frame, pushed, begin}
+use Rattle.grammar.specs.States.{infix-after, Frame, pending, hole, operand, after, State, at, start}
+use Rattle.grammar.specs.Automaton.{leaf-on, opening-frame, pushed, begin}
 use Rattle.grammar.specs.Ranges.{limit, variable-fits, mark-fits, leaf-flags, prefix-flags, depth, after-minus, operand-flag, All}
 use Rattle.grammar.specs.Outcome.{has-room}
 use Rattle.grammar.specs.Numbers.{most, token-number, token-value}

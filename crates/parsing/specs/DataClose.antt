@@ -12,7 +12,8 @@ use Rattle.grammar.specs.Forms.{Place, in-group, in-mark, when-first, when-seco
 use Rattle.grammar.specs.Grammar.{Phrase, closed, Chain, place, sort}
 use Rattle.grammar.specs.Counts.{begins-body}
 use Rattle.grammar.specs.Rows.{counts, form-rows, three}
-use Rattle.grammar.specs.Automaton.{Frame, open-at, after, at, advance}
+use Rattle.grammar.specs.States.{Frame, open-at, after, at}
+use Rattle.grammar.specs.Automaton.{advance}
 use Rattle.grammar.specs.Ranges.{All}
 use Rattle.grammar.specs.Outcome.{has-room}
 use Rattle.grammar.specs.Tests.{false-is-not, same-is}

@@ -1,5 +1,5 @@
--- The end of a form's last place: a group makes no row (`group-data`), a mark one with its number (`mark-data`), the other
--- forms one with their three parts (`closed-data`). Assumes nothing.
+-- The end of a form's last place: a group makes no row (`group-data`), a mark one with its number (`mark-data`), the
+-- other forms one with their three parts (`closed-data`). Assumes nothing.
 use Prim.Native.Nat.{ℕ, _+_, _-_, _%_, _≤_, _<_}
 use mathlib.Core.Path.{_≡_, sym, ap, _∙_, subst}
 use mathlib.Core.Option.{none}
@@ -14,7 +14,7 @@ use Rattle.grammar.specs.Forms.{Place, in-group, in-mark}
 use Rattle.grammar.specs.Grammar.{Phrase, closed, Chain, place, sort}
 use Rattle.grammar.specs.Counts.{size, chain-size, last, roots}
 use Rattle.grammar.specs.Rows.{counts, form-rows, three, Quad, quad}
-use Rattle.grammar.specs.Automaton.{Frame, open-at, after, at}
+use Rattle.grammar.specs.States.{Frame, open-at, after, at}
 use Rattle.grammar.specs.Ranges.{flags, depth, after-minus, All}
 use Rattle.grammar.specs.Outcome.{has-room}
 use Rattle.grammar.specs.AllLaws.{all-parts}

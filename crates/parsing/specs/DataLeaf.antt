@@ -15,7 +15,8 @@ use Rattle.grammar.specs.Tokens.{constant-leaf, number-leaf, variable-leaf, tru
 use Rattle.grammar.specs.Grammar.{Phrase, leaf, before, sort}
 use Rattle.grammar.specs.Counts.{minus}
 use Rattle.grammar.specs.Rows.{Quad, quad, constant}
-use Rattle.grammar.specs.Automaton.{prefix, infix-after, Frame, pending, open-at, operand, after, at, constant-on, leaf-on}
+use Rattle.grammar.specs.States.{prefix, infix-after, Frame, pending, open-at, operand, after, at}
+use Rattle.grammar.specs.Automaton.{constant-on, leaf-on}
 use Rattle.grammar.specs.Ranges.{limit, variable-fits, mark-fits, after-minus}
 use Rattle.grammar.specs.Outcome.{has-room}
 use Rattle.grammar.specs.Tests.{false-is-not}

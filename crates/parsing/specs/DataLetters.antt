@@ -14,7 +14,7 @@ use Rattle.grammar.specs.Operators.{semicolon, connective, relation, operator, 
 use Rattle.grammar.specs.Forms.{Place, in-group, in-mark, when-first, when-second, when-third, if-guard, if-then, if-else, while-guard, while-keep, while-fall, while-body, script-pre, script-body, script-post}
 use Rattle.grammar.specs.Grammar.{Chain, place}
 use Rattle.grammar.specs.Counts.{size, last, roots}
-use Rattle.grammar.specs.Automaton.{Pending, prefix, infix-after, Frame, pending, open-at, wants, holds as levels}
+use Rattle.grammar.specs.States.{Pending, prefix, infix-after, Frame, pending, open-at, wants, holds as levels}
 use Rattle.grammar.specs.Numbers.{infix-number}
 use Rattle.grammar.specs.Contexts.{pending-makes}
 use Rattle.grammar.specs.Written.{stack-size}

@@ -14,7 +14,8 @@ use Rattle.grammar.specs.Tokens.{Due, becomes-due, Opening, prefix-opening, for
 use Rattle.grammar.specs.Grammar.{Phrase}
 use Rattle.grammar.specs.Counts.{size, last, roots}
 use Rattle.grammar.specs.Rows.{Quad}
-use Rattle.grammar.specs.Automaton.{prefix, infix-after, Frame, pending, hole, operand, after, due, at, opening-frame, pushed}
+use Rattle.grammar.specs.States.{prefix, infix-after, Frame, pending, hole, operand, after, due, at}
+use Rattle.grammar.specs.Automaton.{opening-frame, pushed}
 use Rattle.grammar.specs.Ranges.{variable-fits}
 use Rattle.grammar.specs.Numbers.{infix-number, token-number}
 use Rattle.grammar.specs.Tests.{false-is-not}

@@ -15,7 +15,7 @@ use Rattle.grammar.specs.Operators.{Infix, semicolon, connective, relation, ope
 use Rattle.grammar.specs.Grammar.{Phrase}
 use Rattle.grammar.specs.Counts.{size, last}
 use Rattle.grammar.specs.Rows.{Quad, quad, infix-kind}
-use Rattle.grammar.specs.Automaton.{Pending, prefix, infix-after, Frame, pending}
+use Rattle.grammar.specs.States.{Pending, prefix, infix-after, Frame, pending}
 use Rattle.grammar.specs.Ranges.{depth, All}
 use Rattle.grammar.specs.Numbers.{infix-number}
 use Rattle.grammar.specs.StateFlags.{frame-flags}

@@ -16,7 +16,8 @@ use Rattle.grammar.specs.Operators.{semicolon, connective, relation, operator, 
 use Rattle.grammar.specs.Grammar.{Phrase, sort}
 use Rattle.grammar.specs.Counts.{size}
 use Rattle.grammar.specs.Rows.{Quad, counts}
-use Rattle.grammar.specs.Automaton.{Pending, prefix, infix-after, Frame, pending, open-at, wants, holds, apply, Reduced, reduce, reduced}
+use Rattle.grammar.specs.States.{Pending, prefix, infix-after, Frame, pending, open-at, wants, holds, apply}
+use Rattle.grammar.specs.Automaton.{Reduced, reduce, reduced}
 use Rattle.grammar.specs.Ranges.{depth, All}
 use Rattle.grammar.specs.Outcome.{has-room}
 use Rattle.grammar.specs.Tests.{false-is-not}

@@ -14,7 +14,8 @@ use Rattle.grammar.specs.Forms.{Place, place-takes, while-body}
 use Rattle.grammar.specs.Grammar.{Phrase, Chain, place, sort}
 use Rattle.grammar.specs.Counts.{size, chain-size, last, with-note, roots, begins-body}
 use Rattle.grammar.specs.Rows.{Quad, quad}
-use Rattle.grammar.specs.Automaton.{Frame, open-at, after, at, advance}
+use Rattle.grammar.specs.States.{Frame, open-at, after, at}
+use Rattle.grammar.specs.Automaton.{advance}
 use Rattle.grammar.specs.Outcome.{has-room}
 use Rattle.grammar.specs.Sizes.{sized}
 use Rattle.grammar.specs.Written.{stack-size, part-rows, written-in, advance-rows, advance-writes}

@@ -14,7 +14,8 @@ use Rattle.script.specs.Listing.{guarded}
 use Rattle.theorems.specs.Options.{some-inj, held}
 use Rattle.grammar.specs.Sorts.{same-sort, sort-discrete}
 use Rattle.grammar.specs.Grammar.{Phrase, sort}
-use Rattle.grammar.specs.Automaton.{Pending, Frame, pending, open-at, wants, holds, apply, Reduced, reduce, reduced}
+use Rattle.grammar.specs.States.{Pending, Frame, pending, open-at, wants, holds, apply}
+use Rattle.grammar.specs.Automaton.{Reduced, reduce, reduced}
 use Rattle.grammar.specs.Outcome.{has-room}
 use Rattle.grammar.specs.Tests.{same-is}
 use Rattle.grammar.specs.Reduces.{apply-makes}

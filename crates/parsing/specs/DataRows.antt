@@ -1,6 +1,6 @@
--- Writing a row. The lent words hold the rows so far, and zeros after them (`Held`); where there is room for one row more,
--- the machine writes it behind them (`with-words-held`, `with-row-held`) and counts it (`row-counted`).
--- Assumes nothing.
+-- Writing a row. The lent words hold the rows so far, and zeros after them (`Held`); where there is room for one row
+-- more, the machine writes it behind them (`with-words-held`, `with-row-held`) and counts it (`row-counted`). Assumes
+-- nothing.
 use Prim.Native.Nat.{ℕ, suc, _+_, _*_, _-_, _%_, _≤_, _<_}
 use mathlib.Core.Path.{_≡_, refl, sym, ap, _∙_, subst}
 use mathlib.Core.Bool.{Bool, true, false, cond, _&&_}

@@ -1,5 +1,6 @@
--- Beside `take-data`, what goes from token to token: the numbers so far are in range (`take-ranges`), and where there is room
--- at the end there is room before (`read-room`). At the end the words hold the text's rows (`whole-words`). Assumes nothing.
+-- Beside `take-data`, what goes from token to token: the numbers so far are in range (`take-ranges`), and where there
+-- is room at the end there is room before (`read-room`). At the end the words hold the text's rows (`whole-words`).
+-- Assumes nothing.
 use Prim.Native.Nat.{ℕ}
 use mathlib.Core.Path.{_≡_, sym, subst}
 use mathlib.Core.Option.{some}
@@ -10,7 +11,8 @@ use Rattle.grammar.specs.Tokens.{Token}
 use Rattle.grammar.specs.Grammar.{Phrase}
 use Rattle.grammar.specs.Text.{is-post}
 use Rattle.grammar.specs.Rows.{table}
-use Rattle.grammar.specs.Automaton.{State, at, after, step}
+use Rattle.grammar.specs.States.{State, at, after}
+use Rattle.grammar.specs.Automaton.{step}
 use Rattle.grammar.specs.Reader.{at-post, take, read}
 use Rattle.grammar.specs.Ranges.{flag, All}
 use Rattle.grammar.specs.Outcome.{has-room}

@@ -13,7 +13,7 @@ use Rattle.grammar.specs.Tokens.{constant-leaf, number-leaf, variable-leaf, tru
 use Rattle.grammar.specs.Grammar.{Phrase, leaf, before, between, closed, Chain, begun, more, place}
 use Rattle.grammar.specs.Counts.{begins-body, size, chain-size, last, with-note, roots}
 use Rattle.grammar.specs.Rows.{table, chain-table, counts}
-use Rattle.grammar.specs.Automaton.{prefix, infix-after, Frame, pending, open-at}
+use Rattle.grammar.specs.States.{prefix, infix-after, Frame, pending, open-at}
 use Rattle.grammar.specs.Ranges.{flags, depth, All}
 use Rattle.grammar.specs.Tests.{both}
 use Rattle.grammar.specs.Sizes.{table-length, chain-length}

@@ -9,7 +9,7 @@ use borrow.Author.Tests.{lt-ltb, ltb-true, ltb-false}
 use lib.Dec.{ltb}
 use lib.ListN.{length, getD, set, List·getD-eq-default}
 use lib.Seq.{getD-set-same, getD-set-other}
-use Rattle.grammar.specs.Automaton.{Frame}
+use Rattle.grammar.specs.States.{Frame}
 use Rattle.parser.specs.Machine.{frame, first-part, second-part, top-frame, put, top-after}
 use Rattle.parsing.specs.Encoding.{framed, frame-words}
 

@@ -1,5 +1,6 @@
--- What is known of words, frames and the mark's number is kept by every token that is taken (`take-data`): the machine's
--- move is the one that `take-move` names. That the machine makes this move is shown with `Control`. Assumes nothing.
+-- What is known of words, frames and the mark's number is kept by every token that is taken (`take-data`): the
+-- machine's move is the one that `take-move` names. That the machine makes this move is shown with `Control`. Assumes
+-- nothing.
 use Prim.Native.Nat.{ℕ, _+_, _-_, _<_}
 use mathlib.Core.Path.{_≡_, sym, ap, _∙_, subst}
 use mathlib.Core.Option.{Option, none, some}
@@ -14,7 +15,8 @@ use Rattle.grammar.specs.Tokens.{Token, beginning}
 use Rattle.grammar.specs.Grammar.{Phrase, words, sort}
 use Rattle.grammar.specs.Text.{is-post, post}
 use Rattle.grammar.specs.Rows.{Quad}
-use Rattle.grammar.specs.Automaton.{prefix, infix-after, Frame, pending, open-at, hole, Mode, operand, after, due, State, at, Reduced, reduce, token-binds, infix-at, is-due, step-at, step}
+use Rattle.grammar.specs.States.{prefix, infix-after, Frame, pending, open-at, hole, Mode, operand, after, due, State, at}
+use Rattle.grammar.specs.Automaton.{Reduced, reduce, token-binds, infix-at, is-due, step-at, step}
 use Rattle.grammar.specs.Reader.{at-post, take}
 use Rattle.grammar.specs.Ranges.{flags, depth, flag, All}
 use Rattle.grammar.specs.Outcome.{has-room}

@@ -1,7 +1,7 @@
--- How the machine holds a state of the automaton. Numbers and letters stand for frames, sorts and modes; the stack of the machine, read
--- from its top down, has a number for each frame (`framed`), and the parts that stand before a frame are told by the rows
--- where they end (`frame-words`). `Control` holds in every state; `Data` where the rows have room and the numbers are in
--- range so far. Assumes nothing.
+-- How the machine holds a state of the automaton. Numbers and letters stand for frames, sorts and modes; the stack of
+-- the machine, read from its top down, has a number for each frame (`framed`), and the parts that stand before a frame
+-- are told by the rows where they end (`frame-words`). `Control` holds in every state; `Data` where the rows have room
+-- and the numbers are in range so far. Assumes nothing.
 use Prim.Native.Nat.{ℕ, zero, suc, _+_, _*_, _-_, _%_}
 use mathlib.Core.Path.{_≡_}
 use mathlib.Core.Bool.{cond}
@@ -16,7 +16,7 @@ use Rattle.grammar.specs.Grammar.{place, sort}
 use Rattle.grammar.specs.Counts.{size, last, roots}
 use Rattle.grammar.specs.Rows.{counts}
 use Rattle.grammar.specs.Meaning.{flat}
-use Rattle.grammar.specs.Automaton.{Pending, prefix, infix-after, Frame, pending, open-at, Mode, operand, after, due, State}
+use Rattle.grammar.specs.States.{Pending, prefix, infix-after, Frame, pending, open-at, Mode, operand, after, due, State}
 use Rattle.grammar.specs.Ranges.{depth}
 use Rattle.grammar.specs.Outcome.{has-room}
 use Rattle.grammar.specs.Numbers.{infix-number}

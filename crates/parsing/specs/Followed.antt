@@ -1,5 +1,5 @@
--- What the machine leaves of a whole text (`followed`): it is refused where the text is stuck; otherwise it has the place
--- of the first number out of range, the rows counted, and where they have room their words. Assumes nothing.
+-- What the machine leaves of a whole text (`followed`): it is refused where the text is stuck; otherwise it has the
+-- place of the first number out of range, the rows counted, and where they have room their words. Assumes nothing.
 use Prim.Native.Nat.{ℕ, _*_, _-_, _≤_, _<_}
 use mathlib.Core.Path.{_≡_, refl, _∙_}
 use mathlib.Core.Option.{none, some}
@@ -9,15 +9,15 @@ use native.Mathlib.Omega.{arith as linear}
 use lib.IntN.{ℤ, pos}
 use lib.ListN.{length, replicate}
 use borrow.Author.Tests.{le-leb}
+use Rattle.grammar.specs.Scanning.{Lexeme, tokens-of}
 use Rattle.grammar.specs.Grammar.{Phrase}
 use Rattle.grammar.specs.Counts.{size}
 use Rattle.grammar.specs.Rows.{table}
 use Rattle.grammar.specs.Meaning.{flat}
-use Rattle.grammar.specs.Automaton.{start, at, after}
+use Rattle.grammar.specs.States.{start, at, after}
 use Rattle.grammar.specs.Reader.{read}
-use Rattle.grammar.specs.Scanning.{Lexeme, tokens-of, stuck}
 use Rattle.grammar.specs.Ranges.{depth}
-use Rattle.grammar.specs.Outcome.{has-room, out-of-range}
+use Rattle.grammar.specs.Outcome.{has-room, out-of-range, stuck}
 use Rattle.grammar.specs.TextSound.{came}
 use Rattle.grammar.specs.StateFlags.{stack-flags}
 use Rattle.grammar.specs.Sizes.{table-length}

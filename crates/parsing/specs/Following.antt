@@ -8,7 +8,7 @@ use mathlib.Core.Bool.{Bool, true, false, cond}
 use lib.ListN.{length}
 use Rattle.script.specs.Listing.{guarded}
 use Rattle.theorems.specs.Options.{none-is-not, some-inj}
-use Rattle.grammar.specs.Automaton.{State}
+use Rattle.grammar.specs.States.{State}
 use Rattle.parser.specs.Machine.{Config, out-after}
 use Rattle.parsing.specs.Encoding.{Control}
 

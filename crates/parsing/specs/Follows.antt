@@ -15,7 +15,8 @@ use Rattle.grammar.specs.Operators.{semicolon, connective, relation, operator}
 use Rattle.grammar.specs.Tokens.{Token, Due, bracket-due, becomes-due}
 use Rattle.grammar.specs.Grammar.{Phrase, place, sort}
 use Rattle.grammar.specs.Text.{is-post, post}
-use Rattle.grammar.specs.Automaton.{prefix, infix-after, Frame, pending, open-at, Mode, operand, after as after-part, due as due-then, State, at, reduce, token-binds, is-due, step-at}
+use Rattle.grammar.specs.States.{prefix, infix-after, Frame, pending, open-at, Mode, operand, after as after-part, due as due-then, State, at}
+use Rattle.grammar.specs.Automaton.{reduce, token-binds, is-due, step-at}
 use Rattle.grammar.specs.Reader.{at-post as post-at, take as take-token}
 use Rattle.grammar.specs.Ranges.{depth, flag, all-of}
 use Rattle.grammar.specs.Numbers.{token-number, token-value}

@@ -14,7 +14,8 @@ use Rattle.grammar.specs.Sorts.{Sort, number, expression, formula, statement, s
 use Rattle.grammar.specs.Operators.{infix-takes}
 use Rattle.grammar.specs.Tokens.{Token, numeral, variable, truth-word, skip-word, not-word, assert-word, becomes, infix-word, form-word, closer-word}
 use Rattle.grammar.specs.Grammar.{Phrase, sort}
-use Rattle.grammar.specs.Automaton.{Frame, pending, open-at, wants, holds, apply, after as after-part, at, Reduced, reduce, reduced, token-binds, infix-at, go-on as go-on-at, step-at}
+use Rattle.grammar.specs.States.{Frame, pending, open-at, wants, holds, apply, after as after-part, at}
+use Rattle.grammar.specs.Automaton.{Reduced, reduce, reduced, token-binds, infix-at, go-on as go-on-at, step-at}
 use Rattle.grammar.specs.Ranges.{depth}
 use Rattle.grammar.specs.Numbers.{token-number}
 use Rattle.grammar.specs.Contexts.{Good-stack}

@@ -16,7 +16,8 @@ use Rattle.grammar.specs.Forms.{group-form, mark-form, when-form, if-form, whil
 use Rattle.grammar.specs.Tokens.{bracket-closer, comma-closer, then-closer, else-closer, end-closer, keep-closer, fall-closer, do-closer, post-closer, end-of-text, Token, numeral, variable, truth-word, skip-word, not-word, assert-word, becomes, infix-word, form-word, closer-word, Leaf, truth-leaf, skip-leaf, leaf-makes, Opening, prefix-opening, form-opening, opening-makes, opening-due, opening-beginning, beginning as beginning-of}
 use Rattle.grammar.specs.Grammar.{leaf, place}
 use Rattle.grammar.specs.Rows.{Quad}
-use Rattle.grammar.specs.Automaton.{Frame, operand, after, at, hole as hole-of, opening-frame, begin as begin-at}
+use Rattle.grammar.specs.States.{Frame, operand, after, at, hole as hole-of}
+use Rattle.grammar.specs.Automaton.{opening-frame, begin as begin-at}
 use Rattle.grammar.specs.Ranges.{depth, operand-flag, all-of}
 use Rattle.grammar.specs.Numbers.{most, token-number, token-value}
 use Rattle.grammar.specs.Tests.{false-is-not}

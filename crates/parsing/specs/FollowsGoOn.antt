@@ -14,7 +14,8 @@ use Rattle.grammar.specs.Operators.{Infix, infix-takes, infix-makes}
 use Rattle.grammar.specs.Tokens.{Token, numeral, variable, truth-word, skip-word, not-word, assert-word, becomes, infix-word, form-word, closer-word, Ending, ending, same-ending, ends as ends-of}
 use Rattle.grammar.specs.Grammar.{Phrase, place, sort}
 use Rattle.grammar.specs.Counts.{begins-body}
-use Rattle.grammar.specs.Automaton.{infix-after, Frame, pending, open-at, hole as hole-of, operand, after as after-part, State, at, infix-at, close as close-at, shift}
+use Rattle.grammar.specs.States.{infix-after, Frame, pending, open-at, hole as hole-of, operand, after as after-part, State, at}
+use Rattle.grammar.specs.Automaton.{infix-at, close as close-at, shift}
 use Rattle.grammar.specs.Ranges.{depth}
 use Rattle.grammar.specs.Numbers.{infix-number}
 use Rattle.grammar.specs.Contexts.{Good-stack}

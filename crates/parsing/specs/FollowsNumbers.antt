@@ -11,7 +11,8 @@ use Rattle.grammar.specs.Sorts.{Sort, number, expression, statement, begins}
 use Rattle.grammar.specs.Operators.{not-prefix, minus-prefix, assert-prefix, assign-prefix}
 use Rattle.grammar.specs.Tokens.{numeral, variable, constant-leaf, number-leaf, variable-leaf, prefix-opening, leaf-beginning, opening-beginning, beginning as beginning-of}
 use Rattle.grammar.specs.Grammar.{place}
-use Rattle.grammar.specs.Automaton.{prefix, infix-after, Frame, pending, open-at, operand, at, hole as hole-of, begin as begin-at}
+use Rattle.grammar.specs.States.{prefix, infix-after, Frame, pending, open-at, operand, at, hole as hole-of}
+use Rattle.grammar.specs.Automaton.{begin as begin-at}
 use Rattle.grammar.specs.Ranges.{limit, mark-fits, variable-fits, after-minus, depth, operand-flag, all-of}
 use Rattle.grammar.specs.Numbers.{most, token-value}
 use Rattle.grammar.specs.Contexts.{Good-stack}

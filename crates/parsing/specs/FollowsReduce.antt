@@ -15,7 +15,8 @@ use Rattle.theorems.specs.Options.{none-is-not, some-inj}
 use Rattle.grammar.specs.Sorts.{same-sort}
 use Rattle.grammar.specs.Grammar.{Phrase, place, sort}
 use Rattle.grammar.specs.Counts.{size}
-use Rattle.grammar.specs.Automaton.{Pending, Frame, pending, open-at, wants, holds as tightness, apply, Reduced, reduce, reduced}
+use Rattle.grammar.specs.States.{Pending, Frame, pending, open-at, wants, holds as tightness, apply}
+use Rattle.grammar.specs.Automaton.{Reduced, reduce, reduced}
 use Rattle.grammar.specs.Written.{stack-size, part-rows, pending-row, Apart-on, pop-writes, apart-apply}
 use Rattle.parser.specs.Symbols.{holds, holes, makes}
 use Rattle.parser.specs.Machine.{top-frame, hold, hole, maker, fits, rows-after, operator-row, Reduced as Machine-reduced, reduced-to, reduce as machine-reduce}

@@ -12,12 +12,12 @@ use borrow.Author.Tests.{ne-eqb}
 use Rattle.script.specs.Listing.{_>>=_}
 use Rattle.theorems.specs.Options.{none-is-not, some-inj}
 use Rattle.grammar.specs.Tokens.{Token}
+use Rattle.grammar.specs.Scanning.{Lexeme, tokens-of}
 use Rattle.grammar.specs.Grammar.{words}
-use Rattle.grammar.specs.Automaton.{State}
+use Rattle.grammar.specs.States.{State}
 use Rattle.grammar.specs.Reader.{take as take-token, read}
-use Rattle.grammar.specs.Scanning.{Lexeme, tokens-of, stuck, or-at}
 use Rattle.grammar.specs.Ranges.{flag, All, all-of}
-use Rattle.grammar.specs.Outcome.{has-room, out-of-range, out-after as range-after}
+use Rattle.grammar.specs.Outcome.{has-room, out-of-range, out-after as range-after, or-at, stuck}
 use Rattle.grammar.specs.Numbers.{token-number, token-value}
 use Rattle.grammar.specs.TextSound.{Came, take-keeps}
 use Rattle.grammar.specs.AllLaws.{all-true}
@@ -55,8 +55,6 @@ out-chained o p false v l = at-test (eqb o nowhere) refl
 in-range : (b : Bool) (v : Option ℕ) (p : ℕ) → cond b v (some p) ≡ none → (b ≡ true) × (v ≡ none)
 in-range true v p e = (refl, e)
 in-range false v p e = none-is-not (sym e)
-
--- ---- ranges
 
 -- ---- along a text
 

@@ -18,7 +18,7 @@ use Rattle.grammar.specs.Operators.{semicolon, connective, relation, operator, 
 use Rattle.grammar.specs.Forms.{group-form, mark-form, when-form, if-form, while-form, script-form, Place, place-takes, in-group, in-mark, when-first, when-second, when-third, if-guard, if-then, if-else, while-guard, while-keep, while-fall, while-body, script-pre, script-body, script-post}
 use Rattle.grammar.specs.Tokens.{ending}
 use Rattle.grammar.specs.Grammar.{Phrase, Chain, begun, more, sort}
-use Rattle.grammar.specs.Automaton.{Pending, prefix, infix-after, Frame, pending, open-at, apply, hole as hole-of}
+use Rattle.grammar.specs.States.{Pending, prefix, infix-after, Frame, pending, open-at, apply, hole as hole-of}
 use Rattle.grammar.specs.Numbers.{infix-number}
 use Rattle.grammar.specs.Tests.{false-is-not}
 use Rattle.grammar.specs.Complete.{chain-takes}

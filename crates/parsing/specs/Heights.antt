@@ -10,7 +10,7 @@ use Rattle.grammar.specs.Operators.{semicolon}
 use Rattle.grammar.specs.Tokens.{Token, infix-word, due-word}
 use Rattle.grammar.specs.Grammar.{words}
 use Rattle.grammar.specs.Text.{is-post, text}
-use Rattle.grammar.specs.Automaton.{Frame, Mode, operand, after, due, State}
+use Rattle.grammar.specs.States.{Frame, Mode, operand, after, due, State}
 use Rattle.grammar.specs.Contexts.{stack-words, Reads}
 use Rattle.grammar.specs.TextSound.{Came}
 use Rattle.grammar.specs.Lengths.{stack-fits}

@@ -1,3 +1,7 @@
+-- The reader's machine (crate `parser`) does what the automaton of the grammar does. First how it holds a state
+-- (`Encoding`); then what is known of its words and stack is kept by every token that is taken (`Data...`); the letters
+-- that stand for sorts and endings (`...Letters`); then that it follows the automaton, token by token (`Follows...`),
+-- and what it leaves of a whole text (`Followed`, `Answers`). Assumes nothing.
 pub mod Encoding
 pub mod DataRows
 pub mod DataStack

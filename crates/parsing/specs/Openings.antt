@@ -11,7 +11,8 @@ use Rattle.grammar.specs.Operators.{assign-prefix}
 use Rattle.grammar.specs.Forms.{group-form, mark-form, when-form, if-form, while-form, script-form}
 use Rattle.grammar.specs.Tokens.{Due, bracket-due, becomes-due, Opening, prefix-opening, form-opening, opening-due}
 use Rattle.grammar.specs.Grammar.{sort}
-use Rattle.grammar.specs.Automaton.{prefix, Frame, pending, operand, due, at, hole as hole-of, opening-frame, pushed}
+use Rattle.grammar.specs.States.{prefix, Frame, pending, operand, due, at, hole as hole-of}
+use Rattle.grammar.specs.Automaton.{opening-frame, pushed}
 use Rattle.grammar.specs.Ranges.{variable-fits, depth}
 use Rattle.grammar.specs.Written.{push-writes}
 use Rattle.parser.specs.declared.State.{State}

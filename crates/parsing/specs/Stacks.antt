@@ -6,7 +6,7 @@ use mathlib.Core.Path.{_≡_, refl, sym, ap, _∙_, subst}
 use mathlib.Core.List.{List, [], _∷_, map}
 use native.Mathlib.Omega.{arith as linear}
 use lib.ListN.{length, getD}
-use Rattle.grammar.specs.Automaton.{Frame, hole as hole-of}
+use Rattle.grammar.specs.States.{Frame, hole as hole-of}
 use Rattle.grammar.specs.Contexts.{Good-stack}
 use Rattle.parser.specs.Symbols.{holes}
 use Rattle.parser.specs.Machine.{frame, top-frame, put, top-after, hole}

@@ -1,5 +1,6 @@
--- The loop over a text's tokens: at each place, what is left of the text comes to what the whole text comes to (`Going`). A blank and a
--- token keep that; a byte that begins no token and the end of the text give what is asked. Assumes nothing.
+-- The loop over a text's tokens: at each place, what is left of the text comes to what the whole text comes to
+-- (`Going`). A blank and a token keep that; a byte that begins no token and the end of the text give what is asked.
+-- Assumes nothing.
 use Prim.Native.Nat.{ℕ, _+_, _≤_, _<_}
 use mathlib.Core.Path.{_≡_, refl, sym, ap, _∙_}
 use mathlib.Core.Option.{Option, none, some}

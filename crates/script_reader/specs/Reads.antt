@@ -8,11 +8,11 @@ use borrow.Author.Tests.{le-leb, lt-leb}
 use lib.IntN.{ℤ, pos}
 use lib.ListN.{length, length-replicate}
 use Rattle.script.specs.Generated.{zeros}
+use Rattle.grammar.specs.Scanning.{Scanned, no-token, lexemes, scan}
 use Rattle.grammar.specs.Grammar.{Phrase}
 use Rattle.grammar.specs.Counts.{size}
 use Rattle.grammar.specs.Rows.{by-row}
 use Rattle.grammar.specs.Meaning.{text-rows, text-table}
-use Rattle.grammar.specs.Scanning.{Scanned, no-token, lexemes, scan}
 use Rattle.grammar.specs.Outcome.{refused, scanned-out, outcome}
 use Rattle.grammar.specs.Answer.{told, answer}
 use Rattle.grammar.specs.Tests.{false-is-not}

@@ -1,5 +1,5 @@
--- The scan of a text from a place on (`rest`), one blank or token at a time, and what a machine makes of it: the state after the last
--- token (`after-scan`), or the first byte that begins none (`bad-place`). Assumes nothing.
+-- The scan of a text from a place on (`rest`), one blank or token at a time, and what a machine makes of it: the state
+-- after the last token (`after-scan`), or the first byte that begins none (`bad-place`). Assumes nothing.
 use Prim.Native.Nat.{ℕ, zero, suc, _+_, _-_, _≤_, _<_}
 use mathlib.Core.Path.{_≡_, refl, sym, _∙_}
 use mathlib.Core.Option.{Option, none, some}

@@ -16,10 +16,10 @@ use lib.ListN.{length, drop}
 use Rattle.theorems.specs.Options.{went-on}
 use Rattle.grammar.specs.Sorts.{number, begins}
 use Rattle.grammar.specs.Tokens.{Token, numeral, variable, truth-word, skip-word, not-word, assert-word, becomes, infix-word, form-word, closer-word}
-use Rattle.grammar.specs.Automaton.{Frame, hole, Mode, operand, after, due, State, at, start}
-use Rattle.grammar.specs.Reader.{take, read}
 use Rattle.grammar.specs.Scanning.{Lexeme, tokens-of, Scanned, no-token, lexemes, with-first, past, Found, token-at, scan-from, scan, is-blank}
 use Rattle.grammar.specs.Scanning as Scanning
+use Rattle.grammar.specs.States.{Frame, hole, Mode, operand, after, due, State, at, start}
+use Rattle.grammar.specs.Reader.{take, read}
 use Rattle.grammar.specs.Ranges.{limit, mark-fits, depth, after-minus, operand-flag, flag, onward, read-flags, All}
 use Rattle.grammar.specs.Outcome.{given, outcome}
 use Rattle.grammar.specs.Tests.{both}

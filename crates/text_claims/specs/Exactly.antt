@@ -10,14 +10,14 @@ use lib.Dec.{eqb, leb, lit≤}
 use borrow.Author.Tests.{leb-true, leb-false, le-leb, lt-leb}
 use lib.IntN.{ℤ}
 use lib.ListN.{length}
+use Rattle.grammar.specs.Scanning.{Lexeme, tokens-of, Scanned, no-token, lexemes, scan}
 use Rattle.grammar.specs.Grammar.{Phrase}
 use Rattle.grammar.specs.Counts.{size}
 use Rattle.grammar.specs.Meaning.{text-table}
-use Rattle.grammar.specs.Automaton.{after, at, start}
+use Rattle.grammar.specs.States.{after, at, start}
 use Rattle.grammar.specs.Reader.{read}
-use Rattle.grammar.specs.Scanning.{Lexeme, tokens-of, Scanned, no-token, lexemes, scan, stuck}
 use Rattle.grammar.specs.Ranges.{All}
-use Rattle.grammar.specs.Outcome.{Outcome, refused, given, out-of-range, has-room, range-out, stuck-out, scanned-out, outcome}
+use Rattle.grammar.specs.Outcome.{Outcome, refused, given, out-of-range, has-room, range-out, stuck-out, scanned-out, outcome, stuck}
 use Rattle.grammar.specs.Tests.{false-is-not}
 use Rattle.grammar.specs.TextSound.{read-text}
 use Rattle.grammar.specs.TextRead.{text-read}

@@ -8,14 +8,14 @@ use mathlib.Core.List.{List, [], _∷_, _++_, map}
 use lib.IntN.{ℤ, pos, negsuc}
 use lib.ListN.{length}
 use Rattle.script.specs.Computed.{Row4, _⨾_}
+use Rattle.grammar.specs.Scanning.{bytes, token-at, scan-from, scan}
 use Rattle.grammar.specs.Counts.{size, roots}
 use Rattle.grammar.specs.Rows.{table}
 use Rattle.grammar.specs.Meaning.{flat, text-rows, text-table}
 use Rattle.grammar.specs.Automaton.{reduce}
 use Rattle.grammar.specs.Reader.{read}
-use Rattle.grammar.specs.Scanning.{bytes, token-at, scan-from, scan, stuck}
 use Rattle.grammar.specs.Ranges.{depth}
-use Rattle.grammar.specs.Outcome.{Outcome, given, out-of-range, outcome}
+use Rattle.grammar.specs.Outcome.{Outcome, given, out-of-range, outcome, stuck}
 
 -- a room, a text, and its answer
 abbrev pub Figure : Type 0
@@ -160,8 +160,8 @@ statements =
     ∷ does "if true then skip; skip else skip; skip end; skip"
     (true-row ⨾ skip-row ⨾ skip-row ⨾ (34, 2, 3, 0) ⨾ skip-row ⨾ skip-row ⨾ (34, 5, 6, 0) ⨾ (35, 1, 4, 7)
     ⨾ skip-row ⨾ (34, 8, 9, 0) ⨾ [])
-    -- "mark(k) names the k-th loop, outward from 1, whose body it stands in": by its row. Guard, invariant and variant of an
-    -- inner loop stand in the body of the outer
+    -- "mark(k) names the k-th loop, outward from 1, whose body it stands in": by its row. Guard, invariant and variant
+    -- of an inner loop stand in the body of the outer
     ∷ does "while true keep true fall 0 do v0 := mark(1) end"
     (true-row ⨾ true-row ⨾ n 0 ⨾ (37, 2, 3, 0) ⨾ (9, 7, 0, 0) ⨾ (33, 0, 5, 0) ⨾ (36, 1, 4, 6) ⨾ [])
     ∷ does "while true keep true fall 0 do while mark(1) < 2 keep mark(1) < 3 fall mark(1) do v0 := mark(1) + mark(2) end; v1 := mark(1) end"

@@ -1,7 +1,7 @@
--- The place that goes with 42: the numbers of a derivation, in their order, and the places of the numerals and variables of
--- its tokens stand side by side, and the place is that of the first number out of range (`First-out`). Then the same as a
--- function (`first-out`), with what it says of both (`first-says`, `says-first`, `none-first`, `first-none`).
--- Assumes nothing.
+-- The place that goes with 42: the numbers of a derivation, in their order, and the places of the numerals and
+-- variables of its tokens stand side by side, and the place is that of the first number out of range (`First-out`).
+-- Then the same as a function (`first-out`), with what it says of both (`first-says`, `says-first`, `none-first`,
+-- `first-none`). Assumes nothing.
 use Prim.Native.Nat.{ℕ, zero, suc, _<_}
 use mathlib.Core.Path.{_≡_, refl, sym}
 use mathlib.Core.Option.{Option, none, some}

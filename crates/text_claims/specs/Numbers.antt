@@ -8,9 +8,9 @@ use mathlib.Core.List.{List, [], _∷_}
 use mathlib.Core.Bool.{Bool, false}
 use lib.ListN.{getElem?}
 use Rattle.theorems.specs.Options.{none-is-not, some-inj}
-use Rattle.grammar.specs.Grammar.{Phrase}
-use Rattle.grammar.specs.Automaton.{start}
 use Rattle.grammar.specs.Scanning.{Lexeme}
+use Rattle.grammar.specs.Grammar.{Phrase}
+use Rattle.grammar.specs.States.{start}
 use Rattle.grammar.specs.Ranges.{flags, All}
 use Rattle.grammar.specs.Outcome.{refused, out-of-range, outcome}
 use Rattle.grammar.specs.Tests.{false-is-not}

@@ -10,8 +10,8 @@ use mathlib.Core.List.{List}
 use mathlib.Core.Bool.{false}
 use lib.IntN.{ℤ}
 use lib.ListN.{length}
-use Rattle.grammar.specs.Grammar.{Phrase}
 use Rattle.grammar.specs.Scanning.{Lexeme, no-token, lexemes, scan}
+use Rattle.grammar.specs.Grammar.{Phrase}
 use Rattle.grammar.specs.Ranges.{flags}
 use Rattle.grammar.specs.Outcome.{refused, given, outcome}
 use Rattle.grammar.specs.Places.{Stuck-at}

@@ -15,7 +15,8 @@ use Rattle.grammar.specs.Tokens.{Token, Leaf, constant-leaf, number-leaf, varia
 use Rattle.grammar.specs.Grammar.{Phrase, Chain, place, sort}
 use Rattle.grammar.specs.Text.{is-post, post}
 use Rattle.grammar.specs.Counts.{begins-body}
-use Rattle.grammar.specs.Automaton.{prefix, infix-after, Frame, pending, open-at, wants, holds, apply, hole, Mode, operand, after, due, State, at, Reduced, reduce, reduced, token-binds, infix-at, go-on, shift, close, advance, constant-on, leaf-on, begin, opening-frame, pushed, is-due, step-at, step}
+use Rattle.grammar.specs.States.{prefix, infix-after, Frame, pending, open-at, wants, holds, apply, hole, Mode, operand, after, due, State, at}
+use Rattle.grammar.specs.Automaton.{Reduced, reduce, reduced, token-binds, infix-at, go-on, shift, close, advance, constant-on, leaf-on, begin, opening-frame, pushed, is-due, step-at, step}
 use Rattle.grammar.specs.Reader.{at-post, take}
 use Rattle.grammar.specs.Ranges.{deeper, depth}
 

@@ -1,7 +1,7 @@
--- Number 42 without the reader: the place that is told is that of the first number of the derivation that is out of range
--- (`out-exactly`), and none is told where all are in range (`none-out`).
--- Argument: a numeral or variable that is taken begins a part, so it has one flag (`one-flag`), and the flags of the tokens
--- are those of the derivation (`text-flags`). Assumes nothing.
+-- Number 42 without the reader: the place that is told is that of the first number of the derivation that is out of
+-- range (`out-exactly`), and none is told where all are in range (`none-out`).
+-- Argument: a numeral or variable that is taken begins a part, so it has one flag (`one-flag`), and the flags of the
+-- tokens are those of the derivation (`text-flags`). Assumes nothing.
 use Prim.Native.Nat.{ℕ, suc}
 use mathlib.Core.Path.{_≡_, refl, sym, ap, _∙_}
 use mathlib.Core.Logic.{_↔_}
@@ -12,11 +12,12 @@ use lib.ListN.{length}
 use Rattle.theorems.specs.Options.{none-is-not, went-on}
 use Rattle.grammar.specs.Sorts.{Sort}
 use Rattle.grammar.specs.Tokens.{Token, numeral, variable, truth-word, skip-word, not-word, assert-word, becomes, infix-word, form-word, closer-word, Due, ends}
+use Rattle.grammar.specs.Scanning.{Lexeme, tokens-of}
 use Rattle.grammar.specs.Grammar.{Phrase}
 use Rattle.grammar.specs.Text.{is-post, Spells}
-use Rattle.grammar.specs.Automaton.{Frame, Mode, operand, after, due, State, at, start, token-binds, infix-at, reduce, go-on, is-due}
+use Rattle.grammar.specs.States.{Frame, Mode, operand, after, due, State, at, start}
+use Rattle.grammar.specs.Automaton.{token-binds, infix-at, reduce, go-on, is-due}
 use Rattle.grammar.specs.Reader.{take, read}
-use Rattle.grammar.specs.Scanning.{Lexeme, tokens-of}
 use Rattle.grammar.specs.Ranges.{operand-flag, flag, flags, read-flags, All, all-of}
 use Rattle.grammar.specs.Outcome.{out-of-range}
 use Rattle.grammar.specs.Tests.{false-is-not}

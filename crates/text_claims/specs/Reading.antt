@@ -8,11 +8,11 @@ use mathlib.Core.List.{List, []}
 use mathlib.Core.Bool.{false}
 use lib.IntN.{ℤ}
 use lib.ListN.{length}
+use Rattle.grammar.specs.Scanning.{Lexeme, tokens-of, Scanned, no-token, lexemes, scan}
 use Rattle.grammar.specs.Grammar.{Phrase}
 use Rattle.grammar.specs.Text.{Spells}
 use Rattle.grammar.specs.Counts.{size}
 use Rattle.grammar.specs.Meaning.{text-table}
-use Rattle.grammar.specs.Scanning.{Lexeme, tokens-of, Scanned, no-token, lexemes, scan}
 use Rattle.grammar.specs.Ranges.{flags, All}
 use Rattle.grammar.specs.TextRead.{text-unique}
 

@@ -4,14 +4,14 @@
 use mathlib.Core.Path.{refl}
 use mathlib.Core.List.{List, [], _∷_}
 use Rattle.script.specs.Computed.{_⨾_}
+use Rattle.grammar.specs.Scanning.{bytes, token-at, scan-from, scan}
 use Rattle.grammar.specs.Counts.{size, roots}
 use Rattle.grammar.specs.Rows.{table}
 use Rattle.grammar.specs.Meaning.{flat, text-rows, text-table}
 use Rattle.grammar.specs.Automaton.{reduce}
 use Rattle.grammar.specs.Reader.{read}
-use Rattle.grammar.specs.Scanning.{bytes, token-at, scan-from, scan, stuck}
 use Rattle.grammar.specs.Ranges.{depth}
-use Rattle.grammar.specs.Outcome.{refused, given, out-of-range, outcome}
+use Rattle.grammar.specs.Outcome.{refused, given, out-of-range, outcome, stuck}
 use Rattle.text_claims.specs.Figures.{Figure, Holds, negative, n, v, true-row, false-row, skip-row}
 
 recorded : List Figure

@@ -9,11 +9,12 @@ use mathlib.Core.List.{List, [], _∷_, _++_}
 use Rattle.script.specs.Listing.{_>>=_}
 use Rattle.theorems.specs.Options.{went-on}
 use Rattle.grammar.specs.Tokens.{Token}
+use Rattle.grammar.specs.Scanning.{Lexeme, tokens-of}
 use Rattle.grammar.specs.Grammar.{Phrase}
 use Rattle.grammar.specs.Text.{Spells}
-use Rattle.grammar.specs.Automaton.{after, State, at, start}
+use Rattle.grammar.specs.States.{after, State, at, start}
 use Rattle.grammar.specs.Reader.{take, read}
-use Rattle.grammar.specs.Scanning.{Lexeme, tokens-of, or-at, stuck}
+use Rattle.grammar.specs.Outcome.{or-at, stuck}
 use Rattle.grammar.specs.TextRead.{text-read}
 use Rattle.grammar.specs.TextViable.{read-append, Begins, text-viable}
 use Rattle.grammar.specs.Places.{Stuck-at, stuck-exactly}

@@ -29,15 +29,15 @@ use Rattle.script.specs.Words.{list-words, all-lines, line-words, expr-words, f
 use Rattle.script.specs.Listing.{read-list, read-expr-within, read-formula-within, spelled-within, found-within, line-before-within, lines-before-within, lines-within}
 use Rattle.script.specs.Promise.{All-valid, List-valid}
 use Rattle.theorems.specs.Options.{some-inj}
+use Rattle.grammar.specs.Scanning.{bytes, token-at, scan-from, scan}
 use Rattle.grammar.specs.Grammar.{Phrase}
 use Rattle.grammar.specs.Counts.{size, roots}
 use Rattle.grammar.specs.Rows.{table}
 use Rattle.grammar.specs.Meaning.{flat, text-rows, text-table, text-tree}
 use Rattle.grammar.specs.Automaton.{reduce}
 use Rattle.grammar.specs.Reader.{read}
-use Rattle.grammar.specs.Scanning.{bytes, token-at, scan-from, scan, stuck}
 use Rattle.grammar.specs.Ranges.{depth}
-use Rattle.grammar.specs.Outcome.{given, out-of-range, outcome}
+use Rattle.grammar.specs.Outcome.{given, out-of-range, outcome, stuck}
 use Rattle.text_claims.specs.Reading.{Reading}
 use Rattle.text_claims.specs.Runs.{Keeps-promise, generated, Planned, list-left, has-reading, same-script, text-runs}
 
