@@ -1,7 +1,8 @@
 -- What a scan gives, said of the bytes alone. Tokens and blanks, one after the other, cover the text: each token stands
--- at its place and is the longest that begins there (`Begins`, in Pieces), and only blanks lie between tokens and after
--- the last. A scan that gives tokens covers the whole text (`scan-reads`). One that gives a place covers the text up to
--- there, and what stands there is no blank and begins no token (`scan-stops`). Assumes nothing.
+-- at its place and is the longest that begins there (`Token-begins`, in Pieces), and only blanks lie between tokens and
+-- after the last. A scan that gives tokens covers the whole text (`scan-reads`). One that gives a place covers the text
+-- up to there, and what stands there is no blank and begins no token (`scan-stops`). The other way round is in
+-- `CoversOnce`. Assumes nothing.
 use Prim.Native.Nat.{ℕ, zero, suc, _+_, _-_, _≤_, _<_}
 use mathlib.Core.Path.{_≡_, refl, ap, subst, _∙_}
 use mathlib.Core.Option.{Option, none, some}
@@ -13,7 +14,7 @@ use lib.ListN.{length, getD, drop, length-drop}
 use lib.Seq.{drop-drop, getD-drop}
 use Rattle.grammar.specs.Tokens.{Token, closer-word, end-of-text}
 use Rattle.grammar.specs.Scanning.{is-blank, Found, token-at, Lexeme, Scanned, no-token, lexemes, with-first, past, scan-from, scan}
-use Rattle.grammar.specs.Pieces.{Begins}
+use Rattle.grammar.specs.Pieces.{Token-begins}
 use Rattle.grammar.specs.Longest.{Begun, begun, begins-some}
 
 -- from place p, where bs stands, these tokens and blanks lead to place q, where cs stands
@@ -21,13 +22,13 @@ pub data Covers (q : ℕ) (cs : List ℕ) : ℕ → List ℕ → List Lexeme →
   nothing : Covers q cs q cs []
   blank : {p b : ℕ} {bs : List ℕ} {ls : List Lexeme} → is-blank b ≡ true → Covers q cs (p + 1) bs ls
       → Covers q cs p (b ∷ bs) ls
-  token : {p n : ℕ} {bs : List ℕ} {t : Token} {ls : List Lexeme} → Begins bs t n → Covers q cs (p + n) (drop n bs) ls
+  token : {p n : ℕ} {bs : List ℕ} {t : Token} {ls : List Lexeme} → Token-begins bs t n → Covers q cs (p + n) (drop n bs) ls
       → Covers q cs p bs (record { token = t; place = p } ∷ ls)
 
 -- ---- the law
 
 -- the whole text is covered, and the end of the text is the last token
-pub record Read (bs : List ℕ) (ls : List Lexeme) : Type 0 where
+pub record Scanned-as (bs : List ℕ) (ls : List Lexeme) : Type 0 where
   pub tokens : List Lexeme
   pub covers : Covers (length bs) [] 0 bs tokens
   pub ends : ls ≡ tokens ++ (record { token = closer-word end-of-text; place = length bs } ∷ [])
@@ -38,7 +39,7 @@ pub record Stopped (bs : List ℕ) (p : ℕ) : Type 0 where
   pub covers : Covers p (drop p bs) 0 bs tokens
   pub within : p < length bs
   pub no-blank : is-blank (getD bs p 0) ≡ false
-  pub no-token : (t : Token) (n : ℕ) → Begins (drop p bs) t n → ⊥
+  pub no-token : (t : Token) (n : ℕ) → Token-begins (drop p bs) t n → ⊥
 
 -- ---- its proof, from any place on
 
@@ -54,7 +55,7 @@ record Halts (p : ℕ) (bs : List ℕ) (q : ℕ) : Type 0 where
   rest : List ℕ
   covers : Covers q (byte ∷ rest) p bs tokens
   no-blank : is-blank byte ≡ false
-  no-token : (t : Token) (n : ℕ) → Begins (byte ∷ rest) t n → ⊥
+  no-token : (t : Token) (n : ℕ) → Token-begins (byte ∷ rest) t n → ⊥
 
 abbrev Covered : ℕ → List ℕ → Scanned → Type 0
 Covered p bs (no-token q) = Halts p bs q
@@ -73,7 +74,7 @@ after-blank p b bs (no-token q) e h =
 after-blank p b bs (lexemes ls) e h =
     record { end = h .end; tokens = h .tokens; covers = blank e (h .covers); ends = h .ends }
 
-after-token : (p n : ℕ) (bs : List ℕ) (t : Token) (r : Scanned) → Begins bs t n → Covered (p + n) (drop n bs) r
+after-token : (p n : ℕ) (bs : List ℕ) (t : Token) (r : Scanned) → Token-begins bs t n → Covered (p + n) (drop n bs) r
     → Covered p bs (with-first (record { token = t; place = p }) r)
 after-token p n bs t (no-token q) e h =
     record {
@@ -133,7 +134,7 @@ reached {q} {cs} (token {p = p} {n = n} {bs = bs} e h) =
     let there = r .2 ∙ drop-drop (q - (p + n)) n bs ∙ ap (λ k. drop k bs) all in
     (omega linear, omega (linear, length-drop n bs, e .longest .within), there)
 
-whole : (bs : List ℕ) (ls : List Lexeme) → Reads 0 bs ls → Read bs ls
+whole : (bs : List ℕ) (ls : List Lexeme) → Reads 0 bs ls → Scanned-as bs ls
 whole bs ls h =
     let last : h .end ≡ length bs = omega (linear, reached (h .covers) .1) in
     record {
@@ -156,7 +157,7 @@ partly bs p h =
       no-token = rw (← here) (h .no-token);
     }
 
-pub scan-reads : (bs : List ℕ) (ls : List Lexeme) → scan bs ≡ lexemes ls → Read bs ls
+pub scan-reads : (bs : List ℕ) (ls : List Lexeme) → scan bs ≡ lexemes ls → Scanned-as bs ls
 unfolding scan
 scan-reads bs ls e = whole bs ls (subst (Covered 0 bs) e (covered (length bs) 0 bs (omega linear)))
 

@@ -59,6 +59,8 @@ pub mod Fronts
 pub mod Finding
 pub mod Longest
 pub mod Covers
+pub mod OneToken
+pub mod CoversOnce
 pub mod Scans
 pub mod Places
 -- ---- ranges

@@ -13,7 +13,7 @@ use lib.ListN.{length, take}
 use lib.Seq.{length-take-le}
 use Rattle.grammar.specs.Tokens.{Token}
 use Rattle.grammar.specs.Scanning.{is-digit, is-letter, is-word-byte, front, Spelling, keywords, symbols, Found, word-of, symbol-of, numeral-of, token-at}
-use Rattle.grammar.specs.Pieces.{All, Word, Listed, Piece, digits, word, symbol, Spells, as-numeral, as-variable, as-keyword, as-symbol, Longest, Begins}
+use Rattle.grammar.specs.Pieces.{All, Word, Listed, Piece, digits, word, symbol, Spelled-by, as-numeral, as-variable, as-keyword, as-symbol, Longest, Token-begins}
 use Rattle.grammar.specs.Tests.{false-is-not, both}
 use Rattle.grammar.specs.Fronts.{digit-range, letter-range, run, front-fits, length-run, all-run, run-longest}
 use Rattle.grammar.specs.Finding.{Finds, Word-token, finds-word, Starts, starts}
@@ -44,7 +44,7 @@ symbol-head t b w l =
     let h = both (not (is-digit b)) (not (is-letter b)) (listed-head symbols t (b ∷ w) refl l) in
     (not-true (is-digit b) (h .0), not-true (is-letter b) (h .1))
 
-piece-some : (w : List ℕ) → Piece w → 1 ≤ length w
+pub piece-some : (w : List ℕ) → Piece w → 1 ≤ length w
 piece-some [] (digits d) = absurd d
 piece-some [] (word d) = absurd d
 piece-some [] (symbol t l) = false-is-not (listed-head symbols t [] refl l)
@@ -62,7 +62,7 @@ piece-word b w e (symbol t l) = false-is-not (sym (symbol-head t b w l .1) ∙ e
 
 -- ---- the longest piece
 
-one-longest : {bs : List ℕ} {n m : ℕ} → Longest bs n → Longest bs m → n ≡ m
+pub one-longest : {bs : List ℕ} {n m : ℕ} → Longest bs n → Longest bs m → n ≡ m
 one-longest {n = n} {m = m} h k =
     omega (linear, h .none-longer m (k .within) (k .piece), k .none-longer n (h .within) (h .piece))
 
@@ -78,15 +78,15 @@ longest-run p b bs e only made = record {
     at-most zero h q = omega linear
     at-most (suc m) h q = run-longest p (suc m) (b ∷ bs) h (e, only (take m bs) q)
 
-pub begins-some : {bs : List ℕ} {t : Token} {n : ℕ} → Begins bs t n → 1 ≤ n
+pub begins-some : {bs : List ℕ} {t : Token} {n : ℕ} → Token-begins bs t n → 1 ≤ n
 begins-some {bs} {n = n} h =
     omega (linear, piece-some (take n bs) (h .longest .piece), length-take-le n bs (h .longest .within))
 
 -- ---- what begins here
 
 abbrev pub Begun : List ℕ → Option Found → Type 0
-Begun bs none = (t : Token) (n : ℕ) → Begins bs t n → ⊥
-Begun bs (some f) = Begins bs (f .token) (f .size)
+Begun bs none = (t : Token) (n : ℕ) → Token-begins bs t n → ⊥
+Begun bs (some f) = Token-begins bs (f .token) (f .size)
 
 begun-numeral : (b : ℕ) (bs : List ℕ) → is-digit b ≡ true → Begun (b ∷ bs) (numeral-of (run is-digit (b ∷ bs)))
 begun-numeral b bs d =
@@ -97,7 +97,7 @@ begun-numeral b bs d =
     })
 
 -- the tokens that a word spells
-word-spells : (w : List ℕ) (t : Token) → Word w → Spells w t → Word-token keywords w t
+word-spells : (w : List ℕ) (t : Token) → Word w → Spelled-by w t → Word-token keywords w t
 word-spells [] t h s = absurd h
 word-spells (b ∷ w) t h (as-numeral d q) = absurd (digit-no-letter b (d .0) (h .0))
 word-spells (b ∷ w) t h (as-variable ds d i q) =
@@ -105,7 +105,7 @@ word-spells (b ∷ w) t h (as-variable ds d i q) =
 word-spells (b ∷ w) t h (as-keyword l) = inl l
 word-spells (b ∷ w) t h (as-symbol l) = false-is-not (sym (symbol-head t b w l .1) ∙ h .0)
 
-spells-word : (w : List ℕ) (t : Token) → Word-token keywords w t → Spells w t
+spells-word : (w : List ℕ) (t : Token) → Word-token keywords w t → Spelled-by w t
 spells-word w t (inl l) = as-keyword l
 spells-word w t (inr v) = as-variable (v .after-v) (v .all-digits) (v .is-word) (v .is-token)
 
@@ -125,7 +125,7 @@ begun-word b bs e =
     at-found : (o : Option Found) → Finds (run is-word-byte (b ∷ bs)) (Word-token keywords (run is-word-byte (b ∷ bs))) o
         → Begun (b ∷ bs) o
     at-found none h = λ t n begins.
-        let spells = subst (λ k. Spells (take k (b ∷ bs)) t) (one-longest (begins .longest) longest) (begins .spells) in
+        let spells = subst (λ k. Spelled-by (take k (b ∷ bs)) t) (one-longest (begins .longest) longest) (begins .spells) in
         h t (word-spells (run is-word-byte (b ∷ bs)) t is-word spells)
     at-found (some f) h =
         rw (h .0 ∙ length-run is-word-byte (b ∷ bs))

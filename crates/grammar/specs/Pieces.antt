@@ -37,11 +37,11 @@ pub data Piece (w : List ℕ) : Type 0 where
   symbol : (t : Token) → Listed symbols t w → Piece w
 
 -- w is how t is written
-pub data Spells (w : List ℕ) (t : Token) : Type 0 where
-  as-numeral : Digits w → numeral (number w) ≡ t → Spells w t
-  as-variable : (ds : List ℕ) → Digits ds → 118 ∷ ds ≡ w → variable (number ds) ≡ t → Spells w t
-  as-keyword : Listed keywords t w → Spells w t
-  as-symbol : Listed symbols t w → Spells w t
+pub data Spelled-by (w : List ℕ) (t : Token) : Type 0 where
+  as-numeral : Digits w → numeral (number w) ≡ t → Spelled-by w t
+  as-variable : (ds : List ℕ) → Digits ds → 118 ∷ ds ≡ w → variable (number ds) ≡ t → Spelled-by w t
+  as-keyword : Listed keywords t w → Spelled-by w t
+  as-symbol : Listed symbols t w → Spelled-by w t
 
 -- the longest piece at the front of bs has n bytes
 pub record Longest (bs : List ℕ) (n : ℕ) : Type 0 where
@@ -50,6 +50,6 @@ pub record Longest (bs : List ℕ) (n : ℕ) : Type 0 where
   pub none-longer : (m : ℕ) → m ≤ length bs → Piece (take m bs) → m ≤ n
 
 -- the token t begins at the front of bs, and has n bytes
-pub record Begins (bs : List ℕ) (t : Token) (n : ℕ) : Type 0 where
+pub record Token-begins (bs : List ℕ) (t : Token) (n : ℕ) : Type 0 where
   pub longest : Longest bs n
-  pub spells : Spells (take n bs) t
+  pub spells : Spelled-by (take n bs) t
