@@ -1,32 +1,28 @@
--- "or with a leading zero": such a numeral is scanned as 4294967295 (`leading-zero-out`), and no text that is read
--- has a numeral above 2147483648, a mark's k too, or a variable above 1023 (`read-within`). So none that is read has
--- a leading zero.
+-- Where the numbers of a derivation are in range, no numeral is above 2147483648, a mark's k too, and no variable above
+-- 1023 (`range-within`).
 -- Argument: a mark's k is at most the number of bodies that are open, a token opens one at most (`opens-one`), and a
 -- text of 32,768 bytes has at most 32,769 tokens (`few-tokens`). Assumes nothing.
-use Prim.Native.Nat.{ℕ, zero, suc, _+_, _≤_, _<_}
-use mathlib.Core.Path.{_≡_, sym, ap, _∙_, subst}
-use mathlib.Core.Option.{Option, none, some}
+use Prim.Native.Nat.{ℕ, suc, _+_, _≤_, _<_}
+use mathlib.Core.Path.{_≡_, ap, subst}
+use mathlib.Core.Option.{Option, some}
 use mathlib.Core.List.{List, [], _∷_}
-use mathlib.Core.Bool.{Bool, true, false, cond}
+use mathlib.Core.Bool.{Bool, true, false, cond, _&&_}
 use native.Mathlib.Omega.{arith as linear}
 use borrow.Author.Tests.{leb-true, ltb-true}
 use lib.Dec.{leb}
-use lib.IntN.{ℤ}
-use lib.ListN.{length, drop}
+use lib.ListN.{length, length-append, length-drop}
 use Rattle.theorems.specs.Options.{went-on}
-use Rattle.grammar.specs.Sorts.{number, begins}
-use Rattle.grammar.specs.Tokens.{Token, numeral, variable, truth-word, skip-word, not-word, assert-word, becomes, infix-word, form-word, closer-word}
-use Rattle.grammar.specs.Scanning.{Lexeme, tokens-of, Scanned, no-token, lexemes, with-first, past, Found, token-at, scan-from, scan, is-blank}
-use Rattle.grammar.specs.Scanning as Scanning
-use Rattle.grammar.specs.States.{Frame, hole, Mode, operand, after, due, State, at, start}
-use Rattle.grammar.specs.Reader.{take, read}
-use Rattle.grammar.specs.Ranges.{limit, mark-fits, depth, after-minus, operand-flag, flag, onward, read-flags, All}
-use Rattle.grammar.specs.Outcome.{given, outcome}
-use Rattle.grammar.specs.Tests.{both}
+use Rattle.grammar.specs.Tokens.{number, begins, Token, numeral, variable, truth-word, skip-word, not-word, assert-word, becomes, infix-word, form-word, closer-word, end-of-text}
+use Rattle.grammar.specs.Grammar.{Phrase}
+use Rattle.grammar.specs.Automaton.{Frame, hole, Mode, operand, after, due, State, at, start}
+use Rattle.grammar.specs.Text.{take, read}
 use Rattle.grammar.specs.TextRead.{text-read}
-use Rattle.grammar.specs.AllLaws.{all-parts}
-use Rattle.grammar.specs.Given.{table-given}
-use Rattle.text_claims.specs.Reading.{same-lexemes}
+use Rattle.grammar.specs.Tables.{false-is-not}
+use Rattle.grammar.specs.Scanning.{Lexeme, tokens-of}
+use Rattle.grammar.specs.Longest.{begins-some}
+use Rattle.grammar.specs.Covers.{Covers, nothing, blank, token, Scanned-as}
+use Rattle.grammar.specs.InRange.{limit, mark-fits, depth, after-minus, operand-flag, flag, onward, read-flags, All, all-parts, text-flags}
+use Rattle.text_claims.specs.Reading.{Reading, Short, In-range}
 use Rattle.text_claims.specs.FirstOut.{is-number}
 use Rattle.text_claims.specs.Ranges.{One-if, one-flag}
 use Rattle.text_claims.specs.OpenBodies.{open-bodies, opens-one}
@@ -49,15 +45,15 @@ abbrev pub All-within : List Lexeme → Type 0
 All-within [] = Unit {0}
 All-within (l ∷ ls) = Within (l .token) × All-within ls
 
-pub leading-zero-out : (d : ℕ) (ds : List ℕ)
-    → (¬ Within (numeral (Scanning.number (48 ∷ d ∷ ds)))) × (¬ Within (variable (Scanning.number (48 ∷ d ∷ ds))))
-leading-zero-out d ds = (λ h. omega linear, λ h. omega linear)
-
 -- ---- a flag says it
+
+both : (a b : Bool) → (a && b) ≡ true → b ≡ true
+both true b e = e
+both false b e = false-is-not e
 
 numeral-within : (mark minus : Bool) (d n : ℕ) → d ≤ 2147483648 → cond mark (mark-fits d n) (leb n (limit minus)) ≡ true
     → n ≤ 2147483648
-numeral-within true minus d n l e = let k = leb-true n d (both (leb 1 n) (leb n d) e .1) in omega linear
+numeral-within true minus d n l e = let k = leb-true n d (both (leb 1 n) (leb n d) e) in omega linear
 numeral-within false true d n l e = leb-true n 2147483648 e
 numeral-within false false d n l e = let k = leb-true n 2147483647 e in omega linear
 
@@ -89,7 +85,7 @@ no-flag (infix-word o) h = tt
 no-flag (form-word f) h = tt
 no-flag (closer-word c) h = tt
 
-flag-within : (m : Mode) (fs : List Frame) (t : Token) (r : State) → take (at m fs) t ≡ some r → depth fs ≤ 2147483648
+pub flag-within : (m : Mode) (fs : List Frame) (t : Token) (r : State) → take (at m fs) t ≡ some r → depth fs ≤ 2147483648
     → All (flag m fs t) → Within t
 flag-within operand fs t r e l h = operand-within fs t l h
 flag-within (after x) fs t r e l h = no-flag t (one-flag (after x) fs t r e)
@@ -114,48 +110,26 @@ all-within (t ∷ ls) s r e l h =
 
 -- ---- tokens of a text
 
-abbrev Few : ℕ → Scanned → Type 0
-Few n (no-token p) = Unit {0}
-Few n (lexemes ls) = length ls ≤ n
+few : {q p : ℕ} {cs bs : List ℕ} {ls : List Lexeme} → Covers q cs p bs ls → length ls + length cs ≤ length bs
+few nothing = omega linear
+few (blank e h) = omega (linear, few h)
+few (token {n = n} {bs = bs} b h) = omega (linear, few h, begins-some b, b .longest .within, length-drop n bs)
 
-few-more : (n : ℕ) (l : Lexeme) (o : Scanned) → Few n o → Few (suc n) (with-first l o)
-few-more n l (no-token p) h = tt
-few-more n l (lexemes ls) h = omega linear
+few-tokens : (bytes : List ℕ) (ls : List Lexeme) → Scanned-as bytes ls → length ls ≤ suc (length bytes)
+few-tokens bytes ls h =
+    let last : List Lexeme = record { token = closer-word end-of-text; place = length bytes } ∷ [] in
+    omega (linear, few (h .covers), ap length (h .ends), length-append (h .tokens) last)
 
-few-later : (n : ℕ) (o : Scanned) → Few n o → Few (suc n) o
-few-later n (no-token p) h = tt
-few-later n (lexemes ls) h = omega linear
+-- ---- a text with a derivation
 
-few-from : (n p : ℕ) (bs : List ℕ) → Few (suc n) (scan-from n p bs)
-unfolding scan-from
-few-from zero p bs = omega linear
-few-from (suc n) p [] = omega linear
-few-from (suc n) p (b ∷ bs) =
-    at-test (is-blank b) (token-at (b ∷ bs)) (few-from n (p + 1) bs) (λ q cs. few-from n q cs)
-  where
-    at-test : (k : Bool) (o : Option Found) → Few (suc n) (scan-from n (p + 1) bs)
-        → ((q : ℕ) (cs : List ℕ) → Few (suc n) (scan-from n q cs))
-        → Few (suc (suc n)) (cond k (scan-from n (p + 1) bs) (past o (λ q cs. scan-from n q cs) p (b ∷ bs)))
-    at-test true o here again = few-later (suc n) (scan-from n (p + 1) bs) here
-    at-test false none here again = tt
-    at-test false (some f) here again = let later = drop (f .size) (b ∷ bs) in
-        let q = p + f .size in
-        few-more (suc n) (record { token = f .token; place = p }) (scan-from n q later) (again q later)
+module _ (bytes : List ℕ) (short : Short bytes) (x : Phrase) (r : Reading bytes x) where
+  -- the bodies that its tokens could open
+  pub few-open : open-bodies start + length (r .found) ≤ 2147483648
+  unfolding depth
+  few-open = omega (linear, few-tokens bytes (r .found) (r .covered))
 
-few-tokens : (bytes : List ℕ) (ls : List Lexeme) → scan bytes ≡ lexemes ls → length ls ≤ suc (length bytes)
-unfolding scan
-few-tokens bytes ls e = subst (Few (suc (length bytes))) e (few-from (length bytes) 0 bytes)
-
--- ---- a text that is read
-
-pub read-within : (room : ℕ) (bytes : List ℕ) (table : List ℤ) → outcome room bytes ≡ given table
-    → (ls : List Lexeme) → scan bytes ≡ lexemes ls → All-within ls
-unfolding depth
-read-within room bytes table read ls scanned =
-    let g = table-given room bytes table read in
-    let t = g .is in
-    let same = same-lexemes (t .found) ls (sym (t .scanned) ∙ scanned) in
-    let few = few-tokens bytes (t .found) (t .scanned) in
-    let short = leb-true (length bytes) 32768 (t .short) in
-    let whole = text-read (g .of) (tokens-of (t .found)) (t .spells) in
-    subst All-within same (all-within (t .found) start (at (after (g .of)) []) whole (omega linear) (t .ranges))
+  pub range-within : In-range x → All-within (r .found)
+  range-within h =
+      let ts = tokens-of (r .found) in
+      all-within (r .found) start (at (after x) []) (text-read x ts (r .spells)) few-open
+      (subst All (text-flags x ts (r .spells)) h)

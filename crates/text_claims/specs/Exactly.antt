@@ -10,20 +10,17 @@ use lib.Dec.{eqb, leb, lit≤}
 use borrow.Author.Tests.{leb-true, leb-false, le-leb, lt-leb}
 use lib.IntN.{ℤ}
 use lib.ListN.{length}
-use Rattle.grammar.specs.Scanning.{Lexeme, tokens-of, Scanned, no-token, lexemes, scan}
 use Rattle.grammar.specs.Grammar.{Phrase}
-use Rattle.grammar.specs.Counts.{size}
-use Rattle.grammar.specs.Meaning.{text-table}
-use Rattle.grammar.specs.States.{after, at, start}
-use Rattle.grammar.specs.Reader.{read}
-use Rattle.grammar.specs.Ranges.{All}
-use Rattle.grammar.specs.Outcome.{Outcome, refused, given, out-of-range, has-room, range-out, stuck-out, scanned-out, outcome, stuck}
-use Rattle.grammar.specs.Tests.{false-is-not}
-use Rattle.grammar.specs.TextSound.{read-text}
-use Rattle.grammar.specs.TextRead.{text-read}
-use Rattle.grammar.specs.InRange.{text-flags}
-use Rattle.grammar.specs.Given.{gives-table, read-to-end}
-use Rattle.text_claims.specs.Reading.{Reading, In-range, Fits, Read}
+use Rattle.grammar.specs.Automaton.{after, at, start}
+use Rattle.grammar.specs.Meaning.{size, text-table}
+use Rattle.grammar.specs.Tables.{false-is-not}
+use Rattle.grammar.specs.Text.{read}
+use Rattle.grammar.specs.TextRead.{text-read, read-text}
+use Rattle.grammar.specs.Scanning.{Lexeme, tokens-of, Scanned, no-token, lexemes, scan, stuck}
+use Rattle.grammar.specs.CoversOnce.{stops-exactly}
+use Rattle.grammar.specs.InRange.{All, text-flags}
+use Rattle.grammar.specs.Outcome.{Outcome, refused, given, out-of-range, has-room, range-out, stuck-out, scanned-out, outcome, gives-table, read-to-end}
+use Rattle.text_claims.specs.Reading.{Reading, In-range, Fits, Read, scan-of}
 use Rattle.text_claims.specs.Ranges.{out-exactly, none-out}
 use Rattle.text_claims.specs.Stuck.{stuck-iff, derived-not-stuck}
 use Rattle.text_claims.specs.Occasions.{No-token-at, No-text-at, Out-of-range-at, No-room, Read-exactly}
@@ -52,11 +49,11 @@ module _ (room : ℕ) (bytes : List ℕ) where
 
   no-token-told : (p : ℕ) → No-token-at bytes p → outcome room bytes ≡ refused 40 p
   unfolding outcome
-  no-token-told p h = rw (le-leb (length bytes) 32768 (h .short), h .scanned)
+  no-token-told p h = rw (le-leb (length bytes) 32768 (h .short), stops-exactly bytes p .1 (h .stopped))
 
   no-text-told : (p : ℕ) → No-text-at bytes p → outcome room bytes ≡ refused 41 p
   unfolding outcome
-  no-text-told p h = rw (le-leb (length bytes) 32768 (h .short), h .scanned, stuck-iff (h .found) p .1 (h .stuck-at))
+  no-text-told p h = rw (le-leb (length bytes) 32768 (h .short), scan-of bytes (h .found) .0 (h .covered), stuck-iff (h .found) p .1 (h .stuck-at))
 
   out-told : (p : ℕ) → Out-of-range-at bytes p → outcome room bytes ≡ refused 42 p
   unfolding outcome
@@ -64,7 +61,7 @@ module _ (room : ℕ) (bytes : List ℕ) where
       let r = h .reading in
       let x = h .of in
       let free = derived-not-stuck x (r .found) (r .spells) in
-      rw (le-leb (length bytes) 32768 (h .short), r .scanned, free, out-exactly x (r .found) (r .spells) p .1 (h .first))
+      rw (le-leb (length bytes) 32768 (h .short), scan-of bytes (r .found) .0 (r .covered), free, out-exactly x (r .found) (r .spells) p .1 (h .first))
 
   full-told : No-room room bytes → outcome room bytes ≡ refused 43 0
   unfolding outcome
@@ -74,7 +71,7 @@ module _ (room : ℕ) (bytes : List ℕ) where
       let free = derived-not-stuck x (r .found) (r .spells) in
       let within = none-out x (r .found) (r .spells) .1 (h .in-range) in
       let whole = text-read x (tokens-of (r .found)) (r .spells) in
-      rw (le-leb (length bytes) 32768 (h .short), r .scanned, free, within, whole, not-room (has-room room (size x)) refl)
+      rw (le-leb (length bytes) 32768 (h .short), scan-of bytes (r .found) .0 (r .covered), free, within, whole, not-room (has-room room (size x)) refl)
     where
       not-room : (k : Bool) → has-room room (size (h .of)) ≡ k → k ≡ false
       not-room true e = absurd (h .full (tested-fits room (h .of) e))
@@ -87,7 +84,7 @@ module _ (room : ℕ) (bytes : List ℕ) where
       gives-table room bytes x (record {
         short = le-leb (length bytes) 32768 (h .short);
         found = r .found;
-        scanned = r .scanned;
+        scanned = scan-of bytes (r .found) .0 (r .covered);
         spells = r .spells;
         ranges = subst All (text-flags x (tokens-of (r .found)) (r .spells)) (h .in-range);
         room-for = fits-tested room x (h .fits);
@@ -126,20 +123,20 @@ module _ (room : ℕ) (bytes : List ℕ) where
           → (o : Option ℕ) → out-of-range start ls ≡ o → Occasion (range-out room ls o)
       at-range x e (some p) h =
           let spells = read-text x (tokens-of ls) e in
-          let r : Reading bytes x = record { found = ls; scanned = scanned; spells = spells } in
+          let r : Reading bytes x = record { found = ls; covered = scan-of bytes ls .1 scanned; spells = spells } in
           ((lit≤ tt, lit≤ tt), record { short = short; of = x; reading = r; first = out-exactly x ls spells p .0 h })
       at-range x e none h =
           let spells = read-text x (tokens-of ls) e in
-          let r : Reading bytes x = record { found = ls; scanned = scanned; spells = spells } in
+          let r : Reading bytes x = record { found = ls; covered = scan-of bytes ls .1 scanned; spells = spells } in
           rw e (at-room x r (none-out x ls spells .0 h) (has-room room (size x)) refl)
 
       at-stuck : (o : Option ℕ) → stuck start ls ≡ o → Occasion (stuck-out room ls o)
       at-stuck (some p) h =
-          ((lit≤ tt, lit≤ tt), record { short = short; found = ls; scanned = scanned; stuck-at = stuck-iff ls p .0 h })
+          ((lit≤ tt, lit≤ tt), record { short = short; found = ls; covered = scan-of bytes ls .1 scanned; stuck-at = stuck-iff ls p .0 h })
       at-stuck none h = let w = read-to-end bytes ls scanned h in at-range (w .0) (w .1) (out-of-range start ls) refl
 
     at-scan : (o : Scanned) → scan bytes ≡ o → Occasion (scanned-out room o)
-    at-scan (no-token p) h = ((lit≤ tt, lit≤ tt), record { short = short; scanned = h })
+    at-scan (no-token p) h = ((lit≤ tt, lit≤ tt), record { short = short; stopped = stops-exactly bytes p .0 h })
     at-scan (lexemes ls) h = at-stuck ls h (stuck start ls) refl
 
   at-length : (k : Bool) → leb (length bytes) 32768 ≡ k

@@ -8,13 +8,14 @@ use mathlib.Core.List.{List, [], _∷_}
 use mathlib.Core.Bool.{Bool, false}
 use lib.ListN.{getElem?}
 use Rattle.theorems.specs.Options.{none-is-not, some-inj}
-use Rattle.grammar.specs.Scanning.{Lexeme}
+use Rattle.grammar.specs.Tables.{false-is-not}
 use Rattle.grammar.specs.Grammar.{Phrase}
-use Rattle.grammar.specs.States.{start}
-use Rattle.grammar.specs.Ranges.{flags, All}
+use Rattle.grammar.specs.Automaton.{start}
+use Rattle.grammar.specs.Scanning.{Lexeme}
+use Rattle.grammar.specs.CoversOnce.{one-scan}
+use Rattle.grammar.specs.InRange.{flags, All}
 use Rattle.grammar.specs.Outcome.{refused, out-of-range, outcome}
-use Rattle.grammar.specs.Tests.{false-is-not}
-use Rattle.text_claims.specs.Reading.{Reading, Short, In-range, same-lexemes, one-reading}
+use Rattle.text_claims.specs.Reading.{Reading, Short, In-range, one-reading}
 use Rattle.text_claims.specs.FirstOut.{number-places, First-out}
 use Rattle.text_claims.specs.Ranges.{out-exactly, none-out}
 use Rattle.text_claims.specs.Occasions.{Out-of-range-at}
@@ -39,7 +40,7 @@ module _ (room : ℕ) (bytes : List ℕ) (short : Short bytes) (x : Phrase) (r :
       same : Out-of-range-at bytes p → First-out (flags 0 false x) (number-places (r .found)) p
       same h =
           let q = h .reading in
-          let lexemes-same = same-lexemes (q .found) (r .found) (sym (q .scanned) ∙ r .scanned) in
+          let lexemes-same = one-scan bytes (q .found) (r .found) (q .covered) (r .covered) in
           subst (λ (y : Phrase). First-out (flags 0 false y) (number-places (r .found)) p)
           (one-reading bytes (h .of) x q r)
           (subst (λ (ls : List Lexeme). First-out (flags 0 false (h .of)) (number-places ls) p) lexemes-same (h .first))

@@ -10,24 +10,27 @@ use mathlib.Core.List.{List}
 use mathlib.Core.Bool.{false}
 use lib.IntN.{ℤ}
 use lib.ListN.{length}
-use Rattle.grammar.specs.Scanning.{Lexeme, no-token, lexemes, scan}
 use Rattle.grammar.specs.Grammar.{Phrase}
-use Rattle.grammar.specs.Ranges.{flags}
-use Rattle.grammar.specs.Outcome.{refused, given, outcome}
+use Rattle.grammar.specs.Scanning.{Lexeme}
+use Rattle.grammar.specs.Covers.{Scanned-as, Stopped}
+use Rattle.grammar.specs.InRange.{flags}
 use Rattle.grammar.specs.Places.{Stuck-at}
+use Rattle.grammar.specs.Outcome.{refused, given, outcome}
 use Rattle.text_claims.specs.Reading.{Reading, Short, In-range, Fits, Read}
 use Rattle.text_claims.specs.FirstOut.{number-places, First-out}
 
 -- 40: "at the first byte that begins no token"
 pub record No-token-at (bytes : List ℕ) (p : ℕ) : Type 0 where
   pub short : Short bytes
-  pub scanned : scan bytes ≡ no-token p
+  -- tokens and blanks cover the text up to p, where a byte stands that is no blank and begins no token
+  pub stopped : Stopped bytes p
 
 -- 41: "at the first token that no text of the grammar, ranges aside, could have there (or the text's end)"
 pub record No-text-at (bytes : List ℕ) (p : ℕ) : Type 0 where
   pub short : Short bytes
   pub found : List Lexeme
-  pub scanned : scan bytes ≡ lexemes found
+  -- these tokens, with blanks between them, cover the text
+  pub covered : Scanned-as bytes found
   -- the tokens before p begin some text, and with the one at p they begin none
   pub stuck-at : Stuck-at found p
 

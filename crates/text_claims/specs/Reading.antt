@@ -1,25 +1,27 @@
 -- What the theorems of this crate speak of: a derivation of a text (`Reading`), that its numbers are in range
--- (`In-range`), that its rows have room (`Fits`), and a text that is read into a table (`Read`). A text has one
--- derivation at most (`one-reading`), so what is said of any derivation of a text is said of its script, `text-tree`.
+-- (`In-range`), that its rows have room (`Fits`), and a text that is read into a table (`Read`). The tokens are said of
+-- the bytes alone, by what covers them; the scan gives just these (`scan-of`). A text has one derivation at most (`one-reading`), so what is said of any derivation of a text is said of its script, `text-tree`.
 -- Assumes nothing.
 use Prim.Native.Nat.{ℕ, _*_, _≤_}
-use mathlib.Core.Path.{_≡_, sym, ap, _∙_, subst}
-use mathlib.Core.List.{List, []}
+use mathlib.Core.Path.{_≡_, subst}
+use mathlib.Core.Logic.{_↔_}
+use mathlib.Core.List.{List}
 use mathlib.Core.Bool.{false}
 use lib.IntN.{ℤ}
 use lib.ListN.{length}
-use Rattle.grammar.specs.Scanning.{Lexeme, tokens-of, Scanned, no-token, lexemes, scan}
 use Rattle.grammar.specs.Grammar.{Phrase}
 use Rattle.grammar.specs.Text.{Spells}
-use Rattle.grammar.specs.Counts.{size}
-use Rattle.grammar.specs.Meaning.{text-table}
-use Rattle.grammar.specs.Ranges.{flags, All}
 use Rattle.grammar.specs.TextRead.{text-unique}
+use Rattle.grammar.specs.Meaning.{size, text-table}
+use Rattle.grammar.specs.Scanning.{Lexeme, tokens-of, lexemes, scan}
+use Rattle.grammar.specs.Covers.{Scanned-as}
+use Rattle.grammar.specs.CoversOnce.{one-scan, reads-exactly}
+use Rattle.grammar.specs.InRange.{flags, All}
 
--- x is a derivation of the text: its tokens are those of the bytes
+-- x is a derivation of the text: its tokens are those which, with blanks between them, cover the bytes
 pub record Reading (bytes : List ℕ) (x : Phrase) : Type 0 where
   pub found : List Lexeme
-  pub scanned : scan bytes ≡ lexemes found
+  pub covered : Scanned-as bytes found
   pub spells : Spells x (tokens-of found)
 
 -- "at most 32,768 bytes"
@@ -45,16 +47,13 @@ pub record Read (room : ℕ) (bytes : List ℕ) (table : List ℤ) : Type 0 wher
 
 -- ---- one derivation
 
-abbrev found-in : Scanned → List Lexeme
-found-in (no-token p) = []
-found-in (lexemes ls) = ls
-
-pub same-lexemes : (ls ms : List Lexeme) → lexemes ls ≡ lexemes ms → ls ≡ ms
-same-lexemes ls ms e = ap found-in e
+-- the tokens of a derivation are those that the scan gives, and the other way round
+pub scan-of : (bytes : List ℕ) (ls : List Lexeme) → Scanned-as bytes ls ↔ (scan bytes ≡ lexemes ls)
+scan-of bytes ls = let e = reads-exactly bytes ls in (e .1, e .0)
 
 -- "Each text of the grammar has one reading"
 pub one-reading : (bytes : List ℕ) (x y : Phrase) → Reading bytes x → Reading bytes y → x ≡ y
 one-reading bytes x y r q =
-    let same = same-lexemes (r .found) (q .found) (sym (r .scanned) ∙ q .scanned) in
+    let same = one-scan bytes (r .found) (q .found) (r .covered) (q .covered) in
     let there = subst (λ (ls : List Lexeme). Spells x (tokens-of ls)) same (r .spells) in
     text-unique x y (tokens-of (q .found)) there (q .spells)

@@ -34,10 +34,9 @@ use Rattle.smt.specs.Verdicts.{List-unsatisfiable, Solved, unsatisfiable-correc
 use Rattle.smt.specs.Refutations.{Refuted, verdicts-to-runs}
 use Rattle.grammar.specs.Grammar.{Phrase}
 use Rattle.grammar.specs.Meaning.{text-table, text-tree}
-use Rattle.grammar.specs.Outcome.{given, outcome}
 use Rattle.grammar.specs.TextTree.{text-tree-is}
-use Rattle.grammar.specs.Given.{table-given}
-use Rattle.text_claims.specs.Reading.{Reading, one-reading}
+use Rattle.grammar.specs.Outcome.{given, outcome, table-given}
+use Rattle.text_claims.specs.Reading.{Reading, scan-of, one-reading}
 
 -- what demand 3 promises of a script: of every run, from a start that meets the precondition
 abbrev pub Keeps-promise : Arithmetic → Tree → Type 0
@@ -62,7 +61,7 @@ module _ (room : ℕ) (bytes : List ℕ) (table : List ℤ) (read : outcome room
   pub has-reading : (x : Phrase) × Reading bytes x
   has-reading =
       let g = table-given room bytes table read in
-      (g .of, record { found = g .is .found; scanned = g .is .scanned; spells = g .is .spells })
+      (g .of, record { found = g .is .found; covered = scan-of bytes (g .is .found) .1 (g .is .scanned); spells = g .is .spells })
 
   pub same-script : (x : Phrase) → Reading bytes x → tree table ≡ text-tree x
   unfolding has-reading
