@@ -22,14 +22,14 @@ use Rattle.grammar.specs.Longest.{one-longest, begins-some}
 
 -- ---- keywords and symbols
 
-abbrev spellings : List Spelling
+abbrev pub spellings : List Spelling
 spellings = keywords ++ symbols
 
 abbrev every : (List ℕ → Bool) → List Spelling → Bool
 every test [] = true
 every test (s ∷ ss) = test (s .bytes) && every test ss
 
-pub listed-every : (test : List ℕ → Bool) (ss : List Spelling) (t : Token) (w : List ℕ) → every test ss ≡ true
+listed-every : (test : List ℕ → Bool) (ss : List Spelling) (t : Token) (w : List ℕ) → every test ss ≡ true
     → Listed ss t w → test w ≡ true
 listed-every test [] t w e l = absurd l
 listed-every test (s ∷ ss) t w e (inl h) =
@@ -65,7 +65,7 @@ listed-in (s ∷ ss) t w (inl h) = rw (h .1, same-refl w)
 listed-in (s ∷ ss) t w (inr l) = or-later (same-bytes (s .bytes) w) (is-in w ss) (listed-in ss t w l)
 
 -- the token of the first that is w
-abbrev listed-token : List Spelling → List ℕ → Option Token
+abbrev pub listed-token : List Spelling → List ℕ → Option Token
 listed-token [] w = none
 listed-token (s ∷ ss) w = cond (same-bytes (s .bytes) w) (some (s .token)) (listed-token ss w)
 
@@ -86,11 +86,11 @@ listed-first (s ∷ ss) t w e (inr l) =
 
 -- ---- the token that bytes spell
 
-abbrev digit-first : List ℕ → Bool
+abbrev pub digit-first : List ℕ → Bool
 digit-first [] = false
 digit-first (b ∷ bs) = is-digit b
 
-abbrev meant : List ℕ → Option Token
+abbrev pub meant : List ℕ → Option Token
 meant [] = none
 meant (b ∷ w) =
     cond (is-digit b) (some (numeral (number (b ∷ w))))
@@ -112,7 +112,7 @@ listed-meant t (b ∷ w) l =
 variable-meant : (t : Token) (ds : List ℕ) → digit-first ds ≡ true → variable (number ds) ≡ t → meant (118 ∷ ds) ≡ some t
 variable-meant t ds d q = rw d (ap some q)
 
-spelled-meant : (w : List ℕ) (t : Token) → Spelled-by w t → meant w ≡ some t
+pub spelled-meant : (w : List ℕ) (t : Token) → Spelled-by w t → meant w ≡ some t
 spelled-meant [] t (as-numeral d q) = absurd d
 spelled-meant (b ∷ w) t (as-numeral d q) = rw (d .0) (ap some q)
 spelled-meant w t (as-variable [] d i q) = absurd d

@@ -11,6 +11,7 @@ pub mod Exactly
 pub mod Numbers
 pub mod OpenBodies
 pub mod Bounds
+pub mod LeadingZero
 pub mod Figures
 pub mod Refused
 pub mod Recorded
