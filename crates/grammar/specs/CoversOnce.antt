@@ -6,7 +6,7 @@ use Prim.Native.Nat.{ℕ, _+_}
 use mathlib.Core.Path.{_≡_, refl, sym, ap, subst, _∙_}
 use mathlib.Core.Logic.{_↔_}
 use mathlib.Core.List.{List, [], _∷_, _++_}
-use mathlib.Core.Bool.{false, true}
+use mathlib.Core.Bool.{true}
 use native.Mathlib.Omega.{arith as linear}
 use lib.ListN.{length, drop, getD}
 use lib.Seq.{getD-drop}

@@ -1,6 +1,6 @@
 -- The tokens that cover a text, with the bytes at their places: each begins there, but for the end of the text
 -- (`placed`), and the places rise (`places-rise`). Assumes nothing.
-use Prim.Native.Nat.{ℕ, zero, suc, _+_, _≤_}
+use Prim.Native.Nat.{ℕ, zero, suc, _≤_}
 use mathlib.Core.Path.{_≡_, refl, sym, ap, subst, _∙_}
 use mathlib.Core.Logic.{_⊎_, inl, inr}
 use mathlib.Core.Option.{some}

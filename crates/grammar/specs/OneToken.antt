@@ -1,8 +1,8 @@
--- At the front of bytes one token begins at most, and its length is settled too (`one-token`). Where a blank stands none
--- begins (`blank-begins-none`).
--- Argument: the longest piece is one, and bytes are spelled by one token at most (`one-spelling`): from a digit on a numeral, from
--- v and a digit on a variable, and else one of the keywords and symbols, which are spelled differently (computed tests).
--- Assumes nothing.
+-- At the front of bytes one token begins at most, and its length is settled too (`one-token`). Where a blank stands
+-- none begins (`blank-begins-none`).
+-- Argument: the longest piece is one, and bytes spell one token at most (`one-spelling`): from a digit on a numeral,
+-- from v and a digit on a variable, and else one of the keywords and symbols, no two of which have the same bytes
+-- (computed tests). Assumes nothing.
 use Prim.Native.Nat.{ℕ, zero, suc, _≤_}
 use mathlib.Core.Path.{_≡_, refl, sym, ap, subst, _∙_}
 use mathlib.Core.Logic.{inl, inr}
@@ -104,8 +104,8 @@ no-number (b ∷ w) = not (is-digit b) && not (eqb b 118 && digit-first w)
 listed-meant : (t : Token) (w : List ℕ) → Listed spellings t w → meant w ≡ some t
 listed-meant t [] l = false-is-not (listed-every no-number spellings t [] refl l)
 listed-meant t (b ∷ w) l =
-    let h = both (not (is-digit b)) (not (eqb b 118 && digit-first w))
-        (listed-every no-number spellings t (b ∷ w) refl l) in
+    let first = listed-every no-number spellings t (b ∷ w) refl l in
+    let h = both (not (is-digit b)) (not (eqb b 118 && digit-first w)) first in
     rw (not-true (is-digit b) (h .0), not-true (eqb b 118 && digit-first w) (h .1))
     (listed-first spellings t (b ∷ w) refl l)
 

@@ -1,22 +1,36 @@
 -- "with a leading zero", of the bytes: 0, or v and 0, and a further digit (`Zero-led`). A token that begins there is the
--- numeral or the variable 4294967295, which is beyond every range (`zero-led-token`). Assumes nothing.
+-- numeral or the variable 4294967295, which is beyond every range (`zero-led-token`). Other digits have their decimal
+-- value (`plain-digits`). Assumes nothing.
 use Prim.Native.Nat.{ℕ, zero, suc, _≤_}
-use mathlib.Core.Path.{_≡_, refl, sym}
+use mathlib.Core.Path.{_≡_, refl, sym, subst}
 use mathlib.Core.Logic.{_⊎_, inl, inr}
 use mathlib.Core.List.{List, [], _∷_}
-use mathlib.Core.Bool.{Bool, true, false, _||_}
+use mathlib.Core.Bool.{Bool, true, false, cond, _||_}
 use native.Mathlib.Omega.{arith as linear}
+use lib.Dec.{eqb}
+use borrow.Author.Tests.{eqb-true}
 use lib.ListN.{length, take}
 use Rattle.grammar.specs.Tables.{some-inj}
 use Rattle.grammar.specs.Tokens.{Token, numeral, variable}
-use Rattle.grammar.specs.Scanning.{is-digit, is-letter}
-use Rattle.grammar.specs.Pieces.{digits, word, Token-begins}
+use Rattle.grammar.specs.Scanning.{is-digit, is-letter, decimal, number}
+use Rattle.grammar.specs.Pieces.{Digits, digits, word, Token-begins}
 use Rattle.grammar.specs.OneToken.{spelled-meant}
 
 -- 48 is 0, and 118 is v
 pub data Zero-led : List ℕ → Type 0 where
   zero-numeral : {d : ℕ} {bs : List ℕ} → is-digit d ≡ true → Zero-led (48 ∷ d ∷ bs)
   zero-variable : {d : ℕ} {bs : List ℕ} → is-digit d ≡ true → Zero-led (118 ∷ 48 ∷ d ∷ bs)
+
+-- digits without a leading zero
+pub plain-digits : (w : List ℕ) → Digits w → ¬ Zero-led w → number w ≡ decimal 0 w
+plain-digits [] h z = absurd h
+plain-digits (d ∷ []) h z = omega linear
+plain-digits (d ∷ e ∷ ds) h z = at-test (eqb d 48) refl
+  where
+    at-test : (k : Bool) → eqb d 48 ≡ k → cond k 4294967295 (decimal 0 (d ∷ e ∷ ds)) ≡ decimal 0 (d ∷ e ∷ ds)
+    at-test true q =
+        absurd (z (subst (λ b. Zero-led (b ∷ e ∷ ds)) (sym (eqb-true d 48 q)) (zero-numeral (h .1 .0))))
+    at-test false q = refl
 
 pub zero-led-some : {bs : List ℕ} → Zero-led bs → 1 ≤ length bs
 zero-led-some (zero-numeral e) = omega linear

@@ -5,8 +5,8 @@
 -- within the bounds of `Bounds`. Assumes nothing.
 use Prim.Native.Nat.{ℕ, zero, suc, _+_, _≤_}
 use mathlib.Core.Path.{_≡_, refl, sym, ap, subst, _∙_}
-use mathlib.Core.Logic.{_⊎_, ⊎-elim}
-use mathlib.Core.Option.{Option, none, some}
+use mathlib.Core.Logic.{⊎-elim}
+use mathlib.Core.Option.{Option, some}
 use mathlib.Core.List.{List, [], _∷_}
 use mathlib.Core.Bool.{Bool, true, false, cond}
 use native.Mathlib.Omega.{arith as linear}
@@ -21,10 +21,10 @@ use Rattle.grammar.specs.Text.{take, read}
 use Rattle.grammar.specs.TextRead.{text-read}
 use Rattle.grammar.specs.Scanning.{Lexeme, tokens-of}
 use Rattle.grammar.specs.Covers.{Scanned-as}
-use Rattle.grammar.specs.LexemePlaces.{Stands, the-end, Rising, placed, rising-at, places-rise}
+use Rattle.grammar.specs.LexemePlaces.{Stands, Rising, placed, rising-at, places-rise}
 use Rattle.grammar.specs.ZeroLed.{Zero-led, zero-led-some, zero-led-token}
 use Rattle.grammar.specs.InRange.{flag, All}
-use Rattle.grammar.specs.Outcome.{refused, all-of, out-after, out-of-range, outcome}
+use Rattle.grammar.specs.Outcome.{refused, all-of, out-of-range, outcome}
 use Rattle.text_claims.specs.Reading.{Reading, Short, In-range}
 use Rattle.text_claims.specs.Ranges.{out-exactly, none-out}
 use Rattle.text_claims.specs.OpenBodies.{open-bodies, opens-one}

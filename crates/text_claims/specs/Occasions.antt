@@ -1,8 +1,8 @@
 -- Which texts are read, and which number with which place every other text gets: `Read-exactly`, said here and proved
 -- in `Exactly` for every text and every room. Each field says of one answer when it is given, and when not. There are
 -- no other answers, and a text has one, so exactly one of the six occasions arises for each text. None of them speaks
--- of the reader. In particular the reader's definition says 41 at 0 for tokens that are all taken and make no script;
--- by `no-text-at` no text gets it so. Assumes nothing.
+-- of the reader or of the scan. In particular the reader's definition says 41 at 0 for tokens that are all taken and
+-- make no script; by `no-text-at` no text gets it so. Assumes nothing.
 use Prim.Native.Nat.{ℕ, _≤_, _<_}
 use mathlib.Core.Path.{_≡_}
 use mathlib.Core.Logic.{_↔_}
@@ -34,7 +34,8 @@ pub record No-text-at (bytes : List ℕ) (p : ℕ) : Type 0 where
   -- the tokens before p begin some text, and with the one at p they begin none
   pub stuck-at : Stuck-at found p
 
--- 42: "at the first numeral or variable out of range (a mark's k too) or with a leading zero"
+-- 42: "at the first numeral or variable out of range (a mark's k too) or with a leading zero"; one with a leading zero
+-- counts as 4294967295, which is beyond every range (`LeadingZero`)
 pub record Out-of-range-at (bytes : List ℕ) (p : ℕ) : Type 0 where
   pub short : Short bytes
   pub of : Phrase

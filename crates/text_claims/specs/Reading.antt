@@ -1,7 +1,7 @@
 -- What the theorems of this crate speak of: a derivation of a text (`Reading`), that its numbers are in range
 -- (`In-range`), that its rows have room (`Fits`), and a text that is read into a table (`Read`). The tokens are said of
--- the bytes alone, by what covers them; the scan gives just these (`scan-of`). A text has one derivation at most (`one-reading`), so what is said of any derivation of a text is said of its script, `text-tree`.
--- Assumes nothing.
+-- the bytes alone, by what covers them; the scan gives just these (`scan-of`). A text has one derivation at most
+-- (`one-reading`), so what is said of any derivation of a text is said of its script, `text-tree`. Assumes nothing.
 use Prim.Native.Nat.{ℕ, _*_, _≤_}
 use mathlib.Core.Path.{_≡_, subst}
 use mathlib.Core.Logic.{_↔_}
