@@ -11,7 +11,7 @@ use native.Mathlib.Omega.{arith as linear}
 use lib.ListN.{length, drop, getD}
 use lib.Seq.{getD-drop}
 use native.Mathlib.Nat.{add-zero}
-use Rattle.grammar.specs.Tables.{false-is-not}
+use Rattle.grammar.specs.Tests.{false-is-not}
 use Rattle.grammar.specs.Tokens.{Token, closer-word, end-of-text}
 use Rattle.grammar.specs.Scanning.{is-blank, Lexeme, Scanned, no-token, lexemes, scan}
 use Rattle.grammar.specs.Pieces.{Token-begins}

@@ -8,7 +8,7 @@ use mathlib.Core.List.{List, [], _∷_, _++_}
 use native.Mathlib.Omega.{arith as linear}
 use lib.ListN.{length, drop, getElem?}
 use lib.Seq.{drop-drop}
-use Rattle.grammar.specs.Tables.{none-is-not, some-inj}
+use Rattle.theorems.specs.Options.{none-is-not, some-inj}
 use Rattle.grammar.specs.Tokens.{Token, closer-word, end-of-text}
 use Rattle.grammar.specs.Scanning.{Lexeme}
 use Rattle.grammar.specs.Pieces.{Token-begins}

@@ -13,11 +13,13 @@ use native.Mathlib.Omega.{arith as linear}
 use lib.Dec.{eqb}
 use borrow.Author.Tests.{not-true, eqb-true}
 use lib.ListN.{take}
-use Rattle.grammar.specs.Tables.{false-is-not, some-inj}
+use Rattle.grammar.specs.Tests.{false-is-not}
+use Rattle.theorems.specs.Options.{some-inj}
 use Rattle.grammar.specs.Tokens.{Token, numeral, variable}
 use Rattle.grammar.specs.Scanning.{is-blank, is-digit, number, same-bytes, Spelling, keywords, symbols}
 use Rattle.grammar.specs.Pieces.{Listed, Piece, digits, word, symbol, Spelled-by, as-numeral, as-variable, as-keyword, as-symbol, Token-begins}
-use Rattle.grammar.specs.Fronts.{both, either, digit-range, letter-range, same-refl, same-true}
+use Rattle.grammar.specs.Tests.{both}
+use Rattle.grammar.specs.Fronts.{either, digit-range, letter-range, same-refl, same-true}
 use Rattle.grammar.specs.Longest.{one-longest, begins-some}
 
 -- ---- keywords and symbols

@@ -10,7 +10,7 @@ use native.Mathlib.Omega.{arith as linear}
 use lib.Dec.{eqb}
 use borrow.Author.Tests.{eqb-true}
 use lib.ListN.{length, take}
-use Rattle.grammar.specs.Tables.{some-inj}
+use Rattle.theorems.specs.Options.{some-inj}
 use Rattle.grammar.specs.Tokens.{Token, numeral, variable}
 use Rattle.grammar.specs.Scanning.{is-digit, is-letter, decimal, number}
 use Rattle.grammar.specs.Pieces.{Digits, digits, word, Token-begins}

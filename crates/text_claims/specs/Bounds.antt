@@ -12,16 +12,20 @@ use borrow.Author.Tests.{leb-true, ltb-true}
 use lib.Dec.{leb}
 use lib.ListN.{length, length-append, length-drop}
 use Rattle.theorems.specs.Options.{went-on}
-use Rattle.grammar.specs.Tokens.{number, begins, Token, numeral, variable, truth-word, skip-word, not-word, assert-word, becomes, infix-word, form-word, closer-word, end-of-text}
+use Rattle.grammar.specs.Sorts.{number, begins}
+use Rattle.grammar.specs.Tokens.{Token, numeral, variable, truth-word, skip-word, not-word, assert-word, becomes, infix-word, form-word, closer-word, end-of-text}
 use Rattle.grammar.specs.Grammar.{Phrase}
-use Rattle.grammar.specs.Automaton.{Frame, hole, Mode, operand, after, due, State, at, start}
-use Rattle.grammar.specs.Text.{take, read}
+use Rattle.grammar.specs.States.{Frame, hole, Mode, operand, after, due, State, at, start}
+use Rattle.grammar.specs.Reader.{take, read}
 use Rattle.grammar.specs.TextRead.{text-read}
-use Rattle.grammar.specs.Tables.{false-is-not}
+use Rattle.grammar.specs.Tests.{false-is-not}
 use Rattle.grammar.specs.Scanning.{Lexeme, tokens-of}
 use Rattle.grammar.specs.Longest.{begins-some}
 use Rattle.grammar.specs.Covers.{Covers, nothing, blank, token, Scanned-as}
-use Rattle.grammar.specs.InRange.{limit, mark-fits, depth, after-minus, operand-flag, flag, onward, read-flags, All, all-parts, text-flags}
+use Rattle.grammar.specs.Ranges.{limit, mark-fits, depth, after-minus, operand-flag, flag, onward, read-flags}
+use Rattle.grammar.specs.Ranges.{All}
+use Rattle.grammar.specs.AllLaws.{all-parts}
+use Rattle.grammar.specs.InRange.{text-flags}
 use Rattle.text_claims.specs.Reading.{Reading, Short, In-range}
 use Rattle.text_claims.specs.FirstOut.{is-number}
 use Rattle.text_claims.specs.Ranges.{One-if, one-flag}

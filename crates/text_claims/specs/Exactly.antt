@@ -11,15 +11,20 @@ use borrow.Author.Tests.{leb-true, leb-false, le-leb, lt-leb}
 use lib.IntN.{ℤ}
 use lib.ListN.{length}
 use Rattle.grammar.specs.Grammar.{Phrase}
-use Rattle.grammar.specs.Automaton.{after, at, start}
-use Rattle.grammar.specs.Meaning.{size, text-table}
-use Rattle.grammar.specs.Tables.{false-is-not}
-use Rattle.grammar.specs.Text.{read}
-use Rattle.grammar.specs.TextRead.{text-read, read-text}
-use Rattle.grammar.specs.Scanning.{Lexeme, tokens-of, Scanned, no-token, lexemes, scan, stuck}
+use Rattle.grammar.specs.States.{after, at, start}
+use Rattle.grammar.specs.Counts.{size}
+use Rattle.grammar.specs.Meaning.{text-table}
+use Rattle.grammar.specs.Tests.{false-is-not}
+use Rattle.grammar.specs.Reader.{read}
+use Rattle.grammar.specs.TextRead.{text-read}
+use Rattle.grammar.specs.TextSound.{read-text}
+use Rattle.grammar.specs.Scanning.{Lexeme, tokens-of, Scanned, no-token, lexemes, scan}
+use Rattle.grammar.specs.Outcome.{stuck}
 use Rattle.grammar.specs.CoversOnce.{stops-exactly}
-use Rattle.grammar.specs.InRange.{All, text-flags}
-use Rattle.grammar.specs.Outcome.{Outcome, refused, given, out-of-range, has-room, range-out, stuck-out, scanned-out, outcome, gives-table, read-to-end}
+use Rattle.grammar.specs.Ranges.{All}
+use Rattle.grammar.specs.InRange.{text-flags}
+use Rattle.grammar.specs.Outcome.{Outcome, refused, given, out-of-range, has-room, range-out, stuck-out, scanned-out, outcome}
+use Rattle.grammar.specs.Given.{gives-table, read-to-end}
 use Rattle.text_claims.specs.Reading.{Reading, In-range, Fits, Read, scan-of}
 use Rattle.text_claims.specs.Ranges.{out-exactly, none-out}
 use Rattle.text_claims.specs.Stuck.{stuck-iff, derived-not-stuck}

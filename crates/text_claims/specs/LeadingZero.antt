@@ -13,18 +13,20 @@ use native.Mathlib.Omega.{arith as linear}
 use lib.ListN.{length, drop, getElem?}
 use lib.Seq.{drop-length}
 use Rattle.theorems.specs.Options.{none-is-not, some-inj, went-on}
-use Rattle.grammar.specs.Tables.{false-is-not}
+use Rattle.grammar.specs.Tests.{false-is-not}
 use Rattle.grammar.specs.Grammar.{Phrase}
 use Rattle.grammar.specs.Tokens.{Token, numeral, variable}
-use Rattle.grammar.specs.Automaton.{after, State, at, start}
-use Rattle.grammar.specs.Text.{take, read}
+use Rattle.grammar.specs.States.{after, State, at, start}
+use Rattle.grammar.specs.Reader.{take, read}
 use Rattle.grammar.specs.TextRead.{text-read}
 use Rattle.grammar.specs.Scanning.{Lexeme, tokens-of}
 use Rattle.grammar.specs.Covers.{Scanned-as}
 use Rattle.grammar.specs.LexemePlaces.{Stands, Rising, placed, rising-at, places-rise}
 use Rattle.grammar.specs.ZeroLed.{Zero-led, zero-led-some, zero-led-token}
-use Rattle.grammar.specs.InRange.{flag, All}
-use Rattle.grammar.specs.Outcome.{refused, all-of, out-of-range, outcome}
+use Rattle.grammar.specs.Ranges.{flag}
+use Rattle.grammar.specs.Ranges.{All}
+use Rattle.grammar.specs.Outcome.{refused, out-of-range, outcome}
+use Rattle.grammar.specs.Ranges.{all-of}
 use Rattle.text_claims.specs.Reading.{Reading, Short, In-range}
 use Rattle.text_claims.specs.Ranges.{out-exactly, none-out}
 use Rattle.text_claims.specs.OpenBodies.{open-bodies, opens-one}

@@ -8,12 +8,13 @@ use mathlib.Core.List.{List, [], _∷_}
 use mathlib.Core.Bool.{Bool, false}
 use lib.ListN.{getElem?}
 use Rattle.theorems.specs.Options.{none-is-not, some-inj}
-use Rattle.grammar.specs.Tables.{false-is-not}
+use Rattle.grammar.specs.Tests.{false-is-not}
 use Rattle.grammar.specs.Grammar.{Phrase}
-use Rattle.grammar.specs.Automaton.{start}
+use Rattle.grammar.specs.States.{start}
 use Rattle.grammar.specs.Scanning.{Lexeme}
 use Rattle.grammar.specs.CoversOnce.{one-scan}
-use Rattle.grammar.specs.InRange.{flags, All}
+use Rattle.grammar.specs.Ranges.{flags}
+use Rattle.grammar.specs.Ranges.{All}
 use Rattle.grammar.specs.Outcome.{refused, out-of-range, outcome}
 use Rattle.text_claims.specs.Reading.{Reading, Short, In-range, one-reading}
 use Rattle.text_claims.specs.FirstOut.{number-places, First-out}

@@ -13,7 +13,7 @@ use lib.ListN.{length}
 use Rattle.grammar.specs.Grammar.{Phrase}
 use Rattle.grammar.specs.Scanning.{Lexeme}
 use Rattle.grammar.specs.Covers.{Scanned-as, Stopped}
-use Rattle.grammar.specs.InRange.{flags}
+use Rattle.grammar.specs.Ranges.{flags}
 use Rattle.grammar.specs.Places.{Stuck-at}
 use Rattle.grammar.specs.Outcome.{refused, given, outcome}
 use Rattle.text_claims.specs.Reading.{Reading, Short, In-range, Fits, Read}

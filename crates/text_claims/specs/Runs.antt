@@ -35,7 +35,8 @@ use Rattle.smt.specs.Refutations.{Refuted, verdicts-to-runs}
 use Rattle.grammar.specs.Grammar.{Phrase}
 use Rattle.grammar.specs.Meaning.{text-table, text-tree}
 use Rattle.grammar.specs.TextTree.{text-tree-is}
-use Rattle.grammar.specs.Outcome.{given, outcome, table-given}
+use Rattle.grammar.specs.Outcome.{given, outcome}
+use Rattle.grammar.specs.Given.{table-given}
 use Rattle.text_claims.specs.Reading.{Reading, scan-of, one-reading}
 
 -- what demand 3 promises of a script: of every run, from a start that meets the precondition
