@@ -1,4 +1,5 @@
--- What the proofs ask of the tables of sorts and holes: each law goes by cases over one table. Assumes nothing.
+-- What the proofs ask of sorts and holes: what may begin a part (`takes-begins`, `begins-left`), groups (`form-fits`), and
+-- an expression where a formula is due (`begins-other`). Each law goes by cases over one table. Assumes nothing.
 use mathlib.Core.Path.{_≡_, refl, sym, _∙_}
 use mathlib.Core.Bool.{true, false}
 use Rattle.grammar.specs.Sorts.{Sort, number, expression, formula, statement, script, Hole, only, either, takes, wide, begins}

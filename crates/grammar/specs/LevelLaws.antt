@@ -1,4 +1,5 @@
--- What the proofs ask of the levels of binding: each law goes by cases over one table. Assumes nothing.
+-- What the proofs ask of the levels of binding: how far level and binding are apart (`phrase-range`), and of operators that
+-- wait (`holds-below`, `prefix-fits`, `loosest-wants`). Each law goes by cases over one table. Assumes nothing.
 use Prim.Native.Nat.{ℕ, suc, _≤_, _<_}
 use mathlib.Core.Path.{_≡_, refl}
 use mathlib.Core.Bool.{true}
@@ -154,7 +155,7 @@ expression-level (closed c x) e = omega linear
 pub holds-formula : (f : Pending) → wants f ≡ formula → holds f < 6
 holds-formula f e = omega (linear, rw e at (holds-within f))
 
--- ---- the place that post ends, and the operator that waits for the last statement
+-- ---- the operator that waits for the last statement
 
 pub loosest-wants : (f : Pending) → holds f < 1 → wants f ≡ statement
 loosest-wants (prefix not-prefix) l = absurd (omega linear)

@@ -39,6 +39,7 @@ pub mod Tests
 pub mod HoleLaws
 pub mod LevelLaws
 pub mod PlaceLaws
+pub mod LaterPlaces
 pub mod WordLaws
 -- ---- one reading, and exactly those texts
 

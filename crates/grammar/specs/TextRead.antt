@@ -20,7 +20,7 @@ use Rattle.grammar.specs.Automaton.{Reduced, reduce, reduced, go-on, clo
 use Rattle.grammar.specs.Reader.{at-post, take, read}
 use Rattle.grammar.specs.Tests.{false-is-not, same-is, same-sorts}
 use Rattle.grammar.specs.LevelLaws.{loosest-wants}
-use Rattle.grammar.specs.PlaceLaws.{ends-by-post, post-takes}
+use Rattle.grammar.specs.LaterPlaces.{ends-by-post, post-takes}
 use Rattle.grammar.specs.Complete.{Below, chain-takes, read-whole}
 use Rattle.grammar.specs.Contexts.{stack-words, Good-stack, Part, Reads}
 use Rattle.grammar.specs.Reduces.{reduce-keeps, Reads-state}

@@ -15,7 +15,7 @@ use Rattle.grammar.specs.Grammar.{Phrase, closed, Chain, more, place, wo
 use Rattle.grammar.specs.States.{Frame, pending, open-at, wants, apply, hole, Mode, operand, after, due, State, at, start}
 use Rattle.grammar.specs.Automaton.{step, run, advance}
 use Rattle.grammar.specs.Tests.{same-is}
-use Rattle.grammar.specs.PlaceLaws.{later, Later, later-is}
+use Rattle.grammar.specs.LaterPlaces.{later, Later, later-is}
 use Rattle.grammar.specs.Contexts.{stack-words, Good-stack, Part, Reads}
 use Rattle.grammar.specs.Reduces.{taken, Reads-state}
 use Rattle.grammar.specs.Sound.{lower, run-keeps, advance-keeps}
