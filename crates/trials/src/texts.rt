@@ -36,7 +36,10 @@ pub fn all() {
     read(b"pre true; skip; post true", 16);
     read(b"pre true; skip; post true", 15);
     read(b"pre true; skip; skip; skip; post true", 512);
-    read(b"pre v0 = 1 implies true implies false; v1 := 1 - 2 * v0; post not true or false", 512);
+    read(
+        b"pre v0 = 1 implies true implies false; v1 := 1 - 2 * v0; post not true or false",
+        512,
+    );
     read(b"pre (v0) < 1; assert (1 < 2) and true; post true", 512);
     read(b"pre true; v0 := when(true, --5, -(5)); post true", 512);
     read(b"pre (v0) and true; skip; post true", 512);
