@@ -70,13 +70,22 @@ fn read_on(text: &[u8], stack: &mut [u32], words: &mut [i32]) -> TextAnswer
     }
 }
 
-// Short texts have a short stack, so that little is cleared.
+// Shorter texts have a shorter stack, so that less is cleared.
 fn read_short(text: &[u8], words: &mut [i32]) -> TextAnswer
     requires { ⌜ length (now text) < 1024 ⌝ }
     requires { ⌜ now words ≡ zeros (length (now words)) ⌝ }
     ensures { λ r. ⌜ Gives (answer (now (text .entry)) (length (now (words .entry)))) r (now (words .exit)) ⌝ }
 {
     let mut stack: [u32; 1024] = [0; 1024];
+    read_on(text, &mut stack, words)
+}
+
+fn read_medium(text: &[u8], words: &mut [i32]) -> TextAnswer
+    requires { ⌜ length (now text) < 8192 ⌝ }
+    requires { ⌜ now words ≡ zeros (length (now words)) ⌝ }
+    ensures { λ r. ⌜ Gives (answer (now (text .entry)) (length (now (words .entry)))) r (now (words .exit)) ⌝ }
+{
+    let mut stack: [u32; 8192] = [0; 8192];
     read_on(text, &mut stack, words)
 }
 
@@ -102,7 +111,10 @@ pub fn read_text(text: &[u8], words: &mut [i32]) -> TextAnswer
     }
     clear(words);
     if text.len() < 1024 {
-        read_short(text, words)
+        return read_short(text, words);
+    }
+    if text.len() < 8192 {
+        read_medium(text, words)
     } else {
         read_long(text, words)
     }
