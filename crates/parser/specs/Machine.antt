@@ -1,8 +1,8 @@
--- The reader as the code runs it: the automaton of `Automaton` on small numbers. A frame is one number, the stack a run of them, and the
--- rows stand in the words that are lent. Each function here is a function of the code; that they do what the automaton does
--- is shown in `Follows`. Assumes nothing.
+-- The reader as the code runs it: the automaton of `grammar` on small numbers. A frame is one number, the stack a run of
+-- them, and the rows stand in the words that are lent. Each function here is a function of the code; that they do what
+-- the automaton does is shown in `parsing`. Assumes nothing.
 use Prim.Native.Nat.{ℕ, zero, suc, _+_, _*_, _-_, _/_, _%_}
-use mathlib.Core.Bool.{Bool, true, false, cond, not, _&&_, _||_}
+use mathlib.Core.Bool.{Bool, cond, _&&_, _||_}
 use mathlib.Core.List.{List, [], _∷_}
 use lib.Dec.{eqb, leb, ltb}
 use lib.IntN.{ℤ, pos}

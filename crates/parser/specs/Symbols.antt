@@ -1,5 +1,5 @@
--- What the reader knows of frames and of tokens, a letter for each number from 0 to 63 (`Numbers` has those of tokens; those of frames are
--- in `Encoding`). Assumes nothing.
+-- What the reader knows of frames and of tokens, a letter for each number from 0 to 63. Tokens have the numbers of
+-- `Numbers` in `grammar`, frames those of `Encoding` in `parsing`. Assumes nothing.
 use Prim.Native.Nat.{ℕ}
 use mathlib.Core.List.{List}
 use Rattle.grammar.specs.Scanning.{bytes}

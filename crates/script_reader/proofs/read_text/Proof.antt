@@ -21,20 +21,29 @@ clear-requires c κs = search needs
 read-short-requires : tie.Need-read-short-requires
 read-short-requires c κs = (c .before .if2 .taken, stays-clear _ (length (c .before .before .before .before .before .before .before .args .words .now)) (c .before .before .before .clear .ensures))
 
-read-long-requires : tie.Need-read-long-requires
-read-long-requires c κs = (c .before .before .before .before .before .if1 .left, stays-clear _ (length (c .before .before .before .before .before .before .before .args .words .now)) (c .before .before .before .clear .ensures))
-
 same-length-2 : tie.Need-same-length-2
 same-length-2 c = search needs
 
 returns-2 : tie.Need-returns-2
 returns-2 c = fields (c .before .before .before .before .before .before .before .before .before .args .text .now) _ _ _ _ (c .before .before .before .before .words2 .given) (c .before .read-short .ensures)
 
+read-medium-requires : tie.Need-read-medium-requires
+read-medium-requires c κs = (c .before .if3 .taken, stays-clear _ (length (c .before .before .before .before .before .before .before .before .args .words .now)) (c .before .before .before .before .clear .ensures))
+
+read-long-requires : tie.Need-read-long-requires
+read-long-requires c κs = (c .before .before .before .before .before .before .if1 .left, stays-clear _ (length (c .before .before .before .before .before .before .before .before .args .words .now)) (c .before .before .before .before .clear .ensures))
+
 same-length-3 : tie.Need-same-length-3
 same-length-3 c = search needs
 
 returns-3 : tie.Need-returns-3
-returns-3 c = fields (c .before .before .before .before .before .before .before .before .before .args .text .now) _ _ _ _ (c .before .before .before .before .words2 .given) (c .before .read-long .ensures)
+returns-3 c = fields (c .before .before .before .before .before .before .before .before .before .before .args .text .now) _ _ _ _ (c .before .before .before .before .before .words2 .given) (c .before .read-medium .ensures)
+
+same-length-4 : tie.Need-same-length-4
+same-length-4 c = search needs
+
+returns-4 : tie.Need-returns-4
+returns-4 c = fields (c .before .before .before .before .before .before .before .before .before .before .args .text .now) _ _ _ _ (c .before .before .before .before .before .words2 .given) (c .before .read-long .ensures)
 
 pub read-text-spec : {M : Type 1} → statement M
 read-text-spec =
@@ -45,8 +54,11 @@ read-text-spec =
     returns
     clear-requires
     read-short-requires
-    read-long-requires
     same-length-2
     returns-2
+    read-medium-requires
+    read-long-requires
     same-length-3
-    returns-3)
+    returns-3
+    same-length-4
+    returns-4)
