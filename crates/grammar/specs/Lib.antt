@@ -1,8 +1,8 @@
 -- Scripts as text (P4). First what is to be believed, in the order of the request: what a script is made of and how it
 -- is spelled; the rows and the tree that it stands for; the reader and the answer. Then two files of texts that are
--- read by computation. Then the theorems: each text has one reading and exactly those texts are read; the places of 40,
--- 41 and 42; the rows that are written are those of the text, and have its tree; a table is given exactly where it
--- should be. Assumes nothing.
+-- read by computation. Then the theorems: each text has one reading and exactly those texts are read; the productions
+-- derive exactly those texts; the places of 40, 41 and 42; the rows that are written are those of the text, and have
+-- its tree; a table is given exactly where it should be. Assumes nothing.
 
 -- ---- a script and its spelling
 
@@ -12,6 +12,7 @@ pub mod Forms
 pub mod Tokens
 pub mod Scanning
 pub mod Pieces
+pub mod Productions
 pub mod Grammar
 pub mod Text
 -- ---- what it stands for
@@ -54,6 +55,15 @@ pub mod TextSound
 pub mod TextRead
 pub mod TextViable
 pub mod Stops
+-- ---- the productions derive exactly the texts that have a phrase
+
+pub mod Shapes
+pub mod FormTexts
+pub mod DerivedParts
+pub mod DerivedPhrases
+pub mod PhraseLevels
+pub mod PhraseParts
+pub mod Derivations
 -- ---- bytes into tokens, and the places of refusals
 
 pub mod Fronts
@@ -75,7 +85,6 @@ pub mod InRange
 
 pub mod Sizes
 pub mod Lengths
-pub mod Shapes
 pub mod SameRows
 pub mod SameForms
 pub mod SameTree

@@ -1,7 +1,8 @@
 -- What the theorems of this crate speak of: a derivation of a text (`Reading`), that its numbers are in range
 -- (`In-range`), that its rows have room (`Fits`), and a text that is read into a table (`Read`). The tokens are said of
 -- the bytes alone, by what covers them; the scan gives just these (`scan-of`). A text has one derivation at most
--- (`one-reading`), so what is said of any derivation of a text is said of its script, `text-tree`. Assumes nothing.
+-- (`one-reading`), so what is said of any derivation of a text is said of its script, `text-tree`; and a text has one
+-- exactly where the productions of the grammar derive its tokens (`reading-derives`). Assumes nothing.
 use Prim.Native.Nat.{ℕ, _*_, _≤_}
 use mathlib.Core.Path.{_≡_, subst}
 use mathlib.Core.Logic.{_↔_}
@@ -9,9 +10,11 @@ use mathlib.Core.List.{List}
 use mathlib.Core.Bool.{false}
 use lib.IntN.{ℤ}
 use lib.ListN.{length}
+use Rattle.grammar.specs.Productions.{script, Derives}
 use Rattle.grammar.specs.Grammar.{Phrase}
 use Rattle.grammar.specs.Text.{Spells}
 use Rattle.grammar.specs.TextRead.{text-unique}
+use Rattle.grammar.specs.Derivations.{derives-exactly}
 use Rattle.grammar.specs.Counts.{size}
 use Rattle.grammar.specs.Meaning.{text-table}
 use Rattle.grammar.specs.Scanning.{Lexeme, tokens-of, lexemes, scan}
@@ -59,3 +62,18 @@ one-reading bytes x y r q =
     let same = one-scan bytes (r .found) (q .found) (r .covered) (q .covered) in
     let there = subst (λ (ls : List Lexeme). Spells x (tokens-of ls)) same (r .spells) in
     text-unique x y (tokens-of (q .found)) there (q .spells)
+
+-- ---- by productions
+
+-- the texts with a derivation are those whose tokens the productions of the grammar derive
+pub reading-derives : (bytes : List ℕ)
+    → ((x : Phrase) × Reading bytes x) ↔ ((ls : List Lexeme) × Scanned-as bytes ls × Derives script (tokens-of ls))
+reading-derives bytes = (there, back)
+  where
+    there : (x : Phrase) × Reading bytes x → (ls : List Lexeme) × Scanned-as bytes ls × Derives script (tokens-of ls)
+    there r = let q = r .1 in (q .found, q .covered, derives-exactly (tokens-of (q .found)) .1 (r .0, q .spells))
+
+    back : (ls : List Lexeme) × Scanned-as bytes ls × Derives script (tokens-of ls) → (x : Phrase) × Reading bytes x
+    back d =
+        let s = derives-exactly (tokens-of (d .0)) .0 (d .2) in
+        (s .0, record { found = d .0; covered = d .1; spells = s .1 })
