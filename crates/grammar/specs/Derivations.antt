@@ -8,7 +8,7 @@ use mathlib.Core.Option.{none}
 use mathlib.Core.List.{List, [], _∷_, _++_}
 use mathlib.Core.Bool.{true}
 use Rattle.theorems.specs.Options.{none-is-not}
-use Rattle.grammar.specs.Sorts.{Sort, expression, formula, statement as statement-sort, script as script-sort, takes}
+use Rattle.grammar.specs.Sorts.{Sort, expression, formula, statement as statement-sort, takes}
 use Rattle.grammar.specs.Forms.{Place, in-group, in-mark, when-first, when-second, when-third, if-guard, if-then, if-else, while-guard, while-keep, while-fall, while-body, script-pre, script-body, script-post, when-form, if-form, while-form, script-form, next-place, place-takes, place-makes}
 use Rattle.grammar.specs.Operators.{semicolon}
 use Rattle.grammar.specs.Tokens.{comma-closer, then-closer, else-closer, end-closer, keep-closer, fall-closer, do-closer, post-closer, end-of-text, Token, infix-word, form-word, closer-word, prefix-opening}

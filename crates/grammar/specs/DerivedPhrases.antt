@@ -20,7 +20,7 @@ use Rattle.grammar.specs.DerivedParts.{Part, raised, a-leaf, prefixed, j
 -- ---- forms
 
 module _ {ts : List Token} where
-  formula-grouped : Part implication ts → Part comparison (bracket ∷ (ts ++ (closing ∷ [])))
+  formula-grouped : Part implication ts → Part comparison (bracket ∷ ts ++ closing ∷ [])
   unfolding Good Good-chain words chain-words text
   formula-grouped x = record {
     of = closed (begun group-form) (x .of);
@@ -31,7 +31,7 @@ module _ {ts : List Token} where
     spelt = one-text (bracket ∷ []) (words (x .of)) (closing ∷ []) (x .spelt);
   }
 
-  expression-grouped : Part sum ts → Part operand (bracket ∷ (ts ++ (closing ∷ [])))
+  expression-grouped : Part sum ts → Part operand (bracket ∷ ts ++ closing ∷ [])
   unfolding Good Good-chain words chain-words text
   expression-grouped x = record {
     of = closed (begun group-form) (x .of);
@@ -55,7 +55,7 @@ marked k = record {
 
 module _ {us vs ws : List Token} where
   chosen : Part implication us → Part sum vs → Part sum ws
-      → Part operand (form-word when-form ∷ bracket ∷ (us ++ (closer-word comma-closer ∷ (vs ++ (closer-word comma-closer ∷ (ws ++ (closing ∷ [])))))))
+      → Part operand (form-word when-form ∷ bracket ∷ us ++ closer-word comma-closer ∷ vs ++ closer-word comma-closer ∷ ws ++ closing ∷ [])
   unfolding Good Good-chain words chain-words text
   chosen x y z = record {
     of = closed (more (more (begun when-form) (x .of) when-second) (y .of) when-third) (z .of);
@@ -68,7 +68,7 @@ module _ {us vs ws : List Token} where
   }
 
   branched : Part implication us → Part statements vs → Part statements ws
-      → Part statement (form-word if-form ∷ (us ++ (closer-word then-closer ∷ (vs ++ (closer-word else-closer ∷ (ws ++ (closer-word end-closer ∷ [])))))))
+      → Part statement (form-word if-form ∷ us ++ closer-word then-closer ∷ vs ++ closer-word else-closer ∷ ws ++ closer-word end-closer ∷ [])
   unfolding Good Good-chain words chain-words text
   branched x y z = record {
     of = closed (more (more (begun if-form) (x .of) if-then) (y .of) if-else) (z .of);
@@ -81,7 +81,7 @@ module _ {us vs ws : List Token} where
   }
 
   all-read : Part implication us → Part statements vs → Part implication ws
-      → Part script (form-word script-form ∷ (us ++ (infix-word semicolon ∷ (vs ++ (infix-word semicolon ∷ closer-word post-closer ∷ (ws ++ (closer-word end-of-text ∷ [])))))))
+      → Part script (form-word script-form ∷ us ++ infix-word semicolon ∷ vs ++ infix-word semicolon ∷ closer-word post-closer ∷ ws ++ closer-word end-of-text ∷ [])
   unfolding Good Good-chain words chain-words text
   all-read x y z = record {
     of = closed (more (more (begun script-form) (x .of) script-body) (y .of) script-post) (z .of);
@@ -94,7 +94,7 @@ module _ {us vs ws : List Token} where
   }
 
 looped : {us vs ws zs : List Token} → Part implication us → Part implication vs → Part sum ws → Part statements zs
-    → Part statement (form-word while-form ∷ (us ++ (closer-word keep-closer ∷ (vs ++ (closer-word fall-closer ∷ (ws ++ (closer-word do-closer ∷ (zs ++ (closer-word end-closer ∷ [])))))))))
+    → Part statement (form-word while-form ∷ us ++ closer-word keep-closer ∷ vs ++ closer-word fall-closer ∷ ws ++ closer-word do-closer ∷ zs ++ closer-word end-closer ∷ [])
 unfolding Good Good-chain words chain-words text
 looped x y z b = record {
   of = closed (more (more (more (begun while-form) (x .of) while-keep) (y .of) while-fall) (z .of) while-body) (b .of);

@@ -1,6 +1,6 @@
 -- The tokens of a form with one part, three or four, in a text: o stands before the parts, and t, u, v, w after each.
 -- Assumes nothing.
-use mathlib.Core.Path.{_≡_, refl, ap, _∙_}
+use mathlib.Core.Path.{_≡_, refl, sym, ap, _∙_}
 use mathlib.Core.List.{List, [], _∷_, _++_, append-assoc}
 use Rattle.grammar.specs.Operators.{Prefix, not-prefix, minus-prefix, assert-prefix, assign-prefix}
 use Rattle.grammar.specs.Tokens.{Token, Leaf, constant-leaf, number-leaf, variable-leaf, truth-leaf, skip-leaf, leaf-word, prefix-opening}
@@ -16,21 +16,30 @@ next-text : (us ps t l : List Token) {vs : List Token} → text ps ≡ vs → te
 next-text us ps t l {vs} e =
     ap (λ k. k ++ l) (one-text us ps t e) ∙ append-assoc (text us) (vs ++ text t) l ∙ ap (λ k. text us ++ k) (append-assoc vs (text t) l)
 
+three-flat : (a b c d e f g : List Token) → a ++ b ++ (c ++ d) ++ (e ++ f) ++ g ≡ a ++ (b ++ (c ++ (d ++ (e ++ (f ++ g)))))
+three-flat a b c d e f g = simp append-assoc
+
+four-flat : (a b c d e f g h i : List Token)
+    → a ++ b ++ (c ++ d) ++ (e ++ f) ++ (g ++ h) ++ i ≡ a ++ (b ++ (c ++ (d ++ (e ++ (f ++ (g ++ (h ++ i)))))))
+four-flat a b c d e f g h i = simp append-assoc
+
 pub three-text : (o ps qs rs t u v : List Token) {us vs ws : List Token} → text ps ≡ us → text qs ≡ vs → text rs ≡ ws
-    → text (((o ++ (ps ++ t)) ++ (qs ++ u)) ++ (rs ++ v)) ≡ text o ++ (us ++ (text t ++ (vs ++ (text u ++ (ws ++ text v)))))
+    → text (((o ++ (ps ++ t)) ++ (qs ++ u)) ++ (rs ++ v)) ≡ text o ++ us ++ (text t ++ vs) ++ (text u ++ ws) ++ text v
 three-text o ps qs rs t u v {us} {vs} {ws} e f g =
     one-text ((o ++ (ps ++ t)) ++ (qs ++ u)) rs v g
     ∙ next-text (o ++ (ps ++ t)) qs u (ws ++ text v) f
     ∙ next-text o ps t (vs ++ (text u ++ (ws ++ text v))) e
+    ∙ sym (three-flat (text o) us (text t) vs (text u) ws (text v))
 
 pub four-text : (o ps qs rs ss t u v w : List Token) {us vs ws zs : List Token} → text ps ≡ us → text qs ≡ vs → text rs ≡ ws → text ss ≡ zs
     → text ((((o ++ (ps ++ t)) ++ (qs ++ u)) ++ (rs ++ v)) ++ (ss ++ w))
-    ≡ text o ++ (us ++ (text t ++ (vs ++ (text u ++ (ws ++ (text v ++ (zs ++ text w)))))))
+    ≡ text o ++ us ++ (text t ++ vs) ++ (text u ++ ws) ++ (text v ++ zs) ++ text w
 four-text o ps qs rs ss t u v w {us} {vs} {ws} {zs} e f g h =
     one-text (((o ++ (ps ++ t)) ++ (qs ++ u)) ++ (rs ++ v)) ss w h
     ∙ next-text ((o ++ (ps ++ t)) ++ (qs ++ u)) rs v (zs ++ text w) g
     ∙ next-text (o ++ (ps ++ t)) qs u (ws ++ (text v ++ (zs ++ text w))) f
     ∙ next-text o ps t (vs ++ (text u ++ (ws ++ (text v ++ (zs ++ text w))))) e
+    ∙ sym (four-flat (text o) us (text t) vs (text u) ws (text v) zs (text w))
 
 pub prefix-text : (p : Prefix) → text (opening-words (prefix-opening p)) ≡ opening-words (prefix-opening p)
 unfolding text

@@ -1,6 +1,7 @@
--- The grammar. A phrase is a tree of the text, with its brackets: a leaf, an operator with its parts, or a closed form
--- with the chain of its parts. `words` are its tokens; `Good` says that each part has the sort and the level that its
--- place asks for: a derivation is a good phrase. What it stands for is in `Meaning`. Assumes nothing.
+-- The grammar of `Productions`, as trees. A phrase is a tree of the text, with its brackets: a leaf, an operator with its
+-- parts, or a closed form with the chain of its parts. `words` are its tokens; `Good` says that each part has the sort
+-- and the level that its place asks for: a derivation is a good phrase. What it stands for is in `Meaning`. Assumes
+-- nothing.
 use Prim.Native.Nat.{ℕ, suc, _≤_, _<_}
 use mathlib.Core.Path.{_≡_}
 use mathlib.Core.Option.{Option, none, some}
