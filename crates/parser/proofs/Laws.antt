@@ -4,8 +4,8 @@ use mathlib.Core.Path.{_≡_, refl, sym, ap, _∙_}
 use mathlib.Core.Bool.{Bool, true, false, cond, _&&_, _||_}
 use mathlib.Core.List.{List, [], _∷_}
 use native.Mathlib.Omega.{arith as linear}
-use borrow.Author.Tests.{lt-ltb, le-ltb, le-leb, lt-leb, eq-eqb, ne-eqb, leb-true}
-use Rattle.grammar.specs.Tests.{both}
+use borrow.Author.Tests.{lt-ltb, le-ltb, le-leb, lt-leb, eq-eqb, ne-eqb, eqb-true}
+use Rattle.grammar.specs.Tests.{both, false-is-not}
 use lib.Dec.{eqb, leb, ltb}
 use lib.IntN.{ℤ, pos, negsuc, _-ℤ_}
 use lib.Signed.{mag}
@@ -32,6 +32,10 @@ top-beyond st (suc n) h = beyond st n (omega linear)
 pub top-within : (st : List ℕ) (n : ℕ) → (n ≡ 0 → ⊥) → top-frame st n ≡ getD st (n - 1) 0
 top-within st zero h = absurd (h refl)
 top-within st (suc n) h = ap (λ (k : ℕ). getD st k 0) (omega linear)
+
+or-false : (a b : Bool) → a ≡ false → (a || b) ≡ true → b ≡ true
+or-false true b e h = false-is-not (sym e)
+or-false false b e h = h
 
 -- ---- rows
 
@@ -140,13 +144,35 @@ module _ (st : List ℕ) (b : ℕ) where
 pub left-fields : (x y : Reduced) → x ≡ y → (x .sort ≡ y .sort) × ((x .rows ≡ y .rows) × ((x .top ≡ y .top) × (x .words ≡ y .words)))
 left-fields x y e = (ap (λ (z : Reduced). z .sort) e, (ap (λ (z : Reduced). z .rows) e, (ap (λ (z : Reduced). z .top) e, ap (λ (z : Reduced). z .words) e)))
 
--- ---- letters are small: a test that is computed over a table
+-- ---- a table that is a default but at some numbers: a test that is computed
 
-abbrev all-small : List ℕ → Bool
-all-small [] = true
-all-small (l ∷ ls) = leb l 255 && all-small ls
+abbrev member : ℕ → List ℕ → Bool
+member n [] = false
+member n (k ∷ ks) = eqb n k || member n ks
 
-pub small : (ls : List ℕ) (n : ℕ) → all-small ls ≡ true → getD ls n 0 ≤ 255
-small [] n h = omega linear
-small (l ∷ ls) zero h = leb-true l 255 (both (leb l 255) (all-small ls) h .0)
-small (l ∷ ls) (suc n) h = small ls n (both (leb l 255) (all-small ls) h .1)
+-- from number i on, the letters at other numbers than ks are d
+abbrev others : List ℕ → ℕ → ℕ → List ℕ → Bool
+others [] d i ks = true
+others (l ∷ ls) d i ks = (member i ks || eqb l d) && others ls d (suc i) ks
+
+abbrev Not-in : ℕ → List ℕ → Type 0
+Not-in n [] = Unit {0}
+Not-in n (k ∷ ks) = Not-in n ks × (n ≡ k → ⊥)
+
+not-member : (n : ℕ) (ks : List ℕ) → Not-in n ks → member n ks ≡ false
+not-member n [] h = refl
+not-member n (k ∷ ks) h = rw (ne-eqb n k (h .1)) (not-member n ks (h .0))
+
+from : (ls : List ℕ) (d i n : ℕ) (ks : List ℕ) → n < length ls → others ls d i ks ≡ true → member (i + n) ks ≡ false → getD ls n 0 ≡ d
+from [] d i n ks h e m = absurd (omega linear)
+from (l ∷ ls) d i zero ks h e m =
+    let z : i + 0 ≡ i = omega linear in
+    eqb-true l d (or-false (member i ks) (eqb l d) (ap (λ (x : ℕ). member x ks) (sym z) ∙ m) (both (member i ks || eqb l d) (others ls d (suc i) ks) e .0))
+from (l ∷ ls) d i (suc n) ks h e m =
+    let z : suc i + n ≡ i + suc n = omega linear in
+    from ls d (suc i) n ks (omega linear) (both (member i ks || eqb l d) (others ls d (suc i) ks) e .1) (ap (λ (x : ℕ). member x ks) z ∙ m)
+
+pub elsewhere : (ls : List ℕ) (d n : ℕ) (ks : List ℕ) → n < length ls → others ls d 0 ks ≡ true → Not-in n ks → getD ls n 0 ≡ d
+elsewhere ls d n ks h e m =
+    let z : 0 + n ≡ n = omega linear in
+    from ls d 0 n ks h e (ap (λ (x : ℕ). member x ks) z ∙ not-member n ks m)
