@@ -1,8 +1,8 @@
 -- Scripts as text (P4). First what is to be believed, in the order of the request: what a script is made of and how it
--- is spelled; the rows and the tree that it stands for; the reader and the answer. Then two files of texts that are
--- read by computation. Then the theorems: each text has one reading and exactly those texts are read; the productions
--- derive exactly those texts; the places of 40, 41 and 42; the rows that are written are those of the text, and have
--- its tree; a table is given exactly where it should be. Assumes nothing.
+-- is spelled; the rows and the tree that it stands for; the reader and the answer. Then the theorems: each text has one
+-- reading and exactly those texts are read; the productions derive exactly those texts; the places of 40, 41 and 42; the
+-- rows that are written are those of the text, and have its tree; a table is given exactly where it should be. Texts
+-- tried by computation stand in `text_claims`. Assumes nothing.
 
 -- ---- a script and its spelling
 
@@ -30,10 +30,6 @@ pub mod Ranges
 pub mod Outcome
 pub mod Answer
 pub mod Numbers
--- ---- tried by computation
-
-pub mod Tried
-pub mod Cases
 -- ---- laws of the tables
 
 pub mod Tests

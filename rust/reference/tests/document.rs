@@ -1,33 +1,10 @@
 //! Every trial row of document 01, example A to the byte, and the five wrong
 //! turns; of variables, what request P2 makes of them.
 
+mod example_a;
+
+use example_a::{Words4, EXAMPLE_A};
 use reference::*;
-
-/// A row as the document writes it.
-type Words4 = [i32; 4];
-
-const EXAMPLE_A: [Words4; 20] = [
-    [1, 0, 0, 0],
-    [2, 0, 0, 0],
-    [19, 0, 1, 0],
-    [1, 0, 0, 0],
-    [2, 0, 0, 0],
-    [18, 3, 4, 0],
-    [1, 0, 0, 0],
-    [2, 0, 0, 0],
-    [19, 6, 7, 0],
-    [2, 0, 0, 0],
-    [37, 8, 9, 0],
-    [2, 0, 0, 0],
-    [1, 1, 0, 0],
-    [4, 11, 12, 0],
-    [33, 0, 13, 0],
-    [36, 5, 10, 14],
-    [2, 0, 0, 0],
-    [1, 0, 0, 0],
-    [20, 16, 17, 0],
-    [48, 2, 15, 18],
-];
 
 const EXAMPLE_A_OUTPUT: &str = "\
 planned 4 94

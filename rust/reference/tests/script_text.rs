@@ -1,41 +1,21 @@
 //! Request P4, sentence by sentence; its refusals, their places and their
 //! order.
 
+mod example_a;
+mod random;
+
+use example_a::{Words4, EXAMPLE_A};
+use random::Random;
 use reference::*;
 
 const AMPLE: usize = 8_192;
 
-type Words4 = [i32; 4];
-
-/// Example A of document 01 as text, and the rows the document gives for it.
-const EXAMPLE_A: &str = "\
+/// Example A of document 01 as text.
+const EXAMPLE_A_TEXT: &str = "\
 pre 0 <= v0;
 while 0 < v0 keep 0 <= v0 fall v0 do v0 := v0 - 1 end;
 post v0 = 0
 ";
-
-const EXAMPLE_A_ROWS: [Words4; 20] = [
-    [1, 0, 0, 0],
-    [2, 0, 0, 0],
-    [19, 0, 1, 0],
-    [1, 0, 0, 0],
-    [2, 0, 0, 0],
-    [18, 3, 4, 0],
-    [1, 0, 0, 0],
-    [2, 0, 0, 0],
-    [19, 6, 7, 0],
-    [2, 0, 0, 0],
-    [37, 8, 9, 0],
-    [2, 0, 0, 0],
-    [1, 1, 0, 0],
-    [4, 11, 12, 0],
-    [33, 0, 13, 0],
-    [36, 5, 10, 14],
-    [2, 0, 0, 0],
-    [1, 0, 0, 0],
-    [20, 16, 17, 0],
-    [48, 2, 15, 18],
-];
 
 /// The rows of a text, which must be read.
 fn rows(text: &str) -> Vec<Words4> {
@@ -109,9 +89,9 @@ fn grouped(formula: &str, with_parentheses: &str) {
 
 #[test]
 fn example_a() {
-    assert_eq!(rows(EXAMPLE_A), EXAMPLE_A_ROWS);
-    let words = EXAMPLE_A_ROWS.concat();
-    assert_eq!(read_text(EXAMPLE_A.as_bytes(), 80).words, words);
+    assert_eq!(rows(EXAMPLE_A_TEXT), EXAMPLE_A);
+    let words = EXAMPLE_A.concat();
+    assert_eq!(read_text(EXAMPLE_A_TEXT.as_bytes(), 80).words, words);
     assert_eq!(check(&words), Verdict::Accepted);
 }
 
@@ -662,10 +642,10 @@ fn the_longest_token_is_taken() {
 #[test]
 fn blanks_part_tokens() {
     let spaced = "\tpre\r\n0 <=\tv0 ;while 0<v0\rkeep 0<=v0 fall v0 do v0:=v0-1\nend;post v0=0";
-    assert_eq!(rows(spaced), EXAMPLE_A_ROWS);
+    assert_eq!(rows(spaced), EXAMPLE_A);
     for blank in [" ", "\t", "\r", "\n", " \r\n\t "] {
-        let spread = EXAMPLE_A.replace([' ', '\n'], blank);
-        assert_eq!(rows(&spread), EXAMPLE_A_ROWS);
+        let spread = EXAMPLE_A_TEXT.replace([' ', '\n'], blank);
+        assert_eq!(rows(&spread), EXAMPLE_A);
         formula_refused_at(41, &format!("1{blank}↓2 = 3"));
         statement_refused_at(40, &format!("v0 ↓:{blank}= 3"));
     }
@@ -708,7 +688,7 @@ fn letters_and_digits_are_one_word() {
     formula_refused_at(41, "1↓v2 < 3");
     formula_refused_at(40, "1 ↓and2 < 3");
     let no_blanks = "pre 0<=v0;while 0<v0 keep 0<=v0 fall v0 do v0:=v0-1end;post v0=0";
-    assert_eq!(rows(no_blanks), EXAMPLE_A_ROWS);
+    assert_eq!(rows(no_blanks), EXAMPLE_A);
 }
 
 #[test]
@@ -767,8 +747,8 @@ fn the_room() {
     for room in [16, 17, 18, 19, 20, 8_192, 8_196, usize::MAX] {
         assert_eq!(read_text(shortest, room).words.len(), 16);
     }
-    assert_eq!(refusal_in(EXAMPLE_A.as_bytes(), 79), (43, 0));
-    assert_eq!(read_text(EXAMPLE_A.as_bytes(), 80).number, 0);
+    assert_eq!(refusal_in(EXAMPLE_A_TEXT.as_bytes(), 79), (43, 0));
+    assert_eq!(read_text(EXAMPLE_A_TEXT.as_bytes(), 80).number, 0);
 }
 
 /// A text of 2 × `skips` + 2 rows, and one more for each `not `.
@@ -798,12 +778,12 @@ fn two_thousand_and_forty_eight_rows() {
 #[test]
 fn the_longest_text() {
     let padded = |length: usize| {
-        let mut text = EXAMPLE_A.as_bytes().to_vec();
+        let mut text = EXAMPLE_A_TEXT.as_bytes().to_vec();
         text.resize(length, b'\n');
         text
     };
     let answer = read_text(&padded(32_768), AMPLE);
-    assert_eq!(answer.words, EXAMPLE_A_ROWS.concat());
+    assert_eq!(answer.words, EXAMPLE_A.concat());
     assert_eq!(refusal_in(&padded(32_769), AMPLE), (44, 0));
     assert_eq!(refusal_in(&padded(100_000), 0), (44, 0));
     assert_eq!(refusal_in(&vec![b'#'; 32_768], AMPLE), (40, 0));
@@ -873,22 +853,6 @@ fn every_prefix_of_a_text() {
         }
     }
     assert_eq!(whole, [ALL_TOKENS.len()]);
-}
-
-/// A small generator of pseudo-random numbers, the same on every run.
-struct Random(u64);
-
-impl Random {
-    fn below(&mut self, bound: usize) -> usize {
-        self.0 ^= self.0 << 13;
-        self.0 ^= self.0 >> 7;
-        self.0 ^= self.0 << 17;
-        (self.0 >> 33) as usize % bound
-    }
-
-    fn pick<T: Copy>(&mut self, from: &[T]) -> T {
-        from[self.below(from.len())]
-    }
 }
 
 #[test]

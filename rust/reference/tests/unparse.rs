@@ -1,26 +1,13 @@
 //! The way back of request P4: texts written from rows are read as these rows.
 
+mod random;
+
+use random::Random;
 use reference::*;
 
 const AMPLE: usize = 8_192;
 
 type Words4 = [i32; 4];
-
-/// A small generator of pseudo-random numbers, the same on every run.
-struct Random(u64);
-
-impl Random {
-    fn below(&mut self, bound: usize) -> usize {
-        self.0 ^= self.0 << 13;
-        self.0 ^= self.0 >> 7;
-        self.0 ^= self.0 << 17;
-        (self.0 >> 33) as usize % bound
-    }
-
-    fn pick<T: Copy>(&mut self, from: &[T]) -> T {
-        from[self.below(from.len())]
-    }
-}
 
 /// Random rows, each with its parts left to right before it.
 struct Rows {
