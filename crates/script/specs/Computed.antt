@@ -1,6 +1,6 @@
 -- 01, "Trial rows": the starred ones, and those of the others that computation reaches, as rows of a single statement that
 -- the prover settles by computing the definitions. 02, P2, moves one of them, "the case with target 256 becomes planned": within
--- 256 variables it is what 01 says. Beside it stand rows at both limits. Assumes nothing.
+-- 256 variables it is what 01 says. Beside it stand rows at both limits. Those of 02, P5, are in `DivisionFigures`. Assumes nothing.
 use Prim.Native.Nat.{ℕ, zero, suc, _+_, _*_}
 use mathlib.Core.Path.{_≡_, refl}
 use mathlib.Core.Bool.{Bool, true, false}
@@ -13,10 +13,10 @@ use Rattle.script.specs.declared.Line.{Line}
 use Rattle.script.specs.Syntax.{const, var, arith, truth, cmp, assign, loop, Tree}
 use Rattle.script.specs.declared.Operator.the-variants.{Minus}
 use Rattle.script.specs.declared.Relation.the-variants.{AtMost}
-use Rattle.script.specs.Meaning.{State, divZ, modZ, whole, value, holds}
+use Rattle.script.specs.Meaning.{State, divZ, modZ, whole, value, holds, defined, definedᶠ}
 use Rattle.script.specs.Run.{Frame, begin, again, Config, at, failed, first-step, step-of, step, after, start, Good}
 use Rattle.script.specs.Run as Run
-use Rattle.script.specs.Conditions.{conditions, walk, wp, subst-expr, subst-formula}
+use Rattle.script.specs.Conditions.{conditions, walk, wp, divisors, divisorsᶠ, subst-expr, subst-formula}
 use Rattle.script.specs.Words.{list-words, all-lines, line-words, expr-words, formula-words}
 use Rattle.script.specs.Rows.{row, row-of}
 use Rattle.script.specs.Trees.{expr, formula, stmt, expr-at, formula-at, stmt-at, tree, nesting}
@@ -93,7 +93,7 @@ numbers (n ∷ ns) = pos n ∷ numbers ns
 
 -- ---- trials
 
-data Trial : Type 0 where
+pub data Trial : Type 0 where
   -- table, room, scratch, answer
   generates : List ℤ → ℕ → ℕ → Answer → Trial
   -- table, the words of its list
@@ -111,7 +111,7 @@ data Trial : Type 0 where
   -- how many variables there are, words, index, line
   reads-within : ℕ → List ℤ → ℤ → Line → Trial
 
-data Observed : Type 0 where
+pub data Observed : Type 0 where
   answer : Answer → Observed
   words : List ℤ → Observed
   verdict-is : Verdict → Observed
@@ -122,7 +122,7 @@ data Observed : Type 0 where
 abbrev planned : ℕ → ℕ → Answer
 planned n w = record { number = 0; row = 0; conditions = n; words = w }
 
-observed : Trial → Observed
+unfoldable pub observed : Trial → Observed
 observed (generates t l s a) = answer (outcome t l s .answer)
 observed (lists t ws) = words (take (outcome t 512 5120 .answer .words) (outcome t 512 5120 .list))
 observed (judges t v) = verdict-is (verdict t)
@@ -132,7 +132,7 @@ observed (divides n d q r) = division (divZ n d) (modZ n d)
 observed (reads ws i l) = line (line-at ws i)
 observed (reads-within n ws i l) = line (line-at-within n ws i)
 
-expected : Trial → Observed
+unfoldable pub expected : Trial → Observed
 expected (generates t l s a) = answer a
 expected (lists t ws) = words (numbers ws)
 expected (judges t v) = verdict-is v
@@ -231,7 +231,7 @@ trials =
     ∷ []
 
 trials-hold : map observed trials ≡ map expected trials
-unfolding trials observed expected names-in one-variable numbers example example-a four-rows loops-in-branches loops-in-sequence loop-in-loop branches nested _⨾_ outcome-within outcome-for verdict-within length-test row-test-within script-test unlinked-test target-test reading-test nesting-test lowest row-fault-within linked misread misreads row row-of expr formula stmt expr-at formula-at stmt-at tree nesting conditions walk wp subst-expr subst-formula list-words all-lines line-words expr-words formula-words read-expr-within read-formula-within spelled-within found-within line-before-within lines-before-within lines-within line-at-within
+unfolding trials observed expected names-in one-variable numbers example example-a four-rows loops-in-branches loops-in-sequence loop-in-loop branches nested _⨾_ outcome-within outcome-for verdict-within length-test row-test-within script-test unlinked-test target-test reading-test nesting-test lowest row-fault-within linked misread misreads row row-of expr formula stmt expr-at formula-at stmt-at tree nesting conditions walk wp divisors divisorsᶠ subst-expr subst-formula list-words all-lines line-words expr-words formula-words read-expr-within read-formula-within spelled-within found-within line-before-within lines-before-within lines-within line-at-within
 trials-hold = refl
 
 -- ---- "With guard 0 ≤ x, variant x and body x := x − 1, a start at 0 makes one pass."
@@ -251,16 +251,16 @@ zero-state = record { var = λ v. pos 0; mark = λ m. pos 0 }
 passes : List Frame → List ℕ
 passes [] = []
 passes (begin x ∷ k) = passes k
-passes (again m b v x v₀ n ∷ k) = n ∷ passes k
+passes (again m b i v x v₀ n ∷ k) = n ∷ passes k
 
 begun : Config → List ℕ
 begun (at k s) = passes k
-begun failed = []
+begun (failed c x) = []
 
 unfoldable pub moment : ℕ → Config
 moment n = after whole n (start counting-down zero-state)
 
 -- the first step begins the body, which the bound allows; the third leaves the loop
 one-pass : Good (moment 1) × (begun (moment 1) ≡ 1 ∷ []) × (begun (moment 3) ≡ [])
-unfolding moment counting-down zero-state passes begun after step step-of first-step Run.test value holds
+unfolding moment counting-down zero-state passes begun after step step-of first-step Run.test value holds defined definedᶠ
 one-pass = ((lit≤ tt, tt), refl, refl)

@@ -1,16 +1,20 @@
--- 01, "Conditions": W, and the conditions that a walk lists, in order. Nothing is simplified.
+-- 01, "Conditions", with D of 02, P5: substitution, D, W, and the conditions that a walk lists, in order. Nothing is
+-- simplified.
 -- The language and the shape of loops follow source document 000; the base rules are those of Hoare 1969; the conditions of
 -- a while are those of source document 004, section 3.4, with the variant added. Assumes nothing.
 use Prim.Native.Nat.{ℕ}
 use mathlib.Core.List.{List, [], _∷_, _++_}
 use mathlib.Core.Bool.{cond}
+use mathlib.Core.Option.{Option, none, some}
 use lib.IntN.{pos}
 use lib.Dec.{eqb}
 use Rattle.script.specs.Syntax.{Expr, const, var, mark, arith, neg, choose, Formula, truth, cmp, not, join, Stmt, skip, assign, seq, branch, loop, assert, Tree}
-use Rattle.script.specs.declared.Relation.the-variants.{Less, AtMost, Equal}
+use Rattle.script.specs.declared.Operator.{Operator}
+use Rattle.script.specs.declared.Operator.the-variants.{Plus, Minus, Times, Div, Mod}
+use Rattle.script.specs.declared.Relation.the-variants.{Less, AtMost, Equal, Unequal}
 use Rattle.script.specs.declared.Connective.the-variants.{And, Implies}
 use Rattle.script.specs.declared.Rule.{Rule}
-use Rattle.script.specs.declared.Rule.the-variants.{Exit, Floor, Step, Main}
+use Rattle.script.specs.declared.Rule.the-variants.{Exit, Floor, Step, Main, Guard}
 
 -- "each variable v replaced by E, all at once"
 module _ (v : ℕ) (e : Expr) where
@@ -29,17 +33,62 @@ module _ (v : ℕ) (e : Expr) where
     subst-formula (not f) = not (subst-formula f)
     subst-formula (join c f g) = join c (subst-formula f) (subst-formula g)
 
+-- ---- 02, P5: "D(E) says no divisor is zero"
+
+infixl 30 _joined_
+-- items in order, "each kept whole, joined by and, grouped from the left". "What has no div or mod adds nothing": its D is
+-- none, and none is no item
+abbrev pub _joined_ : Option Formula → Option Formula → Option Formula
+none joined y = y
+some f joined none = some f
+some f joined some g = some (join And f g)
+
+-- "in a choose the branches' D stand behind formula implies and (not formula) implies"
+abbrev pub behind : Formula → Option Formula → Option Formula
+behind f none = none
+behind f (some g) = some (join Implies f g)
+
+-- "for div and mod the divisor unequal to 0"
+abbrev pub divisor : Operator → Expr → Option Formula
+divisor Plus d = none
+divisor Minus d = none
+divisor Times d = none
+divisor Div d = some (cmp Unequal d (const (pos 0)))
+divisor Mod d = some (cmp Unequal d (const (pos 0)))
+
+-- "each part's D in order, then for div and mod the divisor unequal to 0"
+unfoldable mutual
+  pub divisors : Expr → Option Formula
+  divisors (const z) = none
+  divisors (var v) = none
+  divisors (mark m) = none
+  divisors (arith o a b) = divisors a joined divisors b joined divisor o b
+  divisors (neg a) = divisors a
+  divisors (choose f a b) = divisorsᶠ f joined behind f (divisors a) joined behind (not f) (divisors b)
+
+  pub divisorsᶠ : Formula → Option Formula
+  divisorsᶠ (truth b) = none
+  divisorsᶠ (cmp r a b) = divisors a joined divisors b
+  divisorsᶠ (not f) = divisorsᶠ f
+  divisorsᶠ (join c f g) = divisorsᶠ f joined divisorsᶠ g
+
+infixr 20 _and_
+-- "D(E) and the old formula", or the old formula alone
+abbrev pub _and_ : Option Formula → Formula → Formula
+none and q = q
+some d and q = join And d q
+
 -- "W(S, Q) is the formula to hold before S": where S has no loop, the weakest precondition. "The rule for a statement refers
 -- to the rule for its parts"
 unfoldable pub wp : Stmt → Formula → Formula
 -- "Q"
 wp skip q = q
--- "Q with each variable v replaced by E, all at once"
-wp (assign v e) q = subst-formula v e q
+-- 02, P5: "D(E) and the old formula", which is "Q with each variable v replaced by E, all at once"
+wp (assign v e) q = divisors e and subst-formula v e q
 -- "W(S, W(T, Q))"
 wp (seq a b) q = wp a (wp b q)
--- "(B implies W(S, Q)) and ((not B) implies W(T, Q))"
-wp (branch b x y) q = join And (join Implies b (wp x q)) (join Implies (not b) (wp y q))
+-- 02, P5: "D(B) and the old formula", which is "(B implies W(S, Q)) and ((not B) implies W(T, Q))"
+wp (branch b x y) q = divisorsᶠ b and join And (join Implies b (wp x q)) (join Implies (not b) (wp y q))
 -- "its invariant I"
 wp (loop m b i v x) q = i
 -- "A and Q"
@@ -69,16 +118,22 @@ floor b i v = join Implies (join And i b) (cmp AtMost (const (pos 0)) v)
 abbrev pub step : ℕ → Formula → Formula → Expr → Stmt → Formula
 step m b i v x = join Implies (join And (join And i b) (cmp Equal v (mark m))) (wp x (decreased m i v))
 
+-- 02, P5: "a loop whose guard divides lists first a condition of kind 5, guard: I implies D(B)"
+abbrev pub guard : ℕ → Formula → Option Formula → List Condition
+guard m i none = []
+guard m i (some d) = condition Guard m (join Implies i d) ∷ []
+
 -- "Walk order: a sequence lists its second part's conditions first; an if lists those of then, next those of else." A loop
--- lists exit, floor, "all conditions of its body, walked with (I and (V less m))", and step.
+-- lists guard where its guard divides, exit, floor, "all conditions of its body, walked with (I and (V less m))", and step.
 unfoldable pub walk : Stmt → Formula → List Condition
 walk skip q = []
 walk (assign v e) q = []
 walk (seq a b) q = walk b q ++ walk a (wp b q)
 walk (branch b x y) q = walk x q ++ walk y q
 walk (loop m b i v x) q =
-    condition Exit m (exit b i q) ∷ condition Floor m (floor b i v)
-    ∷ (walk x (decreased m i v) ++ (condition Step m (step m b i v x) ∷ []))
+    guard m i (divisorsᶠ b)
+    ++ (condition Exit m (exit b i q) ∷ condition Floor m (floor b i v)
+    ∷ (walk x (decreased m i v) ++ (condition Step m (step m b i v x) ∷ [])))
 walk (assert a) q = []
 
 -- "Last comes main: P implies W(S, Q)."

@@ -1,10 +1,10 @@
 -- Laws of a row taken apart, and of signed words, that the code's proofs cite. Assumes nothing.
-use Prim.Native.Nat.{ℕ, _+_, _*_, _<_, _^_}
+use Prim.Native.Nat.{ℕ, _<_, _^_}
 use lib.Signed.{mag}
 use mir.Facts.{toZ-ofZ}
 use mir.Val.{toZ, ofZ}
 use mir.Syntax.{w32}
-use mathlib.Core.Path.{_≡_, refl, ap, _∙_}
+use mathlib.Core.Path.{_≡_, refl}
 use mathlib.Core.List.{List}
 use lib.IntN.{ℤ, pos, negsuc}
 use Rattle.script.specs.Rows.{field-number, row-of, row, word, at-kind}

@@ -11,4 +11,6 @@ pub mod Listing
 pub mod WellFormed
 pub mod Promise
 pub mod Computed
+pub mod DivisionFigures
+pub mod DivisionRuns
 pub mod Laws

@@ -14,7 +14,7 @@ use Rattle.script.specs.declared.FormulaRow.the-variants.{True, False, C
 use Rattle.script.specs.declared.Row.{Row}
 use Rattle.script.specs.declared.Row.the-variants as Row
 use Rattle.script.specs.declared.Rule.{Rule}
-use Rattle.script.specs.declared.Rule.the-variants.{Exit, Floor, Step, Main}
+use Rattle.script.specs.declared.Rule.the-variants.{Exit, Floor, Step, Main, Guard}
 use Rattle.script.specs.declared.Line.{Line}
 use Rattle.script.specs.Syntax.{Expr, const, var, mark, arith, neg, choose, Formula, truth, cmp, not, join}
 use Rattle.script.specs.Conditions.{Condition, condition}
@@ -122,13 +122,14 @@ below limit w = do
   n ← natural w
   guarded (ltb n limit) (some n)
 
--- "a kind 1 to 4"
+-- "a kind 1 to 4"; 02, P5: "The list reader takes kind 5."
 abbrev pub rule-of : ℕ → Option Rule
 rule-of n =
     cond (eqb n 1) (some Exit)
     (cond (eqb n 2) (some Floor)
     (cond (eqb n 3) (some Step)
-    (cond (eqb n 4) (some Main) none)))
+    (cond (eqb n 4) (some Main)
+    (cond (eqb n 5) (some Guard) none))))
 
 -- a condition, and from where to where its formula stands
 pub record Found : Type 0 where
@@ -137,8 +138,8 @@ pub record Found : Type 0 where
   pub end : ℕ
 
 module _ (limit : ℕ) where
-  -- with the trailer k, r, n after a formula that ends at e: "a kind 1 to 4, a row from 0 to 2,047 and the true length of
-  -- one whole formula"
+  -- with the trailer k, r, n after a formula that ends at e: "a kind 1 to 4" or 5, "a row from 0 to 2,047 and the true length
+  -- of one whole formula"
   unfoldable pub found-within : List ℤ → ℕ → ℤ → ℤ → ℤ → Option Found
   found-within ws e k r n = do
     rule ← rule-of (field-number k)

@@ -1,5 +1,6 @@
 -- 01, "Meaning of a run", its first two paragraphs: states, values, truth.
--- In this order: states, div and mod, an arithmetic, the value of an expression and the truth of a formula. Assumes nothing.
+-- In this order: states, div and mod, an arithmetic, the value of an expression and the truth of a formula; then 02, P5:
+-- whether they work out a zero divisor. Assumes nothing.
 use Prim.Native.Nat.{ℕ, zero, suc, _/_, _%_, _-_}
 use lib.IntN.{ℤ, pos, negsuc, negℤ, _+ℤ_, _-ℤ_, _*ℤ_, natAbs}
 use lib.Signed.{ltZ, leZ}
@@ -88,3 +89,30 @@ module _ (𝔸 : Arithmetic) (s : State) where
     holds (cmp r a b) = relate r (value a) (value b)
     holds (not f) = Bool.not (holds f)
     holds (join c f g) = connect c (holds f) (holds g)
+
+-- ---- 02, P5: "a guard or assigned expression that works out a div or mod by zero"
+
+-- whether an operator takes z for its divisor: only div and mod mind, and zero alone is refused
+abbrev pub takes : Operator → ℤ → Bool
+takes Plus z = true
+takes Minus z = true
+takes Times z = true
+takes Div z = Bool.not (eqZ z (pos 0))
+takes Mod z = Bool.not (eqZ z (pos 0))
+
+-- whether no div or mod by zero is worked out: "choose works out only the branch taken, connectives both sides"
+module _ (𝔸 : Arithmetic) (s : State) where
+  unfoldable mutual
+    pub defined : Expr → Bool
+    defined (const z) = true
+    defined (var v) = true
+    defined (mark m) = true
+    defined (arith o a b) = (defined a && defined b) && takes o (value 𝔸 s b)
+    defined (neg a) = defined a
+    defined (choose f a b) = definedᶠ f && cond (holds 𝔸 s f) (defined a) (defined b)
+
+    pub definedᶠ : Formula → Bool
+    definedᶠ (truth b) = true
+    definedᶠ (cmp r a b) = defined a && defined b
+    definedᶠ (not f) = definedᶠ f
+    definedᶠ (join c f g) = definedᶠ f && definedᶠ g

@@ -1,6 +1,7 @@
 -- Demand 3: if every condition of the list left is true in all states, every run from a start that meets the precondition
--- fails no assertion, ends, meets the postcondition, and begins a loop's body at most v + 1 times on each arrival with
--- variant v (not at all if v < 0). 01: "Demand 3 is a single claim on table, list and whole run". Assumes nothing.
+-- fails no assertion, divides by no zero (02, P5: "The rule about proved scripts now also excludes a zero divisor"), ends,
+-- meets the postcondition, and begins a loop's body at most v + 1 times on each arrival with variant v (not at all if
+-- v < 0). 01: "Demand 3 is a single claim on table, list and whole run". Assumes nothing.
 use mathlib.Core.Path.{_≡_}
 use mathlib.Core.Option.{some}
 use mathlib.Core.List.{List, [], _∷_}

@@ -23,6 +23,23 @@ mutual
     not : Formula → Formula
     join : Connective → Formula → Formula → Formula
 
+-- each variable in it has P, and each mark Q
+module _ (P Q : ℕ → Type 0) where
+  abbrev mutual
+    pub Names : Expr → Type 0
+    Names (const z) = Unit {0}
+    Names (var v) = P v
+    Names (mark m) = Q m
+    Names (arith o a b) = Names a × Names b
+    Names (neg a) = Names a
+    Names (choose f a b) = Namesᶠ f × Names a × Names b
+
+    pub Namesᶠ : Formula → Type 0
+    Namesᶠ (truth b) = Unit {0}
+    Namesᶠ (cmp r a b) = Names a × Names b
+    Namesᶠ (not f) = Namesᶠ f
+    Namesᶠ (join c f g) = Namesᶠ f × Namesᶠ g
+
 pub data Stmt : Type 0 where
   skip : Stmt
   assign : ℕ → Expr → Stmt

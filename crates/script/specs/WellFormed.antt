@@ -1,34 +1,25 @@
 -- 01, "Reading a finished list", once more as it is worded: "A well-formed list has a count of 1 or more, at most 16,384
 -- words, that many trailers, each with a kind 1 to 4, a row from 0 to 2,047 and the true length of one whole formula;
--- variables 0 to 255, marks 0 to 2,047; nothing left at the front." With 02, P2, variables are 0 to 1,023. So it is the words
--- of one or more conditions whose numbers are in range. Assumes nothing.
+-- variables 0 to 255, marks 0 to 2,047; nothing left at the front." With 02, P2, variables are 0 to 1,023, and with P5 a kind is
+-- 1 to 5. So it is the words of one or more conditions whose numbers are in range. Assumes nothing.
 use Prim.Native.Nat.{ℕ, _≤_, _<_}
 use mathlib.Core.Path.{_≡_}
 use mathlib.Core.List.{List, [], _∷_}
 use lib.IntN.{ℤ}
 use lib.ListN.{length}
 use Rattle.script.specs.Rows.{variables}
-use Rattle.script.specs.Syntax.{Expr, const, var, mark, arith, neg, choose, Formula, truth, cmp, not, join}
+use Rattle.script.specs.Syntax.{Expr, Formula, Names, Namesᶠ}
 use Rattle.script.specs.Conditions.{Condition}
 use Rattle.script.specs.Words.{list-words}
 use Rattle.script.specs.Listing.{row-limit}
 
 -- where the variables are those below a limit
 module _ (limit : ℕ) where
-  abbrev mutual
-    pub In-range-within : Expr → Type 0
-    In-range-within (const z) = Unit {0}
-    In-range-within (var v) = v < limit
-    In-range-within (mark m) = m < row-limit
-    In-range-within (arith o a b) = In-range-within a × In-range-within b
-    In-range-within (neg a) = In-range-within a
-    In-range-within (choose f a b) = In-rangeᶠ-within f × In-range-within a × In-range-within b
+  abbrev pub In-range-within : Expr → Type 0
+  In-range-within e = Names (λ v. v < limit) (λ m. m < row-limit) e
 
-    pub In-rangeᶠ-within : Formula → Type 0
-    In-rangeᶠ-within (truth b) = Unit {0}
-    In-rangeᶠ-within (cmp r a b) = In-range-within a × In-range-within b
-    In-rangeᶠ-within (not f) = In-rangeᶠ-within f
-    In-rangeᶠ-within (join c f g) = In-rangeᶠ-within f × In-rangeᶠ-within g
+  abbrev pub In-rangeᶠ-within : Formula → Type 0
+  In-rangeᶠ-within f = Namesᶠ (λ v. v < limit) (λ m. m < row-limit) f
 
 abbrev pub In-range : Expr → Type 0
 In-range = In-range-within variables

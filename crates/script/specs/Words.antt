@@ -13,7 +13,7 @@ use Rattle.script.specs.declared.Relation.the-variants.{Less, AtMost, Eq
 use Rattle.script.specs.declared.Connective.{Connective}
 use Rattle.script.specs.declared.Connective.the-variants.{And, Or, Implies}
 use Rattle.script.specs.declared.Rule.{Rule}
-use Rattle.script.specs.declared.Rule.the-variants.{Exit, Floor, Step, Main}
+use Rattle.script.specs.declared.Rule.the-variants.{Exit, Floor, Step, Main, Guard}
 
 abbrev pub op-word : Operator → ℤ
 op-word Plus = pos 3
@@ -56,9 +56,10 @@ rule-number Exit = 1
 rule-number Floor = 2
 rule-number Step = 3
 rule-number Main = 4
+rule-number Guard = 5
 
 -- "After each formula stands its trailer, three words: condition kind (1 exit, 2 floor, 3 step, 4 main), row (of the while,
--- or of the script), and length of the formula just before."
+-- or of the script), and length of the formula just before." 02, P5: "a condition of kind 5, guard"
 abbrev pub trailer : Condition → List ℤ
 trailer c = pos (rule-number (c .rule)) ∷ pos (c .row) ∷ pos (length (formula-words (c .claim))) ∷ []
 

@@ -95,6 +95,8 @@ pub enum Rule {
     Floor,
     Step,
     Main,
+    // 02, P5
+    Guard,
 }
 
 // What a call answers: 0 with the conditions and words of the list, or the number of a refusal with its row.
