@@ -10,7 +10,7 @@ use lib.ListN.{length, replicate}
 use Rattle.script.specs.Computed.{_⨾_, example, example-a}
 use Rattle.script.specs.Rows.{row, row-of}
 use Rattle.script.specs.Trees.{expr, formula, stmt, expr-at, formula-at, stmt-at, tree}
-use Rattle.script.specs.Conditions.{conditions, walk, wp, subst-expr, subst-formula}
+use Rattle.script.specs.Conditions.{conditions, walk, wp, divisors, divisorsᶠ, subst-expr, subst-formula}
 use Rattle.script.specs.Words.{list-words, all-lines, line-words, expr-words, formula-words}
 use Rattle.script.specs.Listing.{read-expr-within, read-formula-within, spelled-within, found-within, line-before-within, lines-before-within, lines-within}
 use Rattle.text.specs.Ascii.{bytes}
@@ -110,7 +110,7 @@ figures =
     ∷ []
 
 figures-hold : map (λ (f : Call × Written). written (f .0 .0) (f .0 .1) (f .0 .2)) figures ≡ map (λ (f : Call × Written). f .1) figures
-unfolding figures list-a one constants divisions choice sums ends past-ends text example-a example _⨾_ row row-of expr formula stmt expr-at formula-at stmt-at tree conditions walk wp subst-expr subst-formula list-words all-lines line-words expr-words formula-words read-expr-within read-formula-within spelled-within found-within line-before-within lines-before-within lines-within decimal digits term claim references occurring script-within sexp-text term-sexp command-sexp script-text written-within
+unfolding figures list-a one constants divisions choice sums ends past-ends text example-a example _⨾_ row row-of expr formula stmt expr-at formula-at stmt-at tree conditions walk wp divisors divisorsᶠ subst-expr subst-formula list-words all-lines line-words expr-words formula-words read-expr-within read-formula-within spelled-within found-within line-before-within lines-before-within lines-within decimal digits term claim references occurring script-within sexp-text term-sexp command-sexp script-text written-within
 figures-hold = refl
 
 -- ---- what a writer cannot do
@@ -118,7 +118,7 @@ figures-hold = refl
 -- example A's first condition and its last, and one past it
 facts : (written list-a (pos 0) 114 .used ≡ 114) × (written list-a (pos 3) 114 .number ≡ 0) × (written list-a (pos 3) 114 .used ≡ 94)
     × (written list-a (pos 4) 114 .number ≡ 21)
-unfolding list-a one example-a example _⨾_ row row-of expr formula stmt expr-at formula-at stmt-at tree conditions walk wp subst-expr subst-formula list-words all-lines line-words expr-words formula-words read-expr-within read-formula-within spelled-within found-within line-before-within lines-before-within lines-within decimal digits term claim references occurring script-within sexp-text term-sexp command-sexp script-text written-within
+unfolding list-a one example-a example _⨾_ row row-of expr formula stmt expr-at formula-at stmt-at tree conditions walk wp divisors divisorsᶠ subst-expr subst-formula list-words all-lines line-words expr-words formula-words read-expr-within read-formula-within spelled-within found-within line-before-within lines-before-within lines-within decimal digits term claim references occurring script-within sexp-text term-sexp command-sexp script-text written-within
 facts = (refl, refl, refl, refl)
 
 -- a writer that always answers what is defined

@@ -1,8 +1,7 @@
 -- From a solver's verdicts on what the writer left to runs (`verdicts-to-runs`): if a table is planned, and for every index
 -- below the count a text was written whose script has no model (what a solver's `unsat` says, if it is right), then every run
--- from a start that meets the precondition fails no assertion, ends, meets the postcondition, and begins loops' bodies no more
--- often than their variants say.
--- Assumes nothing.
+-- from a start that meets the precondition fails no assertion, divides by no zero, ends, meets the postcondition, and begins
+-- loops' bodies no more often than their variants say. Assumes nothing.
 use Prim.Native.Nat.{ℕ, zero, suc, _≤_, _<_}
 use mathlib.Core.Path.{_≡_, refl, sym, ap, _∙_}
 use mathlib.Core.Logic.{_≢_}

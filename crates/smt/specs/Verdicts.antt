@@ -1,8 +1,9 @@
 -- From a solver's verdicts to runs: if a table is planned, and of every condition that is read from the list the script has
--- no model, then every run from a start that meets the precondition fails no assertion, ends, meets the postcondition, and
--- begins loops' bodies no more often than their variants say (`unsatisfiable-correct`). The same of the scripts that are
--- read from the texts (`unsatisfiable-texts-correct`). And of a single text: what is read back means the same in every state
--- (`text-means`), and its script has no model exactly when the condition is valid (`text-valid-iff`). Assumes nothing.
+-- no model, then every run from a start that meets the precondition fails no assertion, divides by no zero, ends, meets the
+-- postcondition, and begins loops' bodies no more often than their variants say (`unsatisfiable-correct`). The same of the
+-- scripts that are read from the texts (`unsatisfiable-texts-correct`). And of a single text: what is read back means the
+-- same in every state (`text-means`), and its script has no model exactly when the condition is valid (`text-valid-iff`).
+-- Assumes nothing.
 use Prim.Native.Nat.{ℕ}
 use mathlib.Core.Path.{_≡_, sym, _∙_}
 use mathlib.Core.Logic.{_↔_}

@@ -1,6 +1,6 @@
 -- What is promised of a text, without the reader: which texts are read and which number with which place every other
 -- text gets (`Occasions`, proved in `Exactly`), what a text's table means for runs of its script (`Runs`), and the
--- sentences of 02, P4 on texts (`Figures`, `Refused`, `Recorded`, `Witness`). Assumes nothing.
+-- sentences of 02, P4 on texts (`Figures`, `Refused`, `Recorded`, `Witness`; with P5 `DividedWitness`). Assumes nothing.
 pub mod Reading
 pub mod Runs
 pub mod FirstOut
@@ -16,3 +16,4 @@ pub mod Figures
 pub mod Refused
 pub mod Recorded
 pub mod Witness
+pub mod DividedWitness

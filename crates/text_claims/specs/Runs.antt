@@ -1,9 +1,9 @@
 -- From a text to the runs of its script. If the text is read, the generator plans its table in some room and scratch,
 -- and every condition of the list left is true in all states, then every run of the text's script, begun where its
--- precondition holds, fails no assertion, ends, meets the postcondition, and begins loops' bodies no more often than
--- their variants say (`text-runs`). The same if no condition's script has a model (`solved-text-runs`), and from the
--- texts that the writer of scripts left (`refuted-text-runs`). The script is `text-tree x`, x any derivation of the
--- text; there is one (`has-reading`). The table that the text is read into has that tree (`same-script`). Assumes
+-- precondition holds, fails no assertion, divides by no zero, ends, meets the postcondition, and begins loops' bodies no
+-- more often than their variants say (`text-runs`). The same if no condition's script has a model (`solved-text-runs`),
+-- and from the texts that the writer of scripts left (`refuted-text-runs`). The script is `text-tree x`, x any derivation
+-- of the text; there is one (`has-reading`). The table that the text is read into has that tree (`same-script`). Assumes
 -- nothing.
 use Prim.Native.Nat.{ℕ, _≤_, _<_}
 use mathlib.Core.Path.{_≡_, ap, _∙_, subst}

@@ -24,7 +24,7 @@ use Rattle.script.specs.Rows.{row, row-of}
 use Rattle.script.specs.Trees.{expr, formula, stmt, expr-at, formula-at, stmt-at, tree, nesting}
 use Rattle.script.specs.Refusals.{lowest, row-fault-within, linked, misread, misreads, length-test, row-test-within, script-test, unlinked-test, target-test, reading-test, nesting-test, verdict-within}
 use Rattle.script.specs.Generated.{outcome-for, outcome-within}
-use Rattle.script.specs.Conditions.{Condition, condition, exit, floor, step, conditions, walk, wp, subst-expr, subst-formula}
+use Rattle.script.specs.Conditions.{Condition, condition, exit, floor, step, conditions, walk, wp, divisors, divisorsᶠ, subst-expr, subst-formula}
 use Rattle.script.specs.Words.{list-words, all-lines, line-words, expr-words, formula-words}
 use Rattle.script.specs.Listing.{read-list, read-expr-within, read-formula-within, spelled-within, found-within, line-before-within, lines-before-within, lines-within}
 use Rattle.script.specs.Promise.{All-valid, List-valid}
@@ -67,7 +67,7 @@ claims =
     ∷ condition Main 19 (join Implies invariant invariant) ∷ []
 
 is-planned : Planned (generated example-a 94 282) × (read-list (list-left (generated example-a 94 282)) ≡ some claims)
-unfolding example-a example _⨾_ outcome-within outcome-for verdict-within length-test row-test-within script-test unlinked-test target-test reading-test nesting-test lowest row-fault-within linked misread misreads nesting row row-of expr formula stmt expr-at formula-at stmt-at tree conditions walk wp subst-expr subst-formula list-words all-lines line-words expr-words formula-words read-expr-within read-formula-within spelled-within found-within line-before-within lines-before-within lines-within read-list
+unfolding example-a example _⨾_ outcome-within outcome-for verdict-within length-test row-test-within script-test unlinked-test target-test reading-test nesting-test lowest row-fault-within linked misread misreads nesting row row-of expr formula stmt expr-at formula-at stmt-at tree conditions walk wp divisors divisorsᶠ subst-expr subst-formula list-words all-lines line-words expr-words formula-words read-expr-within read-formula-within spelled-within found-within line-before-within lines-before-within lines-within read-list
 is-planned = (refl, refl)
 
 -- ---- they are true in all states
@@ -104,7 +104,7 @@ itself true = tt
 itself false = tt
 
 valid : All-valid whole claims
-unfolding holds value wp subst-expr subst-formula
+unfolding holds value wp divisors subst-expr subst-formula
 valid = (
   λ s. exit-true (s .var 0),
   (λ s. floor-true (s .var 0), (λ s. step-true (s .var 0) (s .mark 15), (λ s. itself (leZ (pos 0) (s .var 0)), tt))),

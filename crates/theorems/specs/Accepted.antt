@@ -11,11 +11,11 @@ use borrow.Author.Tests.{eqb-true, eqb-false, ltb-false, leb-true, not-false}
 use lib.Dec.{T, eqb, ltb, leb}
 use lib.IntN.{ℤ}
 use lib.ListN.{length}
-use Rattle.script.specs.declared.Row.the-variants as Row
 use Rattle.script.specs.declared.Sort.the-variants.{Script, Unknown}
 use Rattle.script.specs.Rows.{row, rows, fields, parts, sort-of}
 use Rattle.script.specs.Trees.{tree, nesting}
 pub use Rattle.theorems.specs.Truths.{both}
+use Rattle.theorems.specs.Truths.{is-true}
 use Rattle.theorems.specs.Lowest.{lowest-accepts}
 use Rattle.script.specs.Refusals.{Verdict, accepted, refused, _and-then_, member, bad-length, same-sort, in-range, unused-zero, all-below, well-sorted, all-new, linked, row-fault, row-fault-within, unlinked-fault, assigns-frozen, target-fault, misreads, reading-fault, length-test, row-test, row-test-within, script-test, unlinked-test, target-test, reading-test, nesting-test, verdict, verdict-within}
 
@@ -156,7 +156,3 @@ passed t h =
           absent (member k (misreads t)) 8 (lowest-accepts (reading-fault t) (rows t) 0 .0 (s .reading) k (omega linear) (omega linear));
       shallow = leb-true (nesting (tree t .body)) 8 (is-true _ (pass-true (leb (nesting (tree t .body)) 8) 10 0 (s .nesting)));
     }
-  where
-    is-true : (b : Bool) → T b → b ≡ true
-    is-true true h = refl
-    is-true false h = absurd h

@@ -1,67 +1,33 @@
--- 01, "A reviewer's attempts": no body with the results of one of these wrong generators meets the contract. By demands 1 and
--- 2, which equate what is answered and left with `outcome` (`Meets`); by demand 3 alone, where 01 says "by 3" (`Demanded`).
--- Each is refuted at one table. What is assumed of a wrong body is what it does with accepted tables where it has room:
--- `such-a-body` is one that does so. Assumes nothing.
+-- 01, "A reviewer's attempts": no body with the results of one of these wrong generators meets the contract. By demands 1 and 2
+-- (`Bodies.Meets`); by demand 3 alone, where 01 says "by 3" (`Bodies.Demanded`). Each is refuted at one table. Assumes nothing.
 use Prim.Native.Nat.{ℕ, zero, suc, _-_, _≤_}
 use native.Mathlib.Omega.{arith as linear}
-use mathlib.Core.Path.{_≡_, refl, sym, ap, _∙_, subst}
+use mathlib.Core.Path.{_≡_, refl, sym, ap, _∙_}
 use mathlib.Core.Logic.{_≢_}
+use mathlib.Core.Bool.{Bool, true, false}
 use mathlib.Core.Option.{none, some}
 use mathlib.Core.List.{List, [], _∷_, _++_}
-use lib.Dec.{T, lit≤}
+use lib.Dec.{lit≤}
 use lib.IntN.{ℤ, pos}
 use lib.ListN.{length, getD, take}
-use lib.Seq.{take-append-seam}
 use Rattle.script.specs.declared.Answer.{Answer}
 use Rattle.script.specs.declared.Rule.the-variants.{Main}
 use Rattle.script.specs.declared.Connective.the-variants.{Implies}
-use mathlib.Core.Bool.{Bool, true, false}
 use Rattle.script.specs.Syntax.{Formula, truth, join, Stmt, skip, assign, seq, branch, loop, assert, Tree}
-use Rattle.script.specs.Meaning.{whole, value, holds}
-use Rattle.script.specs.Run.{failed, start, step, step-of, first-step, test, after, Good, Total-correctness}
-use Rattle.script.specs.Conditions.{Condition, condition, conditions, walk, wp, subst-expr, subst-formula}
+use Rattle.script.specs.Meaning.{value, holds, defined, definedᶠ}
+use Rattle.script.specs.Run.{false-assertion as by-assertion, step, step-of, first-step, test, after}
+use Rattle.script.specs.Conditions.{Condition, condition, conditions, walk, wp, divisors, divisorsᶠ, subst-expr, subst-formula}
 use Rattle.script.specs.Words.{list-words, all-lines, line-words, expr-words, formula-words}
 use Rattle.script.specs.Laws.{pos-inj}
 use Rattle.script.specs.Rows.{rows, row, row-of}
 use Rattle.script.specs.Trees.{expr, formula, stmt, expr-at, formula-at, stmt-at, tree, nesting}
 use Rattle.script.specs.Refusals.{accepted, lowest, row-fault-within, linked, misread, misreads, length-test, row-test-within, script-test, unlinked-test, target-test, reading-test, nesting-test, verdict, verdict-within}
-use Rattle.script.specs.Generated.{Outcome, zeros, scratch-need, outcome-for, outcome, outcome-within}
+use Rattle.script.specs.Generated.{zeros, scratch-need, outcome-for, outcome, outcome-within}
 use Rattle.script.specs.Listing.{Found, guarded, read-expr-within, read-formula-within, spelled-within, found-within, line-before-within, lines-before-within, lines-within, read-list}
-use Rattle.script.specs.Promise.{All-valid, List-valid, Demand-3}
 use Rattle.script.specs.Computed.{_⨾_, example, example-a, loops-in-sequence, zero-state}
-use Rattle.theorems.specs.Options.{none-is-not, some-inj}
+use Rattle.theorems.specs.Options.{none-is-not}
 use Rattle.theorems.specs.Outcomes.{outcome-cases}
-
--- ---- bodies, and what is asked of them
-
--- what a body answers and leaves, for a table, a list length and a scratch length
-abbrev pub Body : Type 0
-Body = List ℤ → ℕ → ℕ → Outcome
-
--- demands 1 and 2: answer, list and scratch
-pub record Meets (f : Body) : Type 0 where
-  pub answer : (t : List ℤ) (l s : ℕ) → f t l s .answer ≡ outcome t l s .answer
-  pub list : (t : List ℤ) (l s : ℕ) → f t l s .list ≡ outcome t l s .list
-  pub scratch : (t : List ℤ) (l s : ℕ) → f t l s .scratch ≡ outcome t l s .scratch
-
--- demand 3, and nothing else
-abbrev pub Demanded : Body → Type 0
-Demanded f = (t : List ℤ) (l s : ℕ) → Demand-3 t (f t l s .answer) (f t l s .list)
-
-abbrev planned : ℕ → ℕ → Answer
-planned n w = record { number = 0; row = 0; conditions = n; words = w }
-
--- a body that plans every accepted table for which it has room and scratch, with the words `ws` of n conditions for it
-abbrev pub Lists : Body → (List ℤ → ℕ) → (List ℤ → List ℤ) → Type 0
-Lists f n ws = (t : List ℤ) (l s : ℕ) → verdict t ≡ accepted → length (ws t) ≤ l → scratch-need (tree t) l ≤ s
-    → (f t l s .answer ≡ planned (n t) (length (ws t))) × (take (length (ws t)) (f t l s .list) ≡ ws t)
-
--- there is such a body, whatever the words
-pub such-a-body : (n : List ℤ → ℕ) (ws : List ℤ → List ℤ) → (f : Body) × Lists f n ws
-such-a-body n ws = (f, λ t l s h fits enough. (refl, take-append-seam (ws t) _))
-  where
-    f : Body
-    f t l s = record { answer = planned (n t) (length (ws t)); list = ws t ++ zeros (l - length (ws t)); scratch = zeros s }
+use Rattle.theorems.specs.Bodies.{Body, Meets, Demanded, planned, Lists, Failing, claims-nothing, lists-valid}
 
 -- ---- the wrong lists
 
@@ -128,14 +94,6 @@ false-body =
     (16, 0, 0, 0) ⨾ (32, 0, 0, 0) ⨾ (16, 0, 0, 0) ⨾ (16, 0, 0, 0) ⨾ (1, 0, 0, 0) ⨾ (37, 3, 4, 0) ⨾ (17, 0, 0, 0) ⨾ (38, 6, 0, 0)
     ⨾ (36, 2, 5, 7) ⨾ (34, 1, 8, 0) ⨾ (16, 0, 0, 0) ⨾ (48, 0, 9, 10) ⨾ []
 
--- an accepted table whose run from a state that meets the precondition fails, with a bench for a list of n words
-record Fails (t : List ℤ) (n : ℕ) : Type 0 where
-  accepts : verdict t ≡ accepted
-  need : scratch-need (tree t) n ≤ 5120
-  pre : T (holds whole zero-state (tree t .pre))
-  steps : ℕ
-  fails : after whole steps (start (tree t) zero-state) ≡ failed
-
 record Facts : Type 0 where
   example-accepted : verdict example-a ≡ accepted
   example-need : scratch-need (tree example-a) 512 ≤ 5120
@@ -148,15 +106,15 @@ record Facts : Type 0 where
   first-fits : length (first-words loops-in-sequence) ≤ 512
   short-four : short-count loops-in-sequence ≡ 4
   short-fits : length (short-words loops-in-sequence) ≤ 512
-  assertion : Fails false-assertion 512
-  body : Fails false-body 512
+  assertion : Failing false-assertion
+  body : Failing false-body
   body-words : first-words false-body ≡ true-words 11
   body-short : short-words false-body ≡ true-words 11
   one-read : read-list (true-words 3) ≡ some (true-condition 3 ∷ [])
   first-read : read-list (true-words 11) ≡ some (true-condition 11 ∷ [])
 
 facts : Facts
-unfolding zero-state first-conditions first-only first-part false-assertion false-body example-a example loops-in-sequence _⨾_ outcome-within outcome-for verdict-within length-test row-test-within script-test unlinked-test target-test reading-test nesting-test lowest row-fault-within linked misread misreads row row-of expr formula stmt expr-at formula-at stmt-at tree nesting conditions walk wp subst-expr subst-formula list-words all-lines line-words expr-words formula-words value holds after step step-of first-step test read-expr-within read-formula-within spelled-within found-within line-before-within lines-before-within lines-within read-list
+unfolding zero-state first-conditions first-only first-part false-assertion false-body example-a example loops-in-sequence _⨾_ outcome-within outcome-for verdict-within length-test row-test-within script-test unlinked-test target-test reading-test nesting-test lowest row-fault-within linked misread misreads row row-of expr formula stmt expr-at formula-at stmt-at tree nesting conditions walk wp divisors divisorsᶠ subst-expr subst-formula list-words all-lines line-words expr-words formula-words value holds after step step-of first-step test defined definedᶠ read-expr-within read-formula-within spelled-within found-within line-before-within lines-before-within lines-within read-list
 facts = record {
   example-accepted = refl;
   example-need = lit≤ tt;
@@ -169,8 +127,8 @@ facts = record {
   first-fits = lit≤ tt;
   short-four = refl;
   short-fits = lit≤ tt;
-  assertion = record { accepts = refl; need = lit≤ tt; pre = tt; steps = 1; fails = refl };
-  body = record { accepts = refl; need = lit≤ tt; pre = tt; steps = 3; fails = refl };
+  assertion = record { accepts = refl; need = lit≤ tt; pre = tt; steps = 1; cause = by-assertion; due = assert (truth false); fails = refl };
+  body = record { accepts = refl; need = lit≤ tt; pre = tt; steps = 3; cause = by-assertion; due = assert (truth false); fails = refl };
   body-words = refl;
   body-short = refl;
   one-read = refl;
@@ -238,26 +196,10 @@ invents-counts f meets t l s h = h (rw (meets .answer t l s) counted)
 
 -- ---- by demand 3 alone
 
-not-correct : (t : List ℤ) (n : ℕ) → Fails t n → Total-correctness whole (tree t) zero-state → ⊥
-not-correct t n F c = subst Good (F .fails) (c .good (F .steps))
-
--- where the words left claim nothing false, a run that fails refutes the body
-claims-nothing : (f : Body) → Demanded f → (t : List ℤ) → Fails t 512 → f t 512 5120 .answer .number ≡ 0
-    → List-valid whole (take (f t 512 5120 .answer .words) (f t 512 5120 .list)) → ⊥
-unfolding Demand-3
-claims-nothing f demanded t F planned valid = not-correct t 512 F (demanded t 512 5120 planned valid zero-state (F .pre))
-
--- a list of one condition that is true in all states
-one-valid : (ws : List ℤ) (r : ℕ) → read-list ws ≡ some (true-condition r ∷ []) → List-valid whole ws
-unfolding holds
-one-valid ws r q cs p = subst (All-valid whole) (some-inj (sym q ∙ p)) (λ s. tt, tt)
-
-lists-true : (f : Body) → Demanded f → (n : List ℤ → ℕ) (ws : List ℤ → List ℤ) → Lists f n ws → (t : List ℤ) → Fails t 512
+lists-true : (f : Body) → Demanded f → (n : List ℤ → ℕ) (ws : List ℤ → List ℤ) → Lists f n ws → (t : List ℤ) → Failing t
     → length (ws t) ≤ 512 → (r : ℕ) → read-list (ws t) ≡ some (true-condition r ∷ []) → ⊥
-lists-true f demanded n ws h t F fits r q =
-    let g = h t 512 5120 (F .accepts) fits (F .need) in
-    let words : f t 512 5120 .answer .words ≡ length (ws t) = ap (λ (a : Answer). a .words) (g .0) in
-    claims-nothing f demanded t F (ap (λ (a : Answer). a .number) (g .0)) (rw (words, g .1) (one-valid (ws t) r q))
+unfolding holds
+lists-true f demanded n ws h t F fits r q = lists-valid f demanded n ws h t F fits (true-condition r ∷ []) q (λ s. tt, tt)
 
 pub one-list-by-3 : (f : Body) → Demanded f → Lists f (λ t. 1) one-list → ⊥
 one-list-by-3 f demanded h = lists-true f demanded (λ t. 1) one-list h false-assertion (facts .assertion) (lit≤ tt) 3 (facts .one-read)

@@ -14,7 +14,7 @@ use lib.ListN.{length, getD, take, drop, length-append, length-drop, take-append
 use lib.Seq.{slice, take-append-add, take-append-seam, drop-append-seam, getD-append-add, take-add, getD-drop, length-slice, take-take}
 use borrow.Author.Tests.{eqb-true, lt-ltb, ltb-true, le-leb, leb-true}
 use Rattle.script.specs.declared.Rule.{Rule}
-use Rattle.script.specs.declared.Rule.the-variants.{Exit, Floor, Step, Main}
+use Rattle.script.specs.declared.Rule.the-variants.{Exit, Floor, Step, Main, Guard}
 use Rattle.script.specs.Rows.{field-number, variables}
 use Rattle.script.specs.Conditions.{Condition}
 use Rattle.script.specs.Words.{formula-words, rule-number, trailer, line-words}
@@ -39,6 +39,7 @@ rule-back Exit = refl
 rule-back Floor = refl
 rule-back Step = refl
 rule-back Main = refl
+rule-back Guard = refl
 
 found-back : (front tail : List ℤ) (c : Condition) → c .row < row-limit → In-rangeᶠ (c .claim)
     → (n : ℕ) → n ≡ length (formula-words (c .claim))
@@ -102,7 +103,8 @@ first-rule n a r later h e = pick (eqb n (rule-number a)) refl e
 rule-only : (k : ℤ) (r : Rule) → rule-of (field-number k) ≡ some r → pos (rule-number r) ≡ k
 rule-only (negsuc n) r e = none-is-not e
 rule-only (pos n) r e =
-    ap pos (first-rule n Exit r _ (first-rule n Floor r _ (first-rule n Step r _ (first-rule n Main r none (λ q. none-is-not q)))) e)
+    ap pos
+    (first-rule n Exit r _ (first-rule n Floor r _ (first-rule n Step r _ (first-rule n Main r _ (first-rule n Guard r none (λ q. none-is-not q))))) e)
 
 size-only : (limit : ℕ) (w : ℤ) (n : ℕ) → below limit w ≡ some n → (pos n ≡ w) × (n < limit)
 size-only limit (negsuc m) n e = none-is-not e

@@ -1,5 +1,6 @@
--- The total rule for loops is sound: where the exit, floor and step conditions of a loop are valid and its body terminates,
--- the loop terminates, with its passes bounded.
+-- The total rule for loops is sound: where the exit, floor and step conditions of a loop are valid, its guard works out no
+-- zero divisor where its invariant is true (`Divisors.guard-worked`), and its body terminates, the loop terminates, with
+-- its passes bounded.
 -- Argument: by induction on a bound d above the variant (`turn`). Where the guard holds, floor keeps the variant from being
 -- negative; the mark is set to it, so W of the body holds (`ready`); the body keeps the mark, since its
 -- loops have lower rows, and ends with the variant below it (`pass`). The variant and the number of bodies begun together
@@ -7,7 +8,7 @@
 use Prim.Native.Nat.{ℕ, zero, suc, _+_, _≤_, _<_}
 use native.Mathlib.Omega.{arith as linear}
 use mathlib.Core.Path.{_≡_, refl, _∙_, subst, subst⁻¹}
-use mathlib.Core.List.{List, [], _∷_}
+use mathlib.Core.List.{List, _∷_}
 use mathlib.Core.Bool.{Bool, true, false, cond}
 use mathlib.Core.Bool as Bool
 use lib.IntN.{ℤ, pos, negsuc}
@@ -16,7 +17,7 @@ use lib.Dec.{T, eqb, eqb→eq, eqb-refl, ltb→lt, lt→ltb}
 use Rattle.script.specs.Syntax.{Expr, const, mark, Formula, cmp, not, join, Stmt, loop}
 use Rattle.script.specs.declared.Relation.the-variants.{Less, AtMost, Equal}
 use Rattle.script.specs.declared.Connective.the-variants.{And}
-use Rattle.script.specs.Meaning.{Arithmetic, State, value, holds, eqZ}
+use Rattle.script.specs.Meaning.{Arithmetic, State, value, holds, definedᶠ, eqZ}
 use Rattle.script.specs.Run.{put, set-mark, Frame, begin, again, at, test, first-step, step-of, Bounded, Passes-bounded}
 use Rattle.script.specs.Run as Run
 use Rattle.script.specs.Conditions.{decreased, wp, exit, floor, step}
@@ -24,7 +25,7 @@ use Rattle.script.specs.Promise.{Valid}
 use Rattle.theorems.specs.Scoping.{Mark-free, Mark-freeᶠ, Loops-below}
 use Rattle.theorems.specs.Substitution.{mark-free, mark-freeᶠ}
 use Rattle.theorems.specs.Truths.{both-hold, hold-both, hold-then}
-use Rattle.theorems.specs.Traces.{Trace, stay, go, join-traces, Terminates}
+use Rattle.theorems.specs.Traces.{Trace, stay, go, join-traces, Terminates, no-zero-terminates}
 
 eqZ-refl : (z : ℤ) → T (eqZ z z)
 eqZ-refl (pos n) = eqb-refl n
@@ -78,6 +79,7 @@ no-room (negsuc a) l h = h
 module _ (𝔸 : Arithmetic) where
   module _ (m : ℕ) (b i : Formula) (v : Expr) (x : Stmt) (q : Formula)
       (ub : Mark-freeᶠ m b) (ui : Mark-freeᶠ m i) (uv : Mark-free m v) (below : Loops-below m x)
+      (works : (s : State) → T (holds 𝔸 s i) → T (definedᶠ 𝔸 s b))
       (exits : Valid 𝔸 (exit b i q)) (floors : Valid 𝔸 (floor b i v)) (steps : Valid 𝔸 (step m b i v x))
       (body : (k : List Frame) → Passes-bounded k → (s : State) → T (holds 𝔸 s (wp x (decreased m i v)))
       → Terminates 𝔸 k (first-step 𝔸 x k s) s (decreased m i v) x)
@@ -117,11 +119,11 @@ module _ (𝔸 : Arithmetic) where
       unfolding value holds
       less-at s h = both-hold 𝔸 s i (cmp Less v (mark m)) h
 
-      -- after a test that gave t, the loop terminates
+      -- after a test that worked out t, the loop terminates
       abbrev Tested : ℕ → State → Bool → Type 0
       Tested n s t =
           Terminates 𝔸 k
-          (cond t (at (begin x ∷ again m b v x v₀ (suc n) ∷ k) (set-mark s m (value 𝔸 s v))) (at k s))
+          (cond t (at (begin x ∷ again m b i v x v₀ (suc n) ∷ k) (set-mark s m (value 𝔸 s v))) (at k s))
           s
           q
           (loop m b i v x)
@@ -130,7 +132,7 @@ module _ (𝔸 : Arithmetic) where
       abbrev Back : ℕ → ℕ → Type 0
       Back d n =
           (s : State) → T (holds 𝔸 s i) → T (ltZ (value 𝔸 s v) (pos d)) → Room (value 𝔸 s v) n v₀
-          → Tested n s (holds 𝔸 s b)
+          → Terminates 𝔸 k (test 𝔸 m b i v x v₀ n k s) s q (loop m b i v x)
 
       left : (n : ℕ) (s : State) → T (holds 𝔸 s q) → Tested n s false
       left n s h = record { end = s; meets = h; leads = stay; kept = λ r l j h. refl }
@@ -148,7 +150,7 @@ module _ (𝔸 : Arithmetic) where
           s₁ = set-mark s m (value 𝔸 s v)
 
           k₁ : List Frame
-          k₁ = again m b v x v₀ (suc n) ∷ k
+          k₁ = again m b i v x v₀ (suc n) ∷ k
 
           rm′ : Room (pos a) n v₀
           rm′ = subst (λ (p : ℤ). Room p n v₀) e rm
@@ -168,7 +170,7 @@ module _ (𝔸 : Arithmetic) where
           less′ : T (ltZ (value 𝔸 (ran .end) v) (pos a))
           less′ = subst (λ (p : ℤ). T (ltZ (value 𝔸 (ran .end) v) p)) kept-mark (got .1)
 
-          done : Tested (suc n) (ran .end) (holds 𝔸 (ran .end) b)
+          done : Terminates 𝔸 k (test 𝔸 m b i v x v₀ (suc n) k (ran .end)) (ran .end) q (loop m b i v x)
           done =
               back (ran .end) (got .0)
               (lower (value 𝔸 (ran .end) v) a d less′ (subst (λ (p : ℤ). T (ltZ p (pos (suc d)))) e lt))
@@ -198,5 +200,9 @@ module _ (𝔸 : Arithmetic) where
       next-turn d n back s hi lt rm false told = left n s (exit-at s hi (told .1 tt))
 
       pub turn : (d n : ℕ) → Back d n
-      turn zero n s hi lt rm = last-turn n s hi lt (holds 𝔸 s b) (λ t. t, λ t. t)
-      turn (suc d) n s hi lt rm = next-turn d n (turn d (suc n)) s hi lt rm (holds 𝔸 s b) (λ t. t, λ t. t)
+      unfolding test
+      turn zero n s hi lt rm =
+          no-zero-terminates 𝔸 (loop m b i v x) (definedᶠ 𝔸 s b) (works s hi) (last-turn n s hi lt (holds 𝔸 s b) (λ t. t, λ t. t))
+      turn (suc d) n s hi lt rm =
+          no-zero-terminates 𝔸 (loop m b i v x) (definedᶠ 𝔸 s b) (works s hi)
+          (next-turn d n (turn d (suc n)) s hi lt rm (holds 𝔸 s b) (λ t. t, λ t. t))

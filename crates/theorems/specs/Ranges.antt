@@ -1,14 +1,17 @@
 -- The conditions of a tree whose numbers are in range have theirs in range: `conditions-in-range`.
--- Argument: substitution, W and the walk put in no number but those of the tree; each by induction. Assumes nothing.
+-- Argument: substitution, D, W and the walk put in no number but those of the tree; each by induction. Assumes nothing.
 use Prim.Native.Nat.{ℕ, _<_}
 use mathlib.Core.Bool.{Bool, true, false, cond}
 use mathlib.Core.List.{List, [], _∷_, _++_}
+use mathlib.Core.Option.{Option, none, some}
 use lib.Dec.{eqb}
 use Rattle.script.specs.Syntax.{Expr, const, var, mark, arith, neg, choose, Formula, truth, cmp, not, join, Stmt, skip, assign, seq, branch, loop, assert, Tree}
 use Rattle.script.specs.declared.Rule.the-variants.{Step}
-use Rattle.script.specs.Conditions.{subst-expr, subst-formula, wp, Condition, condition, decreased, step, walk, conditions}
+use Rattle.script.specs.Conditions.{subst-expr, subst-formula, divisors, divisorsᶠ, _and_, guard, wp, Condition, condition, decreased, step, walk, conditions}
+use Rattle.script.specs.Rows.{variables}
 use Rattle.script.specs.Listing.{row-limit}
 use Rattle.script.specs.WellFormed.{In-range, In-rangeᶠ, All-in-range}
+use Rattle.theorems.specs.DivisorNames.{Namesᵒ, divisors-names, divisors-namesᶠ}
 
 chosen : (b : Bool) (e a : Expr) → In-range e → In-range a → In-range (cond b e a)
 chosen true e a h k = h
@@ -41,18 +44,30 @@ In-rangeˢ (branch b x y) = In-rangeᶠ b × In-rangeˢ x × In-rangeˢ y
 In-rangeˢ (loop m b i v x) = (m < row-limit) × In-rangeᶠ b × In-rangeᶠ i × In-range v × In-rangeˢ x
 In-rangeˢ (assert a) = In-rangeᶠ a
 
+abbrev In-rangeᵒ : Option Formula → Type 0
+In-rangeᵒ x = Namesᵒ (λ v. v < variables) (λ m. m < row-limit) x
+
+and-in-range : (x : Option Formula) (q : Formula) → In-rangeᵒ x → In-rangeᶠ q → In-rangeᶠ (x and q)
+and-in-range none q h k = k
+and-in-range (some d) q h k = (h, k)
+
 wp-in-range : (s : Stmt) (q : Formula) → In-rangeˢ s → In-rangeᶠ q → In-rangeᶠ (wp s q)
 unfolding wp
 wp-in-range skip q h k = k
-wp-in-range (assign v e) q h k = subst-in-rangeᶠ v e h q k
+wp-in-range (assign v e) q h k = and-in-range (divisors e) _ (divisors-names _ _ e h) (subst-in-rangeᶠ v e h q k)
 wp-in-range (seq a b) q h k = wp-in-range a (wp b q) (h .0) (wp-in-range b q (h .1) k)
-wp-in-range (branch b x y) q h k = ((h .0, wp-in-range x q (h .1) k), (h .0, wp-in-range y q (h .2) k))
+wp-in-range (branch b x y) q h k =
+    and-in-range (divisorsᶠ b) _ (divisors-namesᶠ _ _ b (h .0)) ((h .0, wp-in-range x q (h .1) k), (h .0, wp-in-range y q (h .2) k))
 wp-in-range (loop m b i v x) q h k = h .2
 wp-in-range (assert a) q h k = (h, k)
 
 all-append : (cs ds : List Condition) → All-in-range cs → All-in-range ds → All-in-range (cs ++ ds)
 all-append [] ds h k = k
 all-append (c ∷ cs) ds h k = (h .0, h .1, all-append cs ds (h .2) k)
+
+guard-in-range : (m : ℕ) (i : Formula) (x : Option Formula) → m < row-limit → In-rangeᶠ i → In-rangeᵒ x → All-in-range (guard m i x)
+guard-in-range m i none l h k = tt
+guard-in-range m i (some d) l h k = (l, (h, k), tt)
 
 walk-in-range : (s : Stmt) (q : Formula) → In-rangeˢ s → In-rangeᶠ q → All-in-range (walk s q)
 unfolding walk
@@ -62,15 +77,16 @@ walk-in-range (seq a b) q h k =
     all-append (walk b q) (walk a (wp b q)) (walk-in-range b q (h .1) k) (walk-in-range a (wp b q) (h .0) (wp-in-range b q (h .1) k))
 walk-in-range (branch b x y) q h k = all-append (walk x q) (walk y q) (walk-in-range x q (h .1) k) (walk-in-range y q (h .2) k)
 walk-in-range (loop m b i v x) q h k =
-    let guard = h .1 in
+    let test = h .1 in
     let invariant = h .2 in
     let variant = h .3 in
     let after : In-rangeᶠ (decreased m i v) = (invariant, (variant, h .0)) in
     let body = walk-in-range x (decreased m i v) (h .4) after in
     let last : All-in-range (condition Step m (step m b i v x) ∷ []) =
-    (h .0, (((invariant, guard), (variant, h .0)), wp-in-range x (decreased m i v) (h .4) after), tt) in
+    (h .0, (((invariant, test), (variant, h .0)), wp-in-range x (decreased m i v) (h .4) after), tt) in
     let rest = all-append (walk x (decreased m i v)) (condition Step m (step m b i v x) ∷ []) body last in
-    (h .0, ((invariant, guard), k), (h .0, ((invariant, guard), (tt, variant)), rest))
+    all-append (guard m i (divisorsᶠ b)) _ (guard-in-range m i (divisorsᶠ b) (h .0) invariant (divisors-namesᶠ _ _ b test))
+    (h .0, ((invariant, test), k), (h .0, ((invariant, test), (tt, variant)), rest))
 walk-in-range (assert a) q h k = tt
 
 -- the parts of a whole tree

@@ -23,7 +23,7 @@ use Rattle.script.specs.Rows.{Part, parts, row, rows, sort-of}
 use Rattle.script.specs.Syntax.{Tree}
 use Rattle.script.specs.Trees.{stmt-node, expr-at, formula-at, stmt-at, tree, nesting}
 use Rattle.script.specs.Refusals.{accepted, same-sort, all-below, well-sorted, verdict}
-use Rattle.theorems.specs.Truths.{both}
+use Rattle.theorems.specs.Truths.{is-true, both}
 use Rattle.theorems.specs.Tests.{sort-iff}
 use Rattle.theorems.specs.Links.{Link, here, there, Links-to}
 use Rattle.theorems.specs.Accepted.{Accepted, passed}
@@ -54,10 +54,6 @@ count ws [] = 0
 count ws (r ∷ p) = counted (row ws r) + count ws p
 
 -- ---- sorts
-
-is-true : (b : Bool) → T b → b ≡ true
-is-true true h = refl
-is-true false h = absurd h
 
 same-is : (a b : Sort) → T (same-sort a b) → a ≡ b
 same-is a b h = sort-iff a b .0 (is-true (same-sort a b) h)

@@ -2,9 +2,9 @@
 -- Argument: links fall, so a row's tree is the same at every bound above its number (`steady`, by induction on the bounds).
 -- Assumes nothing.
 use Prim.Native.Nat.{ℕ, zero, suc, _-_, _≤_, _<_}
-use mathlib.Core.Path.{_≡_, refl, sym, ap, _∙_}
-use mathlib.Core.Bool.{Bool, true, false, _&&_}
-use mathlib.Core.List.{List, [], _∷_}
+use mathlib.Core.Path.{_≡_, refl, ap, _∙_}
+use mathlib.Core.Bool.{true, _&&_}
+use mathlib.Core.List.{List}
 use native.Mathlib.Omega.{arith as linear}
 use lib.Dec.{T, ltb, ltb→lt}
 use lib.IntN.{ℤ}

@@ -3,23 +3,14 @@
 use Prim.Native.Nat.{ℕ, _<_}
 use mathlib.Core.Bool as Bool
 use lib.Dec.{T, eqb}
-use Rattle.script.specs.Syntax.{Expr, const, var, mark, arith, neg, choose, Formula, truth, cmp, not, join, Stmt, skip, assign, seq, branch, loop, assert}
+use Rattle.script.specs.Syntax.{Expr, Formula, Names, Namesᶠ, Stmt, skip, assign, seq, branch, loop, assert}
 
 module _ (m : ℕ) where
-  abbrev mutual
-    pub Mark-free : Expr → Type 0
-    Mark-free (const z) = Unit {0}
-    Mark-free (var w) = Unit {0}
-    Mark-free (mark k) = T (Bool.not (eqb k m))
-    Mark-free (arith o a b) = Mark-free a × Mark-free b
-    Mark-free (neg a) = Mark-free a
-    Mark-free (choose f a b) = Mark-freeᶠ f × Mark-free a × Mark-free b
+  abbrev pub Mark-free : Expr → Type 0
+  Mark-free e = Names (λ v. Unit {0}) (λ k. T (Bool.not (eqb k m))) e
 
-    pub Mark-freeᶠ : Formula → Type 0
-    Mark-freeᶠ (truth b) = Unit {0}
-    Mark-freeᶠ (cmp r a b) = Mark-free a × Mark-free b
-    Mark-freeᶠ (not f) = Mark-freeᶠ f
-    Mark-freeᶠ (join c f g) = Mark-freeᶠ f × Mark-freeᶠ g
+  abbrev pub Mark-freeᶠ : Formula → Type 0
+  Mark-freeᶠ f = Namesᶠ (λ v. Unit {0}) (λ k. T (Bool.not (eqb k m))) f
 
   abbrev pub Loops-below : Stmt → Type 0
   Loops-below skip = Unit {0}

@@ -1,6 +1,7 @@
 -- Hoare's rules with the total rule for loops are sound for the meaning of a run, for any arithmetic.
 -- Argument: a statement whose conditions are valid, begun where W of it holds, is run to its end with the
--- postcondition met (`terminates`, by induction on the statement; for a loop it is `LoopRule.turn`). Assumes nothing.
+-- postcondition met (`terminates`, by induction on the statement; for a loop it is `LoopRule.turn`). W of an assignment and
+-- of an if, and the guard condition of a loop, exclude a zero divisor (`Divisors`). Assumes nothing.
 use Prim.Native.Nat.{ℕ, zero}
 use mathlib.Core.Path.{_≡_, refl, _∙_, subst}
 use mathlib.Core.List.{List, [], _∷_}
@@ -8,15 +9,16 @@ use mathlib.Core.Bool.{Bool, true, false, cond}
 use mathlib.Core.Bool as Bool
 use lib.Dec.{T}
 use Rattle.script.specs.Syntax.{Formula, not, join, Stmt, skip, assign, seq, branch, loop, assert, Tree}
-use Rattle.script.specs.declared.Connective.the-variants.{Implies}
-use Rattle.script.specs.Meaning.{Arithmetic, State, value, holds}
-use Rattle.script.specs.Run.{set-var, Frame, begin, at, failed, test, first-step, step-of, step, after, start, Passes-bounded, Total-correctness}
-use Rattle.script.specs.Conditions.{decreased, wp, walk, conditions}
+use Rattle.script.specs.declared.Connective.the-variants.{And, Implies}
+use Rattle.script.specs.Meaning.{Arithmetic, State, value, holds, defined, definedᶠ}
+use Rattle.script.specs.Run.{set-var, Frame, begin, at, false-assertion, failed, test, first-step, step-of, step, after, start, Passes-bounded, Total-correctness}
+use Rattle.script.specs.Conditions.{subst-formula, divisorsᶠ, guard, decreased, wp, walk, conditions}
 use Rattle.script.specs.Promise.{All-valid}
 use Rattle.theorems.specs.Scoping.{Well-scoped}
 use Rattle.theorems.specs.Substitution.{substᶠ}
+use Rattle.theorems.specs.Divisors.{expr-worked, formula-worked, guard-worked}
 use Rattle.theorems.specs.Truths.{all-left, all-right, both-hold, hold-then}
-use Rattle.theorems.specs.Traces.{Trace, stay, go, join-traces, Terminates, good-after, count}
+use Rattle.theorems.specs.Traces.{Trace, stay, go, join-traces, Terminates, no-zero-terminates, good-after, count}
 use Rattle.theorems.specs.LoopRule.{above, room-start, turn}
 
 module _ (𝔸 : Arithmetic) where
@@ -53,7 +55,7 @@ module _ (𝔸 : Arithmetic) where
       record { end = r .end; meets = r .meets; leads = go fair (r .leads); kept = λ n l j g. r .kept n (l .1) j g }
 
   asserted : (a q : Formula) (k : List Frame) (s : State) → T (holds 𝔸 s q) → (t : Bool) → T t
-      → Terminates 𝔸 k (cond t (at k s) failed) s q (assert a)
+      → Terminates 𝔸 k (cond t (at k s) (failed false-assertion (assert a))) s q (assert a)
   asserted a q k s h true y = still k s q (assert a) h
   asserted a q k s h false y = absurd y
 
@@ -61,28 +63,36 @@ module _ (𝔸 : Arithmetic) where
       → (s : State) → T (holds 𝔸 s (wp t q)) → Runs t q k s
   unfolding first-step test wp walk holds
   terminates skip q tidy all k fair s h = still k s q skip h
-  terminates (assign v e) q tidy all k fair s h = record {
-    end = set-var s v (value 𝔸 s e);
-    meets = subst T (substᶠ 𝔸 s v e q) h;
-    leads = stay;
-    kept = λ r l j g. refl;
-  }
+  terminates (assign v e) q tidy all k fair s h =
+      let w = expr-worked 𝔸 s e (subst-formula v e q) h in
+      no-zero-terminates 𝔸 (assign v e) (defined 𝔸 s e) (w .0)
+      (record {
+        end = set-var s v (value 𝔸 s e);
+        meets = subst T (substᶠ 𝔸 s v e q) (w .1);
+        leads = stay;
+        kept = λ r l j g. refl;
+      })
   terminates (seq a b) q tidy all k fair s h =
       in-turn a b q k fair s
       (terminates a (wp b q) (tidy .0) (all-right 𝔸 (walk b q) (walk a (wp b q)) all) (begin b ∷ k) fair s h)
       (λ s₁ h₁. terminates b q (tidy .1) (all-left 𝔸 (walk b q) (walk a (wp b q)) all) k fair s₁ h₁)
   terminates (branch b x y) q tidy all k fair s h =
-      let hs = both-hold 𝔸 s (join Implies b (wp x q)) (join Implies (not b) (wp y q)) h in
+      let w = formula-worked 𝔸 s b (join And (join Implies b (wp x q)) (join Implies (not b) (wp y q))) h in
+      let hs = both-hold 𝔸 s (join Implies b (wp x q)) (join Implies (not b) (wp y q)) (w .1) in
       let left = all-left 𝔸 (walk x q) (walk y q) all in
       let right = all-right 𝔸 (walk x q) (walk y q) all in
-      either b x y q k fair s (holds 𝔸 s b)
+      no-zero-terminates 𝔸 (branch b x y) (definedᶠ 𝔸 s b) (w .0)
+      (either b x y q k fair s (holds 𝔸 s b)
       (λ t. terminates x q (tidy .0) left k fair s (hold-then 𝔸 s b (wp x q) (hs .0) t))
-      (λ t. terminates y q (tidy .1) right k fair s (hold-then 𝔸 s (not b) (wp y q) (hs .1) t))
+      (λ t. terminates y q (tidy .1) right k fair s (hold-then 𝔸 s (not b) (wp y q) (hs .1) t)))
   terminates (loop m b i v x) q tidy all k fair s h =
       let top = above (value 𝔸 s v) in
-      let inside = all-left 𝔸 (walk x (decreased m i v)) _ (all .1 .1) in
-      let stepped = all-right 𝔸 (walk x (decreased m i v)) _ (all .1 .1) .0 in
-      turn 𝔸 m b i v x q (tidy .0) (tidy .1) (tidy .2) (tidy .3) (all .0) (all .1 .0) stepped
+      let first = all-left 𝔸 (guard m i (divisorsᶠ b)) _ all in
+      let rest = all-right 𝔸 (guard m i (divisorsᶠ b)) _ all in
+      let inside = all-left 𝔸 (walk x (decreased m i v)) _ (rest .1 .1) in
+      let stepped = all-right 𝔸 (walk x (decreased m i v)) _ (rest .1 .1) .0 in
+      turn 𝔸 m b i v x q (tidy .0) (tidy .1) (tidy .2) (tidy .3)
+      (λ s₁ h₁. guard-worked 𝔸 s₁ m i b first h₁) (rest .0) (rest .1 .0) stepped
       (λ k₁ fair₁ s₁ h₁. terminates x (decreased m i v) (tidy .4) inside k₁ fair₁ s₁ h₁)
       k fair (value 𝔸 s v) (top .0) zero s h (top .1) (room-start (value 𝔸 s v))
   terminates (assert a) q tidy all k fair s h =

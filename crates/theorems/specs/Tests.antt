@@ -1,12 +1,14 @@
 -- What the value of a test says, as laws that go both ways: of a negation, a conjunction, a disjunction, a choice, and of
--- two sorts that are compared. Each is by cases. Assumes nothing.
+-- two sorts that are compared; of two whole numbers that are equal. Each is by cases. Assumes nothing.
 use Prim.Native.Nat.{ℕ, zero, suc}
 use mathlib.Core.Path.{_≡_, refl, sym, ap, _∙_}
 use mathlib.Core.Logic.{_↔_, _⊎_, inl, inr, ⊎-elim}
 use mathlib.Core.Bool.{Bool, true, false, cond, not, _&&_, _||_, true≢false, false≢true}
 use borrow.Author.Tests.{eqb-true, eq-eqb}
+use lib.IntN.{ℤ, pos, negsuc}
 use Rattle.script.specs.declared.Sort.{Sort}
 use Rattle.script.specs.declared.Sort.the-variants.{Expression, Formula, Statement, Note, Script, Unknown}
+use Rattle.script.specs.Meaning.{eqZ}
 use Rattle.script.specs.Refusals.{same-sort}
 
 pub either : {A B C D : Type 0} → A ↔ C → B ↔ D → (A ⊎ B) ↔ (C ⊎ D)
@@ -66,3 +68,9 @@ decoded Unknown = refl
 pub sort-iff : (a b : Sort) → (same-sort a b ≡ true) ↔ (a ≡ b)
 unfolding code
 sort-iff a b = (λ e. sym (decoded a) ∙ ap decode (eqb-true (code a) (code b) e) ∙ decoded b, λ e. eq-eqb (code a) (code b) (ap code e))
+
+pub equal-numbers : (x m : ℤ) → eqZ x m ≡ true → x ≡ m
+equal-numbers (pos a) (pos b) e = ap pos (eqb-true a b e)
+equal-numbers (pos a) (negsuc b) e = absurd (true≢false (sym e))
+equal-numbers (negsuc a) (pos b) e = absurd (true≢false (sym e))
+equal-numbers (negsuc a) (negsuc b) e = ap negsuc (eqb-true a b e)

@@ -1,4 +1,5 @@
--- What conjunctions, implications and lists of valid conditions say. Assumes nothing.
+-- What tests, conjunctions, implications and lists of valid conditions say. Assumes nothing.
+use mathlib.Core.Path.{_≡_, refl}
 use mathlib.Core.List.{List, [], _∷_, _++_}
 use mathlib.Core.Bool.{Bool, true, false, _&&_, _||_}
 use mathlib.Core.Bool as Bool
@@ -8,6 +9,10 @@ use Rattle.script.specs.declared.Connective.the-variants.{And, Implies}
 use Rattle.script.specs.Meaning.{Arithmetic, State, holds}
 use Rattle.script.specs.Conditions.{Condition}
 use Rattle.script.specs.Promise.{All-valid}
+
+pub is-true : (b : Bool) → T b → b ≡ true
+is-true true h = refl
+is-true false h = absurd h
 
 pub both : (a b : Bool) → T (a && b) → T a × T b
 both true b t = (tt, t)

@@ -1,0 +1,178 @@
+-- The rules of 01 and of 02, P5, with what a wrong turn changes as fields (`Rules`: of D, of W, of the walk and its words); with
+-- the right fields it is the list defined (`right-list`). A wrong turn is a change of one field of one of these three
+-- (`WrongTurns`, `WrongDivisors`), and is told from the list defined by giving other words for one table (`Other-words`).
+-- Assumes nothing.
+use Prim.Native.Nat.{ℕ}
+use mathlib.Core.Path.{_≡_, refl, sym, ap, _∙_, subst}
+use mathlib.Core.Logic.{_≢_}
+use mathlib.Core.Bool.{Bool, true, false, _&&_}
+use mathlib.Core.Bool as Bool
+use mathlib.Core.Option.{Option}
+use mathlib.Core.List.{List, [], _∷_, _++_}
+use lib.IntN.{ℤ, pos, negsuc}
+use lib.Dec.{T}
+use lib.ListN.{length}
+use borrow.Author.Tests.{eq-eqb}
+use Rattle.script.specs.declared.Connective.the-variants.{And, Implies}
+use Rattle.script.specs.declared.Rule.the-variants.{Exit, Floor, Step, Main}
+use Rattle.script.specs.declared.Relation.the-variants.{Equal}
+use Rattle.script.specs.Syntax.{Expr, mark, Formula, cmp, not, join, Stmt, skip, assign, seq, branch, loop, assert, Tree}
+use Rattle.script.specs.Meaning.{eqZ}
+use Rattle.script.specs.Conditions.{Condition, condition, _and_, decreased, exit, floor, guard, conditions, walk, wp, subst-formula}
+use Rattle.script.specs.Words.{trailer, line-words, all-lines, list-words, formula-words}
+use Rattle.script.specs.Trees.{tree}
+use Rattle.theorems.specs.Truths.{both}
+use Rattle.theorems.specs.WrongItems.{Items, divisors-by, divisors-byᶠ, right-items, right-divisors, right-divisorsᶠ}
+
+-- ---- the rules, with what a wrong turn changes as fields
+
+-- of W
+pub record Weakest : Type 0 where
+  -- of an assignment, from D(E), v, E and Q
+  pub assigned : Option Formula → ℕ → Expr → Formula → Formula
+  -- of an if, from D(B) and the old formula
+  pub tested : Option Formula → Formula → Formula
+  -- of an assertion, from D(A), A and Q
+  pub asserted : Option Formula → Formula → Formula → Formula
+
+-- of the walk and of the words
+pub record Listed : Type 0 where
+  -- of the conditions of the first part and of the second
+  pub sequence : List Condition → List Condition → List Condition
+  -- of those of then and of else
+  pub branches : List Condition → List Condition → List Condition
+  -- the condition of kind 5, from the loop's row, B, I and D(B)
+  pub guarded : ℕ → Formula → Formula → Option Formula → List Condition
+  -- of guard, exit, floor, the conditions of the body, and step
+  pub looped : List Condition → Condition → Condition → List Condition → Condition → List Condition
+  -- what the body is walked with, of Q and (I and (V less m))
+  pub within : Formula → Formula → Formula
+  pub trailed : Condition → List ℤ
+
+pub record Rules : Type 0 where
+  pub items : Items
+  pub weakest : Weakest
+  pub listed : Listed
+
+module _ (R : Rules) where
+  unfoldable pub wp-by : Stmt → Formula → Formula
+  wp-by skip q = q
+  wp-by (assign v e) q = R .weakest .assigned (divisors-by (R .items) e) v e q
+  wp-by (seq a b) q = wp-by a (wp-by b q)
+  wp-by (branch b x y) q =
+      R .weakest .tested (divisors-byᶠ (R .items) b) (join And (join Implies b (wp-by x q)) (join Implies (not b) (wp-by y q)))
+  wp-by (loop m b i v x) q = i
+  wp-by (assert a) q = R .weakest .asserted (divisors-byᶠ (R .items) a) a q
+
+  abbrev step-by : ℕ → Formula → Formula → Expr → Stmt → Formula
+  step-by m b i v x = join Implies (join And (join And i b) (cmp Equal v (mark m))) (wp-by x (decreased m i v))
+
+  unfoldable pub walk-by : Stmt → Formula → List Condition
+  walk-by skip q = []
+  walk-by (assign v e) q = []
+  walk-by (seq a b) q = R .listed .sequence (walk-by a (wp-by b q)) (walk-by b q)
+  walk-by (branch b x y) q = R .listed .branches (walk-by x q) (walk-by y q)
+  walk-by (loop m b i v x) q =
+      R .listed .looped (R .listed .guarded m b i (divisors-byᶠ (R .items) b)) (condition Exit m (exit b i q)) (condition Floor m (floor b i v))
+      (walk-by x (R .listed .within q (decreased m i v))) (condition Step m (step-by m b i v x))
+  walk-by (assert a) q = []
+
+  unfoldable pub lines-by : List Condition → List ℤ
+  lines-by [] = []
+  lines-by (c ∷ cs) = (formula-words (c .claim) ++ R .listed .trailed c) ++ lines-by cs
+
+  unfoldable pub conditions-by : Tree → List Condition
+  conditions-by t = walk-by (t .body) (t .post) ++ (condition Main (t .row) (join Implies (t .pre) (wp-by (t .body) (t .post))) ∷ [])
+
+  unfoldable pub list-by : Tree → List ℤ
+  list-by t = lines-by (conditions-by t) ++ (pos (length (conditions-by t)) ∷ [])
+
+abbrev pub right-weakest : Weakest
+right-weakest = record {
+  assigned = λ d v e q. d and subst-formula v e q;
+  tested = λ d f. d and f;
+  asserted = λ d a q. join And a q;
+}
+
+abbrev pub right-listed : Listed
+right-listed = record {
+  sequence = λ a b. b ++ a;
+  branches = λ x y. x ++ y;
+  guarded = λ m b i d. guard m i d;
+  looped = λ g e f x s. g ++ (e ∷ f ∷ (x ++ (s ∷ [])));
+  within = λ q d. d;
+  trailed = trailer;
+}
+
+abbrev pub right : Rules
+right = record { items = right-items; weakest = right-weakest; listed = right-listed }
+
+right-wp : (x : Stmt) (q : Formula) → wp-by right x q ≡ wp x q
+unfolding wp-by wp
+right-wp skip q = refl
+right-wp (assign v e) q = ap (λ d. d and subst-formula v e q) (right-divisors e)
+right-wp (seq a b) q = right-wp a (wp-by right b q) ∙ ap (wp a) (right-wp b q)
+right-wp (branch b x y) q = rw (right-divisorsᶠ b, right-wp x q, right-wp y q)
+right-wp (loop m b i v x) q = refl
+right-wp (assert a) q = refl
+
+right-walk : (x : Stmt) (q : Formula) → walk-by right x q ≡ walk x q
+unfolding walk-by walk
+right-walk skip q = refl
+right-walk (assign v e) q = refl
+right-walk (seq a b) q = rw (right-wp b q, right-walk b q, right-walk a (wp b q))
+right-walk (branch b x y) q = rw (right-walk x q, right-walk y q)
+right-walk (loop m b i v x) q = rw (right-divisorsᶠ b, right-walk x (decreased m i v), right-wp x (decreased m i v))
+right-walk (assert a) q = refl
+
+right-lines : (cs : List Condition) → lines-by right cs ≡ all-lines cs
+unfolding lines-by all-lines line-words
+right-lines [] = refl
+right-lines (c ∷ cs) = ap (λ (l : List ℤ). (formula-words (c .claim) ++ trailer c) ++ l) (right-lines cs)
+
+pub right-list : (t : Tree) → list-by right t ≡ list-words (conditions t)
+unfolding list-by conditions-by list-words conditions
+right-list t = rw (right-walk (t .body) (t .post), right-wp (t .body) (t .post), right-lines)
+
+-- ---- a wrong turn, with a table
+
+pub record Wrong : Type 0 where
+  pub rules : Rules
+  pub table : List ℤ
+
+abbrev pub wrong : Rules → List ℤ → Wrong
+wrong R t = record { rules = R; table = t }
+
+-- each gives other words than those of the list defined
+abbrev pub Other-words : List Wrong → Type 0
+Other-words [] = Unit {0}
+Other-words (w ∷ ws) = (list-by (w .rules) (tree (w .table)) ≢ list-words (conditions (tree (w .table)))) × Other-words ws
+
+abbrev same : List ℤ → List ℤ → Bool
+same [] [] = true
+same [] (y ∷ ys) = false
+same (x ∷ xs) [] = false
+same (x ∷ xs) (y ∷ ys) = eqZ x y && same xs ys
+
+same-itself : (xs : List ℤ) → T (same xs xs)
+same-itself [] = tt
+same-itself (pos a ∷ xs) = rw (eq-eqb a a refl) (same-itself xs)
+same-itself (negsuc a ∷ xs) = rw (eq-eqb a a refl) (same-itself xs)
+
+-- tested, for all of them
+abbrev pub differ : List Wrong → Bool
+differ [] = true
+differ (w ∷ ws) = Bool.not (same (list-by (w .rules) (tree (w .table))) (list-words (conditions (tree (w .table))))) && differ ws
+
+told : (xs ys : List ℤ) → T (Bool.not (same xs ys)) → xs ≢ ys
+told xs ys h e = denied (same xs xs) (same-itself xs) (subst (λ (l : List ℤ). T (Bool.not (same xs l))) (sym e) h)
+  where
+    denied : (b : Bool) → T b → T (Bool.not b) → ⊥
+    denied true x y = y
+    denied false x y = x
+
+pub all-told : (ws : List Wrong) → T (differ ws) → Other-words ws
+all-told [] h = tt
+all-told (w ∷ ws) h =
+    let k = both (Bool.not (same (list-by (w .rules) (tree (w .table))) (list-words (conditions (tree (w .table)))))) (differ ws) h in
+    (told _ _ (k .0), all-told ws (k .1))
