@@ -111,7 +111,7 @@ module _ (t : List ℤ) (r n : ℕ) where
     spelled-by : {k : ℤ} → pos n ≡ k → row t r ≡ row-with k (word t r 1) (word t r 2) (word t r 3)
     spelled-by e = here ∙ ap (λ (k : ℤ). row-with k (word t r 1) (word t r 2) (word t r 3)) e
 
-    fits-here : Fits (pos n) (word t r 1) (row t r)
+    pub fits-here : Fits (pos n) (word t r 1) (row t r)
     fits-here = rw here (row-fits (pos n) (word t r 1) (word t r 2) (word t r 3))
 
     pub operation : T (same-sort (sort-of (row t r)) Expression) → Past-expressions n → Operation

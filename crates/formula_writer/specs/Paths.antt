@@ -1,15 +1,17 @@
 -- What a path of assignments makes of a formula. A path is a run with an entry for each assignment that was passed, the
 -- latest last. W of an assignment replaces a variable, and replacing one after another is replacing all at once: `under` says
--- by what, and `assign-passed` that an assignment which is put on the path need not be carried out. Assumes nothing.
+-- by what, and `assign-passed` that an assignment which is put on the path need not be carried out, but for its D (02, P5).
+-- Assumes nothing.
 use Prim.Native.Nat.{ℕ, zero, suc, _+_, _*_, _/_, _%_}
-use mathlib.Core.Path.{_≡_, refl}
+use mathlib.Core.Path.{_≡_, refl, ap, _∙_}
 use mathlib.Core.Bool.{Bool, true, false, cond}
 use mathlib.Core.List.{List}
+use mathlib.Core.Option.{Option, none, some}
 use lib.Dec.{eqb}
 use lib.IntN.{ℤ, pos}
 use lib.ListN.{getD}
 use Rattle.script.specs.Syntax.{Expr, const, var, mark, arith, neg, choose, Formula, truth, cmp, not, join, Stmt, skip, assign, seq, branch, loop, assert}
-use Rattle.script.specs.Conditions.{subst-expr, subst-formula, wp}
+use Rattle.script.specs.Conditions.{subst-expr, subst-formula, divisors, _and_, wp}
 use Rattle.script.specs.Words.{expr-words, formula-words}
 use Rattle.script.specs.Rows.{field-number, word}
 use Rattle.script.specs.Trees.{expr-at, formula-at, stmt-at}
@@ -30,6 +32,11 @@ module _ (τ : ℕ → Expr) where
     replaceᶠ (cmp r a b) = cmp r (replaceᵉ a) (replaceᵉ b)
     replaceᶠ (not f) = not (replaceᶠ f)
     replaceᶠ (join c f g) = join c (replaceᶠ f) (replaceᶠ g)
+
+-- D, with its variables replaced
+abbrev pub replaceᵒ : (ℕ → Expr) → Option Formula → Option Formula
+replaceᵒ τ none = none
+replaceᵒ τ (some f) = some (replaceᶠ τ f)
 
 -- what variable w stands for once a statement is passed, where τ says what it stood for before
 abbrev pub passing : Stmt → (ℕ → Expr) → ℕ → Expr
@@ -92,11 +99,20 @@ module _ (τ : ℕ → Expr) (v : ℕ) (e : Expr) where
     after-formula (not f) = rw (after-formula f)
     after-formula (join c f g) = rw (after-formula f, after-formula g)
 
--- W of an assignment, under a path, is what follows it, under the path with the assignment on it
+pub and-replaced : (τ : ℕ → Expr) (x : Option Formula) (q : Formula) → replaceᶠ τ (x and q) ≡ replaceᵒ τ x and replaceᶠ τ q
+unfolding replaceᶠ
+and-replaced τ none q = refl
+and-replaced τ (some d) q = refl
+
+-- W of an assignment, under a path, is D under it, and what follows, under the path with the assignment on it
 pub assign-passed : (t path : List ℤ) (j : ℕ) {v : ℕ} {e : Expr} (q : Formula) → stmt-at t (passed-row path j) ≡ assign v e
-    → replaceᶠ (under t path j) (wp (stmt-at t (passed-row path j)) q) ≡ replaceᶠ (under t path (suc j)) q
+    → replaceᶠ (under t path j) (wp (stmt-at t (passed-row path j)) q)
+    ≡ replaceᵒ (under t path j) (divisors e) and replaceᶠ (under t path (suc j)) q
 unfolding under wp
-assign-passed t path j {v} {e} q h = rw h (after-formula (under t path j) v e q)
+assign-passed t path j {v} {e} q h =
+    rw h
+    (and-replaced (under t path j) (divisors e) (subst-formula v e q)
+    ∙ ap (λ f. replaceᵒ (under t path j) (divisors e) and f) (after-formula (under t path j) v e q))
 
 -- ---- with no assignment passed
 
@@ -124,3 +140,7 @@ none-passedᵉ t path x = same-expr x
 pub none-passed : (t path : List ℤ) (f : Formula) → replaceᶠ (under t path 0) f ≡ f
 unfolding under
 none-passed t path f = same-formula f
+
+pub none-passedᵒ : (t path : List ℤ) (x : Option Formula) → replaceᵒ (under t path 0) x ≡ x
+none-passedᵒ t path none = refl
+none-passedᵒ t path (some f) = ap some (none-passed t path f)

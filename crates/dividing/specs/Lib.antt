@@ -1,0 +1,10 @@
+pub mod Nodes
+pub mod Sizes
+pub mod Divided
+pub mod Kinds
+pub mod Divisions
+pub mod Parts
+pub mod Entries
+pub mod Filling
+pub mod Undivided
+pub mod Wrong

@@ -1,0 +1,29 @@
+-- `divisor_writer::push_ands` meets its contract. Assumes nothing.
+use mathlib.Core.Path.{ap₂}
+use mathlib.Core.Bool.{_||_}
+use borrow.Author.Needs.{needs}
+use Rattle.theorems.specs.DivisorWords.{joint}
+use Rattle.theorems.specs.Writing.{then, wrote-as, wrote-length}
+use Rattle.divisor_writer.proofs.push_ands.Statement.{statement}
+use Rattle.divisor_writer.proofs.push_ands.Tie as tie
+
+returns : tie.Need-returns
+returns c =
+    let inner = c .before in
+    let outer = inner .before .before .before in
+    let second = outer .before .before in
+    let first = second .before in
+    let third = first .before .args .third in
+    then (wrote-as (ap₂ (λ x y. joint (x || y) third) (first .divides .ensures) (second .divides2 .ensures)) (outer .push-joint .ensures))
+    (wrote-as (ap₂ joint (first .divides .ensures) (second .divides2 .ensures)) (inner .push-joint2 .ensures))
+
+pub push-ands-spec : {M : Type 1} → statement M
+push-ands-spec =
+    tie.close
+    (tie.spec
+    (λ c κs. search needs)
+    (λ c κs. search needs)
+    (λ c κs. search needs)
+    (λ c κs. search needs)
+    (λ c. wrote-length (returns c))
+    returns)

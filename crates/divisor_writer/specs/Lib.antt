@@ -1,0 +1,5 @@
+pub mod Words
+pub mod Under
+pub mod Ready
+pub mod Turns
+pub mod Wrong
