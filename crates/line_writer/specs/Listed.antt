@@ -2,17 +2,14 @@
 -- after another lists both. A count never exceeds its place, since a line has at least one word. Assumes nothing.
 use Prim.Native.Nat.{ℕ, _+_, _≤_, _<_}
 use mathlib.Core.Path.{_≡_, refl, sym, ap, _∙_}
-use mathlib.Core.Bool.{Bool, true, false}
 use mathlib.Core.List.{List, [], _∷_, _++_, append-assoc}
 use native.Mathlib.Nat.{add-zero}
 use native.Mathlib.Omega.{arith as linear}
-use borrow.Author.Tests.{ltb-true, ltb-false}
-use lib.Dec.{ltb}
 use lib.IntN.{ℤ}
 use lib.ListN.{length, length-append}
 use Rattle.script.specs.Conditions.{Condition}
 use Rattle.script.specs.Words.{formula-words, trailer, line-words, all-lines}
-use Rattle.theorems.specs.Writing.{Wrote, fitted, stopped, then, wrote-length}
+use Rattle.theorems.specs.Writing.{Wrote, fitted, stopped, then, wrote-length, wrote-nothing}
 use Rattle.line_writer.specs.declared.Progress.{Progress}
 
 -- The conditions cs were to be listed from p on, in the list l; q is past them, and l′ is what is left.
@@ -72,16 +69,9 @@ listed-as e w = rw e w
 
 -- ---- no condition, and no room
 
-wrote-none : (l : List ℤ) (p : ℕ) → Wrote l p [] p l
-wrote-none l p = by (ltb (length l) p) refl
-  where
-    by : (b : Bool) → ltb (length l) p ≡ b → Wrote l p [] p l
-    by true e = let h = ltb-true (length l) p e in stopped (omega linear) h refl
-    by false e = let h = ltb-false (length l) p e in fitted (omega linear) (sym (add-zero p)) refl
-
 pub listed-none : (l : List ℤ) (p : Progress) → Listed l p [] p l
 unfolding all-lines
-listed-none l p = record { words = wrote-none l (p .at); count = λ h. sym (add-zero (p .count)) }
+listed-none l p = record { words = wrote-nothing l (p .at); count = λ h. sym (add-zero (p .count)) }
 
 pub listed-full : {l : List ℤ} {cs : List Condition} {p : Progress} → length l < p .at → Listed l p cs p l
 listed-full h = record { words = stopped (omega linear) h refl; count = λ k. absurd (omega linear) }

@@ -7,7 +7,6 @@ use native.Mathlib.Omega.{arith as linear}
 use lib.IntN.{ℤ, pos}
 use lib.ListN.{length, getD}
 use Rattle.script.specs.declared.Sort.{Sort}
-use Rattle.script.specs.declared.Sort.the-variants as Sort
 use Rattle.script.specs.declared.Rule.{Rule}
 use Rattle.script.specs.declared.Rule.the-variants.{Exit, Floor, Step, Main}
 use Rattle.script.specs.declared.Connective.the-variants.{And, Implies}
@@ -22,6 +21,7 @@ use Rattle.formula_writer.specs.Paths.{none-passed, none-passedᵉ, expr-under,
 use Rattle.formula_writer.specs.Links.{Linked}
 use Rattle.formula_writer.specs.Nodes.{OnPath, Ready}
 use Rattle.following.specs.Follow.{Followed}
+use Rattle.dividing.specs.Divided.{Divided}
 use Rattle.following.specs.Course.{next}
 use Rattle.following.specs.Parts.{not-end, alone, after-alone, on-from}
 use Rattle.wp_writer.specs.Loops.{Loop, guard-row, invariant-row, variant-row, body-row, guard-at, invariant-at, variant-at, body-at, while-is, body-linked, Script, pre-row, statement-row, script-is, statement-linked}
@@ -50,11 +50,13 @@ main-line t r = condition Main r (join Implies (formula-at t (pre-row t r)) (wp 
 pub record StepReady (t : List ℤ) (k : ℕ) (follow path : List ℤ) : Type 0 where
   pub loops : Loop t k
   pub followed : Followed t follow
+  pub divided : Divided t follow
   pub long : length path ≡ 2048
 
 pub record MainReady (t : List ℤ) (r : ℕ) (follow path : List ℤ) : Type 0 where
   pub scripts : Script t r
   pub followed : Followed t follow
+  pub divided : Divided t follow
   pub long : length path ≡ 2048
 
 -- ---- what is left: the lines of cs, and a path as long as before
@@ -74,11 +76,11 @@ line-walked rule row f w v e = record { lines = line-finished rule row f v e; lo
 
 -- ---- no assignment was passed
 
-none : {i : ℕ} → i < 0 → ⊥
-none h = omega linear
+no-entry : {i : ℕ} → i < 0 → ⊥
+no-entry h = omega linear
 
 pub nothing-passed : (t path : List ℤ) → OnPath t path 0
-nothing-passed t path = record { bound = omega linear; passed = λ i h. absurd (none h) }
+nothing-passed t path = record { bound = omega linear; passed = λ i h. absurd (no-entry h) }
 
 -- a part, from the row that was read
 pub node-ready : (t path : List ℤ) {a b : ℕ} {s : Sort} → Accepted t → Linked t (rows t) a s → b ≡ a → Ready t path 0 b s
@@ -88,7 +90,7 @@ module _ (t path : List ℤ) {l l′ : List ℤ} {p q : ℕ} where
   plain : (f : Formula) → Wrote l p (words-under t path 0 f) q l′ → Wrote l p (formula-words f) q l′
   plain f w = wrote-as (ap formula-words (none-passed t path f)) w
 
-  plain-formula : (a : ℕ) {b : ℕ} → b ≡ a → Wrote l p (formula-under t path 0 b) q l′ → Wrote l p (formula-words (formula-at t a)) q l′
+  pub plain-formula : (a : ℕ) {b : ℕ} → b ≡ a → Wrote l p (formula-under t path 0 b) q l′ → Wrote l p (formula-words (formula-at t a)) q l′
   plain-formula a e w = plain (formula-at t a) (rw e at w)
 
   plain-expr : (a : ℕ) {b : ℕ} → b ≡ a → Wrote l p (expr-under t path 0 b) q l′ → Wrote l p (expr-words (expr-at t a)) q l′
@@ -126,6 +128,7 @@ module _ (t : List ℤ) (k : ℕ) (path : List ℤ) where
     pub step-before : {s : ℕ} → s ≡ body-row t k → Before t follow path 0 k s
     step-before {s} e = rw e (record {
       course = alone t follow (body-row t k) (g .loops .table) (g .followed) (body-linked t k (g .loops)) body-last;
+      divided = g .divided;
       ended = body (g .loops);
       along = nothing-passed t path;
       long = g .long;
@@ -158,6 +161,7 @@ module _ (t : List ℤ) (k : ℕ) (follow : List ℤ) (end : ℕ) {path : List �
     pub exit-before : Before t follow path 0 end s
     exit-before = record {
       course = rw next-is (on-from t follow (g .course) (not-end t (o .table) (o .inside)));
+      divided = g .divided;
       ended = g .ended;
       along = g .along;
       long = g .long;
@@ -176,6 +180,7 @@ module _ (t : List ℤ) (r : ℕ) (follow path : List ℤ) (g : MainReady t r fo
   pub main-before : {s : ℕ} → s ≡ statement-row t r → Before t follow path 0 r s
   main-before e = rw e (record {
     course = alone t follow (statement-row t r) (g .scripts .table) (g .followed) (statement-linked t r (g .scripts)) script-last;
+    divided = g .divided;
     ended = script (g .scripts);
     along = nothing-passed t path;
     long = g .long;

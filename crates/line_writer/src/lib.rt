@@ -16,6 +16,7 @@ ghost use Rattle.wp_writer.specs.Loops.{Loop, guard-at, invariant-at};
 ghost use Rattle.wp_writer.specs.Walked.{Before};
 ghost use Rattle.line_writer.specs.Listed.{Listed, InRoom};
 ghost use Rattle.line_writer.specs.Spelled.{Finishing, Finished, Counted};
+ghost use Rattle.line_writer.specs.Guards.{GuardReady, guard-lines};
 ghost use Rattle.line_writer.specs.Loops.{Lined, StepReady, MainReady, exit-line, floor-line, step-line, main-line};
 
 // Where the next word goes, with the number of conditions before it; a place past the end of the list says that there was no
@@ -33,6 +34,7 @@ fn rule_word(rule: Rule) -> i32
         Rule::Floor => 2,
         Rule::Step => 3,
         Rule::Main => 4,
+        Rule::Guard => 5,
     }
 }
 
@@ -58,6 +60,35 @@ fn finish_line(
         at: p2,
         count: count + 1,
     }
+}
+
+// "I implies D(B)", where the guard divides (02, P5); nothing where it does not.
+pub fn write_guard(
+    table: &[i32],
+    k: RowNumber,
+    follow: &[i32],
+    path: &[i32],
+    list: &mut [i32],
+    at: Progress,
+) -> Progress
+    requires { ⌜ GuardReady (now table) (k .0) (now follow) × InRoom (now list) at ⌝ }
+    ensures { λ q. ⌜ Listed (now (list .entry)) at (guard-lines (now (table .entry)) (k .0)) q (now (list .exit)) ⌝ }
+{
+    let guard = RowNumber(field(table, k.0, 1));
+    if dividing::divides(follow, guard) {
+        let p1 = formula_writer::push_kind(list, at.at, kinds::IMPLIES);
+        let p2 = formula_writer::write_formula(
+            table,
+            wp_writer::invariant(table, k),
+            list,
+            path,
+            0,
+            p1,
+        );
+        let p3 = divisor_writer::write_divisors(table, guard, follow, list, path, 0, p2);
+        return finish_line(list, at, p3, Rule::Guard, k);
+    }
+    at
 }
 
 // "(I and (not B)) implies Q", where Q is W of what follows the loop.

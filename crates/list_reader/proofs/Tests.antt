@@ -1,4 +1,4 @@
--- The tests of a trailer: a kind 1 to 4, a number below a limit, a formula that takes all the words. Assumes nothing.
+-- The tests of a trailer: a kind 1 to 5, a number below a limit, a formula that takes all the words. Assumes nothing.
 use Prim.Native.Nat.{ℕ, zero, suc, _≤_, _<_}
 use native.Mathlib.Omega.{arith as linear}
 use mathlib.Core.Path.{_≡_, refl, sym, ap, _∙_}
@@ -11,7 +11,7 @@ use lib.Dec.{eqb, ltb}
 use lib.ListN.{length, drop, length-drop}
 use borrow.Author.Tests.{ltb-true, le-ltb, eq-eqb, ne-eqb}
 use Rattle.script.specs.declared.Rule.{Rule}
-use Rattle.script.specs.declared.Rule.the-variants.{Exit, Floor, Step, Main}
+use Rattle.script.specs.declared.Rule.the-variants.{Exit, Floor, Step, Main, Guard}
 use Rattle.script.specs.Syntax.{Formula}
 use Rattle.script.specs.Words.{rule-number}
 use Rattle.script.specs.Rows.{field-number}
@@ -19,20 +19,22 @@ use Rattle.script.specs.Listing.{_>>=_, guarded, Read, next, read-formula, all-
 use Rattle.list_reader.specs.Ends.{Ends, nowhere, here, rest-of, after-formula, Formula-ends}
 use Rattle.list_reader.specs.Lines.{is-some}
 
--- ---- a kind 1 to 4
+-- ---- a kind 1 to 5
 
-no-rule : (n : ℕ) → 5 ≤ n → rule-of n ≡ none
-no-rule n h = rw (ne-eqb n 1 (omega linear), ne-eqb n 2 (omega linear), ne-eqb n 3 (omega linear), ne-eqb n 4 (omega linear))
+no-rule : (n : ℕ) → 6 ≤ n → rule-of n ≡ none
+no-rule n h =
+    rw (ne-eqb n 1 (omega linear), ne-eqb n 2 (omega linear), ne-eqb n 3 (omega linear), ne-eqb n 4 (omega linear), ne-eqb n 5 (omega linear))
 
-pub rule-test : (n : ℕ) → 0 < n → ltb n 5 ≡ is-some (rule-of n)
+pub rule-test : (n : ℕ) → 0 < n → ltb n 6 ≡ is-some (rule-of n)
 rule-test zero h = absurd (omega linear)
 rule-test (suc zero) h = refl
 rule-test (suc (suc zero)) h = refl
 rule-test (suc (suc (suc zero))) h = refl
 rule-test (suc (suc (suc (suc zero)))) h = refl
-rule-test (suc (suc (suc (suc (suc n))))) h =
-    let m = suc (suc (suc (suc (suc n)))) in
-    le-ltb m 5 (omega linear) ∙ sym (ap is-some (no-rule m (omega linear)))
+rule-test (suc (suc (suc (suc (suc zero))))) h = refl
+rule-test (suc (suc (suc (suc (suc (suc n)))))) h =
+    let m = suc (suc (suc (suc (suc (suc n))))) in
+    le-ltb m 6 (omega linear) ∙ sym (ap is-some (no-rule m (omega linear)))
 
 pub rule-zero : (n : ℕ) → n ≤ 0 → ltb 0 n ≡ is-some (rule-of n)
 rule-zero zero h = refl
@@ -44,8 +46,9 @@ rule-is (suc zero) r q = let z : r ≡ Exit = cc in ap rule-number z
 rule-is (suc (suc zero)) r q = let z : r ≡ Floor = cc in ap rule-number z
 rule-is (suc (suc (suc zero))) r q = let z : r ≡ Step = cc in ap rule-number z
 rule-is (suc (suc (suc (suc zero)))) r q = let z : r ≡ Main = cc in ap rule-number z
-rule-is (suc (suc (suc (suc (suc n))))) r q =
-    let z : none ≡ some r = sym (no-rule (suc (suc (suc (suc (suc n))))) (omega linear)) ∙ q in
+rule-is (suc (suc (suc (suc (suc zero))))) r q = let z : r ≡ Guard = cc in ap rule-number z
+rule-is (suc (suc (suc (suc (suc (suc n)))))) r q =
+    let z : none ≡ some r = sym (no-rule (suc (suc (suc (suc (suc (suc n)))))) (omega linear)) ∙ q in
     let y : _≡_ {A = ℕ} 0 1 = cc in
     absurd (omega linear)
 

@@ -26,7 +26,7 @@ pub fn no_line(number: usize) -> Line
 fn is_rule(kind: usize) -> bool
     ensures { λ r. ⌜ r ≡ is-some (rule-of kind) ⌝ }
 {
-    0 < kind && kind < 5
+    0 < kind && kind < 6
 }
 
 // Whether a word is not negative and below a limit.

@@ -1,20 +1,20 @@
--- The conditions of a loop: exit, floor, those of its body, and step. Assumes nothing.
+-- The conditions of a loop: guard where its guard divides, exit, floor, those of its body, and step. Assumes nothing.
 use Prim.Native.Nat.{ℕ, _<_}
 use mathlib.Core.Path.{_≡_, sym, ap, _∙_}
 use mathlib.Core.List.{List, [], _∷_, _++_}
 use native.Mathlib.Omega.{arith as linear}
 use lib.IntN.{ℤ}
 use lib.ListN.{length}
-use Rattle.script.specs.Syntax.{Formula, Stmt}
-use Rattle.script.specs.Conditions.{Condition, decreased, walk}
+use Rattle.script.specs.Syntax.{Stmt}
+use Rattle.script.specs.Conditions.{decreased, walk}
 use Rattle.script.specs.Rows.{field-number, word}
-use Rattle.script.specs.Trees.{stmt-at}
 use Rattle.following.specs.Course.{next, after-end}
 use Rattle.wp_writer.specs.Loops.{Loop, body-row, invariant-at, variant-at, body-at, while-is, body-below, loop-is}
 use Rattle.wp_writer.specs.Ends.{end-formula, end-decreased}
-use Rattle.wp_writer.specs.Walked.{Before, before-end}
+use Rattle.wp_writer.specs.Walked.{Before}
 use Rattle.line_writer.specs.declared.Progress.{Progress}
 use Rattle.line_writer.specs.Listed.{Listed, InRoom, listed-then, listed-as, in-room-on}
+use Rattle.line_writer.specs.Guards.{GuardReady, guard-lines}
 use Rattle.line_writer.specs.Loops.{Lined, StepReady, exit-line, floor-line, step-line, step-before}
 use Rattle.list_writer.specs.Walks.{Walking, Turned, walk-at, rest-of, listed}
 
@@ -23,57 +23,71 @@ module _ (t follow : List ℤ) (end : ℕ) {s₀ : ℕ} {p₀ : Progress} {path�
   pub loop-here : Loop t s
   loop-here = record { table = g .walking .before .course .table; inside = g .walking .here; while = sym read ∙ kind }
 
-  pub exit-ready : Loop t s × (Before t follow path 0 end s × InRoom l p)
-  exit-ready = (loop-here, (g .walking .before, g .walking .room))
+  pub guard-ready : GuardReady t s follow × InRoom l p
+  guard-ready =
+      let before = g .walking .before in
+      let k = before .course .table .short in
+      let e = before .course .followed .long in
+      (record { loops = loop-here; divided = before .divided; long = omega linear }, g .walking .room)
 
-  module _ {path₁ l₁ : List ℤ} {p₁ : Progress} (exited : Lined path (exit-line t follow end s ∷ []) l p p₁ l₁ path₁) where
-    after-exit : InRoom l₁ p₁
-    after-exit = in-room-on (g .walking .room) (exited .lines)
+  module _ {l₁ : List ℤ} {p₁ : Progress} (guarded : Listed l p (guard-lines t s) p₁ l₁) where
+    after-guard : InRoom l₁ p₁
+    after-guard = in-room-on (g .walking .room) guarded
 
-    pub floor-ready : Loop t s × InRoom l₁ p₁
-    floor-ready = (loop-here, after-exit)
+    pub exit-ready : Loop t s × (Before t follow path 0 end s × InRoom l₁ p₁)
+    exit-ready = (loop-here, (g .walking .before, after-guard))
 
-    module _ {l₂ : List ℤ} {p₂ : Progress} (floored : Listed l₁ p₁ (floor-line t s ∷ []) p₂ l₂) where
-      -- the path is as long as before
-      ready : {path′ : List ℤ} → length path′ ≡ length path → StepReady t s follow path′
-      ready e = record {
-        loops = loop-here;
-        followed = g .walking .before .course .followed;
-        long = e ∙ g .walking .before .long;
-      }
+    module _ {path₂ l₂ : List ℤ} {p₂ : Progress} (exited : Lined path (exit-line t follow end s ∷ []) l₁ p₁ p₂ l₂ path₂) where
+      after-exit : InRoom l₂ p₂
+      after-exit = in-room-on after-guard (exited .lines)
 
-      after-floor : InRoom l₂ p₂
-      after-floor = in-room-on after-exit floored
+      pub floor-ready : Loop t s × InRoom l₂ p₂
+      floor-ready = (loop-here, after-exit)
 
-      module _ {x : ℕ} (part : x ≡ body-row t s) where
-        pub body-walking : {k : ℕ} → s₀ ≡ k → (x < k) × Walking t follow path₁ s x l₂ p₂
-        body-walking e =
-            let a = g .lower in
-            let h = g .walking .here in
-            let b = body-below t s loop-here .0 in
-            (omega linear, record { before = step-before t s path₁ (ready (exited .long)) part; here = omega linear; room = after-floor })
+      module _ {l₃ : List ℤ} {p₃ : Progress} (floored : Listed l₂ p₂ (floor-line t s ∷ []) p₃ l₃) where
+        -- the path is as long as before
+        ready : {path′ : List ℤ} → length path′ ≡ length path → StepReady t s follow path′
+        ready e = record {
+          loops = loop-here;
+          followed = g .walking .before .course .followed;
+          divided = g .walking .before .divided;
+          long = e ∙ g .walking .before .long;
+        }
 
-        module _ {path₃ l₃ : List ℤ} {p₃ : Progress} (walked : Lined path₁ (walk-at t follow s x) l₂ p₂ p₃ l₃ path₃) where
-          pub step-ready : StepReady t s follow path₃ × InRoom l₃ p₃
-          step-ready = (ready (walked .long ∙ exited .long), in-room-on after-floor (walked .lines))
+        after-floor : InRoom l₃ p₃
+        after-floor = in-room-on after-exit floored
 
-          body-walk : walk-at t follow s x ≡ walk (body-at t s) (decreased s (invariant-at t s) (variant-at t s))
-          body-walk =
-              let last = g .walking .before .course .followed .at s (g .walking .here) (while-is t s loop-here) in
-              ap (λ (r : ℕ). walk-at t follow s r) part
-              ∙ (ap (walk (body-at t s)) (after-end t follow (next t follow (body-row t s)) (end-formula t s) last)
-              ∙ ap (walk (body-at t s)) (end-decreased loop-here))
+        module _ {x : ℕ} (part : x ≡ body-row t s) where
+          pub body-walking : {k : ℕ} → s₀ ≡ k → (x < k) × Walking t follow path₂ s x l₃ p₃
+          body-walking e =
+              let a = g .lower in
+              let h = g .walking .here in
+              let b = body-below t s loop-here .0 in
+              (omega linear, record { before = step-before t s path₂ (ready (exited .long)) part; here = omega linear; room = after-floor })
 
-          loop-walk : walk-at t follow end s
-              ≡ (exit-line t follow end s ∷ [])
-              ++ ((floor-line t s ∷ []) ++ (walk (body-at t s) (decreased s (invariant-at t s) (variant-at t s)) ++ (step-line t s ∷ [])))
-          unfolding walk
-          loop-walk = ap (λ (y : Stmt). walk y (rest-of t follow end s)) (loop-is t s loop-here)
+          module _ {path₄ l₄ : List ℤ} {p₄ : Progress} (walked : Lined path₂ (walk-at t follow s x) l₃ p₃ p₄ l₄ path₄) where
+            pub step-ready : StepReady t s follow path₄ × InRoom l₄ p₄
+            step-ready = (ready (walked .long ∙ exited .long), in-room-on after-floor (walked .lines))
 
-          pub loop-lined : {path₄ l₄ : List ℤ} {p₄ : Progress} → Lined path₃ (step-line t s ∷ []) l₃ p₃ p₄ l₄ path₄
-              → Lined path₀ (walk-at t follow end s₀) l₀ p₀ p₄ l₄ path₄
-          loop-lined stepped = listed t follow end g (record {
-            lines = listed-as loop-walk
-                (listed-then (exited .lines) (listed-then floored (listed-then (rw body-walk at (walked .lines)) (stepped .lines))));
-            long = stepped .long ∙ (walked .long ∙ exited .long);
-          })
+            body-walk : walk-at t follow s x ≡ walk (body-at t s) (decreased s (invariant-at t s) (variant-at t s))
+            body-walk =
+                let last = g .walking .before .course .followed .at s (g .walking .here) (while-is t s loop-here) in
+                ap (λ (r : ℕ). walk-at t follow s r) part
+                ∙ (ap (walk (body-at t s)) (after-end t follow (next t follow (body-row t s)) (end-formula t s) last)
+                ∙ ap (walk (body-at t s)) (end-decreased loop-here))
+
+            loop-walk : walk-at t follow end s
+                ≡ guard-lines t s
+                ++ ((exit-line t follow end s ∷ [])
+                ++ ((floor-line t s ∷ []) ++ (walk (body-at t s) (decreased s (invariant-at t s) (variant-at t s)) ++ (step-line t s ∷ []))))
+            unfolding walk
+            loop-walk = ap (λ (y : Stmt). walk y (rest-of t follow end s)) (loop-is t s loop-here)
+
+            pub loop-lined : {path₅ l₅ : List ℤ} {p₅ : Progress} → Lined path₄ (step-line t s ∷ []) l₄ p₄ p₅ l₅ path₅
+                → Lined path₀ (walk-at t follow end s₀) l₀ p₀ p₅ l₅ path₅
+            loop-lined stepped = listed t follow end g (record {
+              lines = listed-as loop-walk
+                  (listed-then guarded
+                  (listed-then (exited .lines) (listed-then floored (listed-then (rw body-walk at (walked .lines)) (stepped .lines)))));
+              long = stepped .long ∙ (walked .long ∙ exited .long);
+            })

@@ -4,16 +4,16 @@ use Prim.Native.Nat.{ℕ, _+_, _-_, _*_, _≤_, _<_}
 use mathlib.Core.Path.{_≡_, ap, _∙_}
 use mathlib.Core.List.{List, [], _∷_}
 use native.Mathlib.Omega.{arith as linear}
-use lib.Dec.{T}
 use lib.IntN.{ℤ}
 use lib.ListN.{length}
-use Rattle.script.specs.Conditions.{Condition, walk, conditions}
+use Rattle.script.specs.Conditions.{walk, conditions}
 use Rattle.script.specs.Rows.{rows}
 use Rattle.script.specs.Trees.{stmt-at, tree}
 use Rattle.script.specs.Refusals.{verdict, accepted}
 use Rattle.theorems.specs.Accepted.{passed}
 use Rattle.theorems.specs.RowTrees.{tree-is}
 use Rattle.following.specs.Follow.{Followed}
+use Rattle.dividing.specs.Divided.{Divided}
 use Rattle.following.specs.Course.{next, after-end}
 use Rattle.following.specs.Kinds.{script-kind}
 use Rattle.wp_writer.specs.Loops.{Script, statement-row, script-is, statement-linked}
@@ -37,9 +37,9 @@ module _ (t : List ℤ) (ok : verdict t ≡ accepted) where
   script-here : Script t last
   script-here = record { table = passed t ok; inside = let a = filled in omega linear; script = script-kind t last (passed t ok .script) }
 
-  module _ {follow : List ℤ} (k : Followed t follow) where
+  module _ {follow : List ℤ} (k : Followed t follow) (d : Divided t follow) where
     ready : {path : List ℤ} → length path ≡ 2048 → MainReady t last follow path
-    ready e = record { scripts = script-here; followed = k; long = e }
+    ready e = record { scripts = script-here; followed = k; divided = d; long = e }
 
     module _ {s : ℕ} (part : s ≡ statement-row t last) {path l : List ℤ} (b : length path ≡ 2048) (h : length l ≤ 16384) where
       pub first-walking : Walking t follow path last s l front

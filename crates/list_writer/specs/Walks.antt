@@ -91,6 +91,7 @@ module _ (t follow : List ℤ) (end : ℕ) where
     part-before : {r : ℕ} {path′ : List ℤ} → Course t follow r 0 → length path′ ≡ length path → Before t follow path′ 0 end r
     part-before {path′ = path′} c e = record {
       course = c;
+      divided = g .walking .before .divided;
       ended = g .walking .before .ended;
       along = nothing-passed t path′;
       long = e ∙ g .walking .before .long;

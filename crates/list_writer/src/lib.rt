@@ -53,10 +53,11 @@ fn list_conditions(
             kinds::WHILE => {
                 let k = RowNumber(s);
                 let body = field(table, s, 3);
-                let p1 = line_writer::write_exit(table, k, follow, path, list, end, p);
-                let p2 = line_writer::write_floor(table, k, path, list, p1);
-                let p3 = list_conditions(table, body, follow, path, list, k, p2);
-                return line_writer::write_step(table, k, follow, path, list, p3);
+                let p1 = line_writer::write_guard(table, k, follow, path, list, p);
+                let p2 = line_writer::write_exit(table, k, follow, path, list, end, p1);
+                let p3 = line_writer::write_floor(table, k, path, list, p2);
+                let p4 = list_conditions(table, body, follow, path, list, k, p3);
+                return line_writer::write_step(table, k, follow, path, list, p4);
             }
             // skip, an assignment, an assertion
             _ => return p,
@@ -72,6 +73,7 @@ pub fn write_list(table: &[i32], list: &mut [i32]) -> Progress
     let mut follow = [0i32; 2048];
     let mut path = [0i32; 2048];
     following::find_follow(table, &mut follow);
+    dividing::find_divisions(table, &mut follow);
     let script = RowNumber(table.len() / 4 - 1);
     let statement = field(table, script.0, 2);
     let start = Progress { at: 0, count: 0 };

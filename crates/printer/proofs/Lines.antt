@@ -9,7 +9,7 @@ use native.Mathlib.Numerals.{add-one}
 use borrow.Author.Tests.{eq-eqb, ne-eqb}
 use Rattle.script.specs.declared.Answer.{Answer}
 use Rattle.script.specs.declared.Rule.{Rule}
-use Rattle.script.specs.declared.Rule.the-variants.{Exit, Floor, Step, Main}
+use Rattle.script.specs.declared.Rule.the-variants.{Exit, Floor, Step, Main, Guard}
 use Rattle.script.specs.Conditions.{Condition}
 use Rattle.script.specs.Words.{rule-number}
 use Rattle.text.specs.Ascii.{bytes}
@@ -41,11 +41,12 @@ name-is Exit = refl
 name-is Floor = refl
 name-is Step = refl
 name-is Main = refl
+name-is Guard = refl
 
--- a kind that is neither 1, 2 nor 3
-pub last-name : (n : ℕ) → (((Unit {0} × (n ≡ 1 → ⊥)) × (n ≡ 2 → ⊥)) × (n ≡ 3 → ⊥)) → name-of n ≡ bytes "main"
+-- a kind that is neither 1, 2, 3 nor 5
+pub last-name : (n : ℕ) → ((((Unit {0} × (n ≡ 1 → ⊥)) × (n ≡ 2 → ⊥)) × (n ≡ 3 → ⊥)) × (n ≡ 5 → ⊥)) → name-of n ≡ bytes "main"
 unfolding name-of
-last-name n h = rw (ne-eqb n 1 (h .0 .0 .1), ne-eqb n 2 (h .0 .1), ne-eqb n 3 (h .1))
+last-name n h = rw (ne-eqb n 1 (h .0 .0 .0 .1), ne-eqb n 2 (h .0 .0 .1), ne-eqb n 3 (h .0 .1), ne-eqb n 5 (h .1))
 
 -- ---- an answer, by its number
 

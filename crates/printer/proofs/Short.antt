@@ -30,7 +30,8 @@ either false us vs h k = k
 name-short : (n : ℕ) → length (name-of n) ≤ 5
 unfolding name-of
 name-short n =
-    either (eqb n 1) _ _ (omega linear) (either (eqb n 2) _ _ (omega linear) (either (eqb n 3) _ _ (omega linear) (omega linear)))
+    either (eqb n 1) _ _ (omega linear)
+    (either (eqb n 2) _ _ (omega linear) (either (eqb n 3) _ _ (omega linear) (either (eqb n 5) _ _ (omega linear) (omega linear))))
 
 pub line-short : (n : ℕ) (w : ℤ) (ws : List ℤ) → mag w < 2 ^ 31 → length (rest-of-line ws) ≤ 12 * length ws + 1
     → length (line (name-of n) (w ∷ ws)) ≤ 12 * length ws + 36

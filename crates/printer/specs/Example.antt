@@ -1,12 +1,12 @@
--- 01, "The program": example A's output, whole, and the first lines of some refusals, from the bytes of the input, settled
--- by computing the definitions. Assumes nothing.
+-- 01, "The program": example A's output, whole, the first lines of some refusals, and the output for a loop whose guard divides,
+-- from the bytes of the input, settled by computing the definitions. Assumes nothing.
 use Prim.Native.Nat.{ℕ}
 use mathlib.Core.Path.{_≡_, refl}
 use mathlib.Core.List.{List, [], _∷_, _++_, map}
 use lib.IntN.{pos, negsuc}
 use Rattle.script.specs.Rows.{row, row-of}
 use Rattle.script.specs.Trees.{expr, formula, stmt, expr-at, formula-at, stmt-at, tree, nesting}
-use Rattle.script.specs.Conditions.{conditions, walk, wp, subst-expr, subst-formula}
+use Rattle.script.specs.Conditions.{conditions, walk, wp, divisors, divisorsᶠ, subst-expr, subst-formula}
 use Rattle.script.specs.Words.{list-words, all-lines, line-words, expr-words, formula-words}
 use Rattle.script.specs.Refusals.{length-test, row-test-within, script-test, unlinked-test, target-test, reading-test, nesting-test, verdict-within}
 use Rattle.script.specs.Refusals.{lowest, row-fault-within, linked, misread, misreads}
@@ -29,9 +29,16 @@ example row-14 bs =
     ⨾ (19, 6, 7, 0) ⨾ (2, 0, 0, 0) ⨾ (37, 8, 9, 0) ⨾ (2, 0, 0, 0) ⨾ (1, 1, 0, 0) ⨾ (4, 11, 12, 0) ⨾ row-14
     ⨾ (36, 5, 10, 14) ⨾ (2, 0, 0, 0) ⨾ (1, 0, 0, 0) ⨾ (20, 16, 17, 0) ⨾ (48, 2, 15, 18) ⨾ bs
 
--- example A; "A with row 14 `33 128 13 0`: 8, row 14."; "A byte count that is no multiple of 4 is number 1."; "No words: 1."
+-- while 1 div v0 = 1 (true, 0) do skip
+division-in-while : List ℕ
+division-in-while =
+    (16, 0, 0, 0) ⨾ (1, 1, 0, 0) ⨾ (2, 0, 0, 0) ⨾ (6, 1, 2, 0) ⨾ (1, 1, 0, 0) ⨾ (20, 3, 4, 0)
+    ⨾ (16, 0, 0, 0) ⨾ (1, 0, 0, 0) ⨾ (37, 6, 7, 0) ⨾ (32, 0, 0, 0) ⨾ (36, 5, 8, 9) ⨾ (16, 0, 0, 0) ⨾ (48, 0, 10, 11) ⨾ []
+
+-- example A; "A with row 14 `33 128 13 0`: 8, row 14."; "A byte count that is no multiple of 4 is number 1."; "No words: 1.";
+-- 02, P5: "a loop whose guard divides lists first a condition of kind 5, guard"
 inputs : List (List ℕ)
-inputs = example (33, 0, 13, 0) [] ∷ example (33, 128, 13, 0) [] ∷ example (33, 0, 13, 0) (0 ∷ []) ∷ [] ∷ []
+inputs = example (33, 0, 13, 0) [] ∷ example (33, 128, 13, 0) [] ∷ example (33, 0, 13, 0) (0 ∷ []) ∷ [] ∷ division-in-while ∷ []
 
 outputs : map output inputs
     ≡ (bytes "planned 4 94\n"
@@ -42,8 +49,14 @@ outputs : map output inputs
     ∷ bytes "refused 8 14\n"
     ∷ bytes "refused 1 0\n"
     ∷ bytes "refused 1 0\n"
+    ∷ (bytes "planned 5 79\n"
+    ++ (bytes "guard 10 25 16 21 2 0 1 0\n"
+    ++ (bytes "exit 10 25 23 16 22 20 6 1 1 2 0 1 1 16\n"
+    ++ (bytes "floor 10 25 23 16 20 6 1 1 2 0 1 1 19 1 0 1 0\n"
+    ++ (bytes "step 10 25 23 23 16 20 6 1 1 2 0 1 1 20 1 0 9 10 23 16 18 1 0 9 10\n"
+    ++ bytes "main 12 25 16 16\n")))))
     ∷ []
-unfolding inputs output table-output words-of _⨾_ example answer-text lines line rest-of-line signed-decimal decimal digits outcome-within outcome-for verdict-within length-test row-test-within script-test unlinked-test target-test reading-test nesting-test lowest row-fault-within linked misread misreads row row-of expr formula stmt expr-at formula-at stmt-at tree nesting conditions walk wp subst-expr subst-formula list-words all-lines line-words expr-words formula-words
+unfolding division-in-while inputs output table-output words-of _⨾_ example answer-text lines line rest-of-line signed-decimal decimal digits outcome-within outcome-for verdict-within length-test row-test-within script-test unlinked-test target-test reading-test nesting-test lowest row-fault-within linked misread misreads row row-of expr formula stmt expr-at formula-at stmt-at tree nesting conditions walk wp divisors divisorsᶠ subst-expr subst-formula list-words all-lines line-words expr-words formula-words
 outputs = refl
 
 -- "a two's complement word, low byte first"

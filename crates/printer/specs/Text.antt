@@ -7,7 +7,7 @@ use lib.Dec.{eqb}
 use lib.IntN.{ℤ, pos, negsuc}
 use Rattle.script.specs.declared.Answer.{Answer}
 use Rattle.script.specs.declared.Rule.{Rule}
-use Rattle.script.specs.declared.Rule.the-variants.{Exit, Floor, Step, Main}
+use Rattle.script.specs.declared.Rule.the-variants.{Exit, Floor, Step, Main, Guard}
 use Rattle.script.specs.Conditions.{Condition}
 use Rattle.script.specs.Words.{formula-words}
 use Rattle.script.specs.Listing.{read-list}
@@ -33,10 +33,16 @@ name Exit = bytes "exit"
 name Floor = bytes "floor"
 name Step = bytes "step"
 name Main = bytes "main"
+-- 02, P5
+name Guard = bytes "guard"
 
 -- the name of a rule by its number, as a trailer has it
 unfoldable pub name-of : ℕ → List ℕ
-name-of n = cond (eqb n 1) (name Exit) (cond (eqb n 2) (name Floor) (cond (eqb n 3) (name Step) (name Main)))
+name-of n =
+    cond (eqb n 1) (name Exit)
+    (cond (eqb n 2) (name Floor)
+    (cond (eqb n 3) (name Step)
+    (cond (eqb n 5) (name Guard) (name Main))))
 
 -- "Then per condition: name, row, formula words."
 unfoldable pub lines : List Condition → List ℕ

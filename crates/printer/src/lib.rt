@@ -100,6 +100,7 @@ fn put_name(out: &mut [u8], at: usize, kind: usize) -> usize
         1 => text::push_text(out, at, b"exit"),
         2 => text::push_text(out, at, b"floor"),
         3 => text::push_text(out, at, b"step"),
+        5 => text::push_text(out, at, b"guard"),
         _ => text::push_text(out, at, b"main"),
     }
 }

@@ -1,5 +1,6 @@
 // Runs the trial rows of document 01 and writes a line for each: its name, and what the generator answers, or div and mod.
-// Then the scripts of example A's conditions (02, P1), and texts with what the reader answers (02, P4).
+// Then scripts that divide (02, P5), the scripts of example A's conditions (02, P1), and texts with what the reader answers
+// (02, P4).
 
 mod text; // numbers as the document prints them
 mod run; // one trial
@@ -7,6 +8,7 @@ mod example; // example A, by room and scratch, and with a row edited
 mod small; // the script of four rows, and tables by their number of words
 mod nesting; // branches in one another
 mod divisions; // div and mod
+mod zero_divisors; // scripts that divide
 mod scripts; // conditions as scripts
 mod texts; // scripts as text
 
@@ -19,6 +21,8 @@ fn main() {
     nesting::eight();
     nesting::nine();
     divisions::all();
+    zero_divisors::rooms();
+    zero_divisors::shapes();
     scripts::all();
     texts::all();
 }

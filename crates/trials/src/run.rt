@@ -52,10 +52,44 @@ pub fn rows(name: &[u8], rows: &[u8], room: usize, bench: usize) {
 }
 
 // Every word of a list.
-pub fn say_words(list: &[i32; 7]) {
+pub fn say_words(list: &[i32]) {
     let mut i: usize = 0;
-    while i < 7 {
+    while i < list.len() {
         say_number(script::field_number(list[i]));
         i += 1;
     }
+}
+
+// The first n words of a list, after its name.
+pub fn say_list(name: &[u8], list: &[i32], n: usize) {
+    io::write_all(1, name);
+    io::write_all(1, b", list:");
+    if n <= list.len() {
+        say_words(&list[..n]);
+    }
+    io::write_all(1, b"\n");
+}
+
+// What the generator answers to the first n words of a table, and the list.
+fn listed_part(name: &[u8], table: &[i32], n: usize) {
+    let mut list = [7; 512];
+    let mut scratch = [7; 5120];
+    if n <= table.len() {
+        let answer = generator::generate(&table[..n], &mut list, &mut scratch);
+        let words = answer.words;
+        say(name, answer);
+        say_list(name, &list, words);
+    }
+}
+
+// The same of a table in an array.
+fn listed_words(name: &[u8], table: &[i32; 124], n: usize) {
+    listed_part(name, table, n);
+}
+
+// The same of a table as document 01 prints it.
+pub fn listed(name: &[u8], rows: &[u8]) {
+    let mut table = [0; 124];
+    let n = text::numbers(rows, &mut table);
+    listed_words(name, &table, n);
 }

@@ -16,9 +16,7 @@ pub fn list() {
         b"four rows",
         generator::generate(&FOUR_ROWS, &mut list, &mut scratch),
     );
-    io::write_all(1, b"four rows, list:");
-    run::say_words(&list);
-    io::write_all(1, b"\n");
+    run::say_list(b"four rows", &list, 7);
 }
 
 // All words are 0: where their number passes, row 0 has a kind that is not listed.

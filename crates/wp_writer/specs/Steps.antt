@@ -1,16 +1,13 @@
--- The turns of the writer of W at skip, an assignment, a sequence and an assertion, and its end at a loop. Assumes nothing.
+-- What is known at each turn of the writer of W, of the statement at hand, its parts and what follows; the turns at skip, a
+-- sequence and an assertion, and the end at a loop. Assumes nothing.
 use Prim.Native.Nat.{ℕ, _+_, _*_, _<_}
 use mathlib.Core.Path.{_≡_, sym, ap, _∙_}
-use mathlib.Core.Logic.{⊎-elim}
 use mathlib.Core.List.{List, [], _∷_, _++_}
 use native.Mathlib.Omega.{arith as linear}
-use native.Mathlib.Numerals.{add-one}
 use lib.IntN.{ℤ, pos}
-use lib.ListN.{length, getD, set, length-set}
-use lib.Seq.{getD-set-same}
+use lib.ListN.{length, getD}
 use Rattle.script.specs.declared.RowNumber.{RowNumber}
-use Rattle.script.specs.declared.VariableNumber.{VariableNumber}
-use Rattle.script.specs.declared.StatementRow.the-variants.{Skip, Assign, Sequence, Assert}
+use Rattle.script.specs.declared.StatementRow.the-variants.{Skip, Sequence, Assert}
 use Rattle.script.specs.declared.Row.{Row}
 use Rattle.script.specs.declared.Row.the-variants as Row
 use Rattle.script.specs.declared.Sort.{Sort}
@@ -20,22 +17,19 @@ use Rattle.script.specs.Conditions.{wp}
 use Rattle.script.specs.Words.{formula-words}
 use Rattle.script.specs.Rows.{field-number, row, rows, word}
 use Rattle.script.specs.Trees.{stmt-node, expr-at, formula-at, stmt-at}
-use Rattle.theorems.specs.Counting.{eq-or-lt}
-use Rattle.theorems.specs.Writing.{Wrote, then, wrote-as}
-use Rattle.formula_writer.specs.Paths.{replaceᶠ, entry, passed-row, formula-under, assign-passed}
+use Rattle.theorems.specs.Writing.{Wrote, then}
+use Rattle.formula_writer.specs.Paths.{replaceᶠ, formula-under}
 use Rattle.formula_writer.specs.Links.{Linked}
-use Rattle.formula_writer.specs.Nodes.{Assignment, Passed, OnPath, Ready}
-use Rattle.following.specs.Course.{left, next, stands, course-at, left-bounded}
+use Rattle.formula_writer.specs.Nodes.{Ready}
+use Rattle.dividing.specs.Nodes.{Node}
+use Rattle.divisor_writer.specs.Words.{DivisorReady}
+use Rattle.following.specs.Course.{left, next, stands, course-at}
 use Rattle.following.specs.Kinds.{number, Past, assert-row}
-use Rattle.following.specs.Parts.{inside, stmt-here, links-here, passed-on, on-from, left-falls, first-course, after-sequence, left-first}
+use Rattle.following.specs.Parts.{inside, stmt-here, links-here, on-from, left-falls, first-course, after-sequence, left-first}
 use Rattle.wp_writer.specs.Loops.{Loop, invariant-row, invariant-linked, loop-is}
 use Rattle.wp_writer.specs.Ends.{end-formula, words-under, ready-at}
-use Rattle.wp_writer.specs.Same.{same-refl, same-set, under-same, along-same}
+use Rattle.wp_writer.specs.Same.{same-refl}
 use Rattle.wp_writer.specs.Walked.{Before, before-end, Step}
-
--- the entry of row s is stored at place n of a path: there stands the row
-entry-stored : (t xs : List ℤ) (n s : ℕ) {z : ℤ} → s < 2048 → n < length xs → z ≡ entry t s → passed-row (set xs n z) n ≡ s
-entry-stored t xs n s {z} small h e = rw (getD-set-same xs n z (pos 0) h, e) (omega linear)
 
 module _ (t follow path : List ℤ) (j end s : ℕ) (g : Before t follow path j end s) (more : s ≡ 2048 → ⊥) where
   abbrev spell : Formula → List ℤ
@@ -62,6 +56,13 @@ module _ (t follow path : List ℤ) (j end s : ℕ) (g : Before t follow path j 
   pub node-here : (a : ℕ) {k : Sort} → Linked t s a k → Ready t path j a k
   node-here a l = let h = in-rows in let i = l .0 in ready-at t path j a (g .course .table) (g .along) (omega linear, l .1)
 
+  -- D of a node
+  pub divisors-here : (a : ℕ) → Node t a → a < rows t → DivisorReady t follow path j a
+  divisors-here a n h =
+      let k = g .course .table .short in
+      let e = g .course .followed .long in
+      record { table = g .course .table; along = g .along; inside = h; node = n; divided = g .divided; long = omega linear }
+
   -- W from s on, where its row is known
   pub after-here : {w : Row} → row t s ≡ w → before-end t follow s end ≡ wp (stmt-node (expr-at t) (formula-at t) (stmt-at t) (row t) s w) rest
   after-here e = stands t follow more (g .course) .after-step (end-formula t end) ∙ ap (λ (x : Stmt). wp x rest) (stmt-here t follow (g .course) more e)
@@ -69,14 +70,14 @@ module _ (t follow path : List ℤ) (j end s : ℕ) (g : Before t follow path j 
   -- ---- what follows comes next
 
   -- from what was read
-  next-is : {s′ : ℕ} {z : ℤ} → s′ ≡ field-number z → z ≡ getD follow s (pos 0) → s′ ≡ next t follow s
+  pub next-is : {s′ : ℕ} {z : ℤ} → s′ ≡ field-number z → z ≡ getD follow s (pos 0) → s′ ≡ next t follow s
   next-is hf hz = rw (hf, hz)
 
   pub next-falls : {s′ : ℕ} {z : ℤ} → s′ ≡ field-number z → z ≡ getD follow s (pos 0) → left t follow s′ < left t follow s
   next-falls hf hz = rw (next-is hf hz) (left-falls t follow (g .course) more)
 
   on-before : {s′ : ℕ} → s′ ≡ next t follow s → Before t follow path j end s′
-  on-before e = record { course = course-at t follow e (on-from t follow (g .course) more); ended = g .ended; along = g .along; long = g .long }
+  on-before e = record { course = course-at t follow e (on-from t follow (g .course) more); divided = g .divided; ended = g .ended; along = g .along; long = g .long }
 
   -- with the words ws written
   on-step : {s′ : ℕ} {p p′ : ℕ} {l l′ : List ℤ} → s′ ≡ next t follow s
@@ -114,69 +115,12 @@ module _ (t follow path : List ℤ) (j end s : ℕ) (g : Before t follow path j 
   pub sequence-step : {a b : RowNumber} {p : ℕ} {l : List ℤ} → row t s ≡ Row.Statement (Sequence a b)
       → Step t follow end s j p path l (a .0) j p path l
   sequence-step r = record {
-    before = record { course = first-course t follow (g .course) more r; ended = g .ended; along = g .along; long = g .long };
+    before = record { course = first-course t follow (g .course) more r; divided = g .divided; ended = g .ended; along = g .along; long = g .long };
     longer = omega linear;
     kept = same-refl j path;
     falls = left-first t follow (g .course) more r;
     words = λ q l″ w. rw (after-sequence t follow (g .course) more r (end-formula t end)) w;
   }
-
-  -- ---- an assignment
-
-  pub assign-room : j < length path
-  assign-room =
-      let w = left-bounded t follow (passed-on t follow (g .course) more) in
-      let u = g .long in
-      omega linear
-
-  pub assignment-here : {v : VariableNumber} {x : RowNumber} → row t s ≡ Row.Statement (Assign v x) → Assignment t s
-  assignment-here {v} {x} r = record { inside = in-rows; target = v; value = x; is = r }
-
-  module _ {z : ℤ} (is : z ≡ entry t s) {v : VariableNumber} {x : RowNumber} (r : row t s ≡ Row.Statement (Assign v x)) where
-    stored : passed-row (set path j z) j ≡ s
-    stored = let h = in-rows in let k = g .course .table .short in entry-stored t path j s (omega linear) assign-room is
-
-    passed-here : Passed t (set path j z) j
-    passed-here = record {
-      assigns = rw stored (assignment-here r);
-      entered = rw (stored, getD-set-same path j z (pos 0) assign-room) is;
-    }
-
-    passed-along : OnPath t (set path j z) (j + 1)
-    passed-along =
-        let a = length-set path j z in
-        let h = assign-room in
-        let before = along-same t j (same-set j path z) (g .along) in
-        record {
-          bound = omega linear;
-          passed = λ i k. ⊎-elim (λ e. rw e passed-here) (before .passed i) (eq-or-lt i j (omega linear));
-        }
-
-    assign-words : (q : Formula) → spell (wp (stmt-at t s) q) ≡ words-under t (set path j z) (j + 1) q
-    assign-words q =
-        let c = assign-passed t (set path j z) j q (ap (stmt-at t) stored ∙ stmt-here t follow (g .course) more r) in
-        ap formula-words (rw (← under-same t j (same-set j path z), ← stored, add-one) c)
-
-    assign-spelled : spell (before-end t follow s end) ≡ words-under t (set path j z) (j + 1) rest
-    assign-spelled = ap spell (stands t follow more (g .course) .after-step (end-formula t end)) ∙ assign-words rest
-
-    pub assign-step : {s′ : ℕ} {y : ℤ} {p : ℕ} {l : List ℤ} → s′ ≡ field-number y → y ≡ getD follow s (pos 0)
-        → Step t follow end s j p path l s′ (j + 1) p (set path j z) l
-    assign-step hf hz =
-        let e = next-is hf hz in
-        let a = length-set path j z in
-        record {
-          before = record {
-            course = course-at t follow e (passed-on t follow (g .course) more);
-            ended = g .ended;
-            along = passed-along;
-            long = a ∙ g .long;
-          };
-          longer = omega linear;
-          kept = same-set j path z;
-          falls = rw e (left-falls t follow (g .course) more);
-          words = λ q l″ w. wrote-as (sym assign-spelled) (rw e at w);
-        }
 
   -- ---- a loop
 

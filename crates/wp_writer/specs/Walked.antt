@@ -12,6 +12,7 @@ use Rattle.theorems.specs.Writing.{Wrote, stopped, wrote-as}
 use Rattle.formula_writer.specs.Paths.{none-passed}
 use Rattle.formula_writer.specs.Nodes.{OnPath}
 use Rattle.following.specs.Course.{Course, after, left, after-end}
+use Rattle.dividing.specs.Divided.{Divided}
 use Rattle.wp_writer.specs.Ends.{end-formula, Ended, EndReady, words-under}
 use Rattle.wp_writer.specs.Same.{Same, same-refl, same-trans, same-less}
 
@@ -19,6 +20,7 @@ use Rattle.wp_writer.specs.Same.{Same, same-refl, same-trans, same-less}
 
 pub record Before (t follow path : List ℤ) (j end s : ℕ) : Type 0 where
   pub course : Course t follow s j
+  pub divided : Divided t follow
   pub ended : Ended t end
   pub along : OnPath t path j
   pub long : length path ≡ 2048

@@ -83,6 +83,8 @@ pub fn write_before(
         match kind {
             kinds::SKIP => s = script::field_number(follow[s]),
             kinds::ASSIGN => {
+                let e = RowNumber(field(table, s, 2));
+                p = divisor_writer::write_conjunct(table, e, follow, list, path, j, p);
                 path[j] = formula_writer::path::entry(table, RowNumber(s));
                 j = j + 1;
                 s = script::field_number(follow[s]);
@@ -92,6 +94,7 @@ pub fn write_before(
                 let b = RowNumber(field(table, s, 1));
                 let x = field(table, s, 2);
                 let y = field(table, s, 3);
+                p = divisor_writer::write_conjunct(table, b, follow, list, path, j, p);
                 p = formula_writer::push_kind(list, p, kinds::AND);
                 p = formula_writer::push_kind(list, p, kinds::IMPLIES);
                 p = formula_writer::write_formula(table, b, list, path, j, p);

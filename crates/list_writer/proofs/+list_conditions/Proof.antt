@@ -1,7 +1,6 @@
 -- `list_writer::list_conditions` meets its contract, turn by turn: each lists a part of the statement at hand, by the laws of its
 -- kind. The row number falls at every turn and at every call. Assumes nothing.
 use Prim.Native.Nat.{ℕ, _<_}
-use borrow.Author.Needs.{needs}
 use native.Mathlib.Omega.{arith}
 use borrow.Fn.Kinds.{In}
 use borrow.Fn.PlainCycle.{Measures, is, falls, and}
@@ -15,8 +14,9 @@ use Rattle.following.specs.Kinds.{number, sequence-row, if-row}
 use Rattle.line_writer.specs.Listed.{listed-length}
 use Rattle.list_writer.specs.Walks.{Turned, begun, in-table, listed-at-full, leaf-lined, second-walking, first-lower, first-turned}
 use Rattle.list_writer.specs.Walks.{then-walking, else-lower, else-turned}
-use Rattle.list_writer.specs.Bodies.{exit-ready, floor-ready, body-walking, step-ready, loop-lined}
+use Rattle.list_writer.specs.Bodies.{guard-ready, exit-ready, floor-ready, body-walking, step-ready, loop-lined}
 use Rattle.script.proofs.field.Reads as field-reads
+use Rattle.line_writer.proofs.write_guard.Reads as write-guard-reads
 use Rattle.line_writer.proofs.write_exit.Reads as write-exit-reads
 use Rattle.line_writer.proofs.write_floor.Reads as write-floor-reads
 use Rattle.line_writer.proofs.write_step.Reads as write-step-reads
@@ -48,6 +48,8 @@ claims t = (
   field-reads.Learnt,
   below t,
   reads.Post,
+  write-guard-reads.Asked,
+  write-guard-reads.Learnt,
   write-exit-reads.Asked,
   write-exit-reads.Learnt,
   write-floor-reads.Asked,
@@ -184,39 +186,49 @@ module _ (t : ℕ) where
       let arm = c .before in
       (in-table _ _ _ (turned arm), omega arith)
 
-  write-exit-requires : lts.Need-write-exit-requires (claims t) (at t) reads.Post kept falling
-  write-exit-requires c κs =
+  write-guard-requires : lts.Need-write-guard-requires (claims t) (at t) reads.Post kept falling
+  write-guard-requires c κs =
       let kind = c .before .before .before in
       let arm = kind .before in
-      exit-ready _ _ _ (turned arm) (arm .field .ensures) (kind .match .keys3)
+      guard-ready _ _ _ (turned arm) (arm .field .ensures) (kind .match .keys3)
+
+  write-exit-requires : lts.Need-write-exit-requires (claims t) (at t) reads.Post kept falling
+  write-exit-requires c κs =
+      let guarded = c .before .before .before in
+      let kind = guarded .before .before .before .before in
+      let arm = kind .before in
+      exit-ready _ _ _ (turned arm) (arm .field .ensures) (kind .match .keys3) (guarded .write-guard .ensures)
 
   write-floor-requires : lts.Need-write-floor-requires (claims t) (at t) reads.Post kept falling
   write-floor-requires c κs =
       let exited = c .before .before .before .before in
-      let kind = exited .before .before .before .before in
+      let guarded = exited .before .before .before .before in
+      let kind = guarded .before .before .before .before in
       let arm = kind .before in
-      floor-ready _ _ _ (turned arm) (arm .field .ensures) (kind .match .keys3) (exited .write-exit .ensures)
+      floor-ready _ _ _ (turned arm) (arm .field .ensures) (kind .match .keys3) (guarded .write-guard .ensures) (exited .write-exit .ensures)
 
   list-conditions-requires-3 : lts.Need-list-conditions-requires-3 (claims t) (at t) reads.Post kept falling
   list-conditions-requires-3 c κs =
       let floored = c .before .before .before in
       let exited = floored .before .before .before .before .before in
-      let body = exited .before .before .before in
+      let guarded = exited .before .before .before .before in
+      let body = guarded .before .before .before in
       let kind = body .before in
       let arm = kind .before in
-      body-walking _ _ _ (turned arm) (arm .field .ensures) (kind .match .keys3) (exited .write-exit .ensures) (floored .write-floor .ensures)
-      (body .field6 .ensures) (loop arm .before .pre .0)
+      body-walking _ _ _ (turned arm) (arm .field .ensures) (kind .match .keys3) (guarded .write-guard .ensures) (exited .write-exit .ensures)
+      (floored .write-floor .ensures) (body .field6 .ensures) (loop arm .before .pre .0)
 
   write-step-requires : lts.Need-write-step-requires (claims t) (at t) reads.Post kept falling
   write-step-requires c κs =
       let walked = c .before .before .before .before in
       let floored = walked .before .before .before .before in
       let exited = floored .before .before .before .before .before in
-      let body = exited .before .before .before in
+      let guarded = exited .before .before .before .before in
+      let body = guarded .before .before .before in
       let kind = body .before in
       let arm = kind .before in
-      step-ready _ _ _ (turned arm) (arm .field .ensures) (kind .match .keys3) (exited .write-exit .ensures) (floored .write-floor .ensures)
-      (body .field6 .ensures) (walked .list-conditions3 .ensures)
+      step-ready _ _ _ (turned arm) (arm .field .ensures) (kind .match .keys3) (guarded .write-guard .ensures) (exited .write-exit .ensures)
+      (floored .write-floor .ensures) (body .field6 .ensures) (walked .list-conditions3 .ensures)
 
   returns-2 : lts.Need-returns-2 (claims t) (at t) reads.Post kept falling
   returns-2 c =
@@ -224,11 +236,12 @@ module _ (t : ℕ) where
       let walked = stepped .before .before .before .before .before in
       let floored = walked .before .before .before .before in
       let exited = floored .before .before .before .before .before in
-      let body = exited .before .before .before in
+      let guarded = exited .before .before .before .before in
+      let body = guarded .before .before .before in
       let kind = body .before in
       let arm = kind .before in
-      loop-lined _ _ _ (turned arm) (arm .field .ensures) (kind .match .keys3) (exited .write-exit .ensures) (floored .write-floor .ensures)
-      (body .field6 .ensures) (walked .list-conditions3 .ensures) (stepped .write-step .ensures)
+      loop-lined _ _ _ (turned arm) (arm .field .ensures) (kind .match .keys3) (guarded .write-guard .ensures) (exited .write-exit .ensures)
+      (floored .write-floor .ensures) (body .field6 .ensures) (walked .list-conditions3 .ensures) (stepped .write-step .ensures)
 
   same-length-3 : lts.Need-same-length-3 (claims t) (at t) reads.Post kept falling
   same-length-3 c = returns-2 c .long
@@ -268,6 +281,7 @@ module _ (t : ℕ) where
       loop-less-2
       loop-again-2
       field-requires-6
+      write-guard-requires
       write-exit-requires
       write-floor-requires
       list-conditions-requires-3

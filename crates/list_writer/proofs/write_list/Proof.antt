@@ -1,4 +1,4 @@
--- `list_writer::write_list` meets its contract: what follows each statement is found first; what is listed, then main, are the
+-- `list_writer::write_list` meets its contract: what follows each statement and which rows divide is found first; what is listed, then main, are the
 -- script's conditions. Assumes nothing.
 use borrow.Author.Needs.{needs}
 use native.Mathlib.Omega.{arith}
@@ -8,30 +8,36 @@ use Rattle.list_writer.specs.Entry.{filled, last-in-table, first-walking
 use Rattle.list_writer.proofs.write_list.Statement.{statement}
 use Rattle.list_writer.proofs.write_list.Tie as tie
 
-sub-t15 : tie.Need-sub-t15
-sub-t15 c =
-    let start = c .before .before .before in
+find-divisions-requires : tie.Need-find-divisions-requires
+find-divisions-requires c κs =
+    let found = c .before .before in
+    (found .before .before .pre .0, found .find-follow .ensures)
+
+sub-t17 : tie.Need-sub-t17
+sub-t17 c =
+    let start = c .before .before .before .before .before .before in
     filled _ (start .pre .0)
 
 field-requires : tie.Need-field-requires
 field-requires c κs =
-    let start = c .before .before .before in
+    let start = c .before .before .before .before .before .before in
     (last-in-table _ (start .pre .0), omega arith)
 
 list-conditions-requires : tie.Need-list-conditions-requires
 list-conditions-requires c κs =
     let part = c .before .before .before in
     let found = part .before .before in
-    let start = found .before .before in
-    first-walking _ (start .pre .0) (found .find-follow .ensures) (part .field .ensures) refl (start .pre .1)
+    let start = found .before .before .before .before .before in
+    first-walking _ (start .pre .0) (found .find-divisions .ensures .0) (found .find-divisions .ensures .1) (part .field .ensures) refl (start .pre .1)
 
 write-main-requires : tie.Need-write-main-requires
 write-main-requires c κs =
     let walked = c .before .before .before .before .before in
     let part = walked .before .before .before .before in
     let found = part .before .before in
-    let start = found .before .before in
-    main-ready _ (start .pre .0) (found .find-follow .ensures) (part .field .ensures) refl (start .pre .1) (walked .list-conditions .ensures)
+    let start = found .before .before .before .before .before in
+    main-ready _ (start .pre .0) (found .find-divisions .ensures .0) (found .find-divisions .ensures .1) (part .field .ensures) refl (start .pre .1)
+    (walked .list-conditions .ensures)
 
 write-count-requires : tie.Need-write-count-requires
 write-count-requires c κs =
@@ -39,9 +45,9 @@ write-count-requires c κs =
     let walked = main .before .before .before .before .before .before in
     let part = walked .before .before .before .before in
     let found = part .before .before in
-    let start = found .before .before in
-    count-ready _ (start .pre .0) (found .find-follow .ensures) (part .field .ensures) refl (start .pre .1) (walked .list-conditions .ensures)
-    (main .write-main .ensures)
+    let start = found .before .before .before .before .before in
+    count-ready _ (start .pre .0) (found .find-divisions .ensures .0) (found .find-divisions .ensures .1) (part .field .ensures) refl (start .pre .1)
+    (walked .list-conditions .ensures) (main .write-main .ensures)
 
 returns : tie.Need-returns
 returns c =
@@ -50,10 +56,10 @@ returns c =
     let walked = main .before .before .before .before .before .before in
     let part = walked .before .before .before .before in
     let found = part .before .before in
-    let start = found .before .before in
+    let start = found .before .before .before .before .before in
     let w =
-    conditions-listed _ (start .pre .0) (found .find-follow .ensures) (part .field .ensures) refl (start .pre .1) (walked .list-conditions .ensures)
-    (main .write-main .ensures) in
+    conditions-listed _ (start .pre .0) (found .find-divisions .ensures .0) (found .find-divisions .ensures .1) (part .field .ensures) refl (start .pre .1)
+    (walked .list-conditions .ensures) (main .write-main .ensures) in
     whole-counted w (counted .write-count .ensures)
 
 pub write-list-spec : {M : Type 1} → statement M
@@ -62,7 +68,9 @@ write-list-spec =
     (tie.spec
     (λ c. search needs)
     (λ c κs. search needs)
-    sub-t15
+    (λ c. search needs)
+    find-divisions-requires
+    sub-t17
     field-requires
     (λ c. search needs)
     (λ c. search needs)

@@ -18,12 +18,18 @@ unfolding name-of
 returns-3 c = rw (c .before .before .before .before .before .match .keys3) (c .before .before .push-text3 .ensures)
 
 returns-4 : tie.Need-returns-4
-returns-4 c = rw (last-name _ (c .before .before .before .before .before .match .rest)) (c .before .before .push-text4 .ensures)
+unfolding name-of
+returns-4 c = rw (c .before .before .before .before .before .match .keys4) (c .before .before .push-text4 .ensures)
+
+returns-5 : tie.Need-returns-5
+returns-5 c = rw (last-name _ (c .before .before .before .before .before .match .rest)) (c .before .before .push-text5 .ensures)
 
 pub put-name-spec : {M : Type 1} → statement M
 put-name-spec =
     tie.close
     (tie.spec
+    (λ c. search needs)
+    (λ c κs. search needs)
     (λ c. search needs)
     (λ c κs. search needs)
     (λ c. search needs)
@@ -39,4 +45,6 @@ put-name-spec =
     (λ c. search needs)
     returns-3
     (λ c. search needs)
-    returns-4)
+    returns-4
+    (λ c. search needs)
+    returns-5)

@@ -1,6 +1,8 @@
 -- `trials::run::say_words` is safe and ends. Assumes nothing.
 use borrow.Author.Needs.{needs}
 use Prim.Native.Nat.{_-_}
+use lib.ListN.{length}
+use native.Mathlib.Omega.{arith}
 use Rattle.trials.proofs.run.say_words.Statement.{statement}
 use Rattle.trials.proofs.run.say_words.Tie as tie
 
@@ -8,7 +10,7 @@ abbrev Inv-loop : tie.InvT-loop
 Inv-loop list i₀ i = Unit {0}
 
 abbrev μ-loop : tie.MeasureT-loop
-μ-loop list i₀ i = 7 - i
+μ-loop list i₀ i = length list - i
 
 loop-holds : tie.Need-loop-holds Inv-loop μ-loop
 loop-holds c = search needs
@@ -16,8 +18,8 @@ loop-holds c = search needs
 mul-field-number : tie.Need-mul-field-number Inv-loop μ-loop
 mul-field-number c = search needs
 
-element-copy-out-field-number : tie.Need-element-copy-out-field-number Inv-loop μ-loop
-element-copy-out-field-number c = search needs
+shared-slice-copy-out-field-number : tie.Need-shared-slice-copy-out-field-number Inv-loop μ-loop
+shared-slice-copy-out-field-number c = search needs
 
 field-number-requires : tie.Need-field-number-requires Inv-loop μ-loop
 field-number-requires c κs = search needs
@@ -29,7 +31,10 @@ add-i : tie.Need-add-i Inv-loop μ-loop
 add-i c = search needs
 
 loop-less : tie.Need-loop-less Inv-loop μ-loop
-loop-less c = search needs
+loop-less c =
+    let turn = c .before .before .before in
+    let h = turn .loop-test .taken in
+    omega arith
 
 loop-again : tie.Need-loop-again Inv-loop μ-loop
 loop-again c = search needs
@@ -45,7 +50,7 @@ say-words-spec =
     μ-loop
     loop-holds
     mul-field-number
-    element-copy-out-field-number
+    shared-slice-copy-out-field-number
     field-number-requires
     say-number-requires
     add-i
