@@ -1,16 +1,18 @@
 //! "Conditions": weakest preconditions and the verification conditions listed
-//! on the way.
+//! on the way; with the divisors of request P5.
 
 use crate::table::{Row, Variable};
 use crate::tree::{Comparison, Connective, Expression, Formula, Loop, Script, Statement};
 
-/// "condition kind (1 exit, 2 floor, 3 step, 4 main)".
+/// "condition kind (1 exit, 2 floor, 3 step, 4 main)"; request P5 adds "a
+/// condition of kind 5, guard".
 #[derive(Clone, Copy, Debug, PartialEq, Eq)]
 pub enum ConditionKind {
     Exit = 1,
     Floor = 2,
     Step = 3,
     Main = 4,
+    Guard = 5,
 }
 
 /// A verification condition with the row of its while, or of the script.
@@ -77,7 +79,9 @@ impl Walk {
             Statement::Skip => after,
             Statement::Assign(variable, assigned) => {
                 self.fits(length_substituted(&after, *variable, assigned))?;
-                substitute(after, *variable, assigned)
+                let substituted = substitute(after, *variable, assigned);
+                // "Assign becomes D(E) and the old formula"
+                behind(divisors_of_expression(assigned), substituted)
             }
             Statement::Sequence(first, second) => {
                 let between = self.weakest_precondition(second, after)?;
@@ -88,7 +92,8 @@ impl Walk {
                 let before_else = self.weakest_precondition(otherwise, after)?;
                 let then_side = implies(guard.clone(), before_then);
                 let else_side = implies(not(guard.clone()), before_else);
-                and(then_side, else_side)
+                // "if becomes D(B) and the old formula"
+                behind(divisors_of_formula(guard), and(then_side, else_side))
             }
             Statement::Assert(_, assertion) => and(assertion.clone(), after),
             Statement::While(the_loop) => {
@@ -101,12 +106,17 @@ impl Walk {
     }
 
     /// "Each loop with guard B, note I, V and mark m, met with Q after it,
-    /// lists": exit, floor, all conditions of its body, step.
+    /// lists": exit, floor, all conditions of its body, step; and by request P5
+    /// "a loop whose guard divides lists first a condition of kind 5".
     fn list_loop(&mut self, the_loop: &Loop, after: Formula) -> Result<(), TooLong> {
         let guard = || the_loop.guard.clone();
         let invariant = || the_loop.invariant.clone();
         let variant = || the_loop.variant.clone();
         let mark = || Expression::Mark(the_loop.row);
+
+        if let Some(no_zero_divisor) = guard_condition(the_loop) {
+            self.list(ConditionKind::Guard, the_loop.row, no_zero_divisor)?;
+        }
 
         // exit: (I and (not B)) implies Q
         let exit = implies(and(invariant(), not(guard())), after);
@@ -141,6 +151,73 @@ impl Walk {
         } else {
             Ok(())
         }
+    }
+}
+
+/// The condition "guard: I implies D(B)", for "a loop whose guard divides".
+pub fn guard_condition(the_loop: &Loop) -> Option<Formula> {
+    let divisors = divisors_of_formula(&the_loop.guard)?;
+    Some(implies(the_loop.invariant.clone(), divisors))
+}
+
+/// D(E): "D(E) says no divisor is zero: each part's D in order, then for div
+/// and mod the divisor unequal to 0 ...; in a choose the branches' D stand
+/// behind formula implies and (not formula) implies. What has no div or mod
+/// adds nothing."
+pub fn divisors_of_expression(expression: &Expression) -> Option<Formula> {
+    match expression {
+        Expression::Constant(_) | Expression::Variable(_) | Expression::Mark(_) => None,
+        Expression::Negate(part) => divisors_of_expression(part),
+        Expression::Arithmetic(operation, left, right) => all_of([
+            divisors_of_expression(left),
+            divisors_of_expression(right),
+            operation.divides().then(|| is_not_zero(right)),
+        ]),
+        Expression::Choose(chooser, first, second) => {
+            let chooser_true = || Formula::clone(chooser);
+            let chooser_false = || not(chooser_true());
+            all_of([
+                divisors_of_formula(chooser),
+                divisors_of_expression(first).map(|of_first| implies(chooser_true(), of_first)),
+                divisors_of_expression(second).map(|of_second| implies(chooser_false(), of_second)),
+            ])
+        }
+    }
+}
+
+/// D(B): "each part's D in order".
+pub fn divisors_of_formula(formula: &Formula) -> Option<Formula> {
+    match formula {
+        Formula::True | Formula::False => None,
+        Formula::Not(part) => divisors_of_formula(part),
+        Formula::Compare(_, left, right) => {
+            all_of([divisors_of_expression(left), divisors_of_expression(right)])
+        }
+        Formula::Connect(_, left, right) => {
+            all_of([divisors_of_formula(left), divisors_of_formula(right)])
+        }
+    }
+}
+
+/// "each kept whole, joined by and, grouped from the left"
+fn all_of<const COUNT: usize>(items: [Option<Formula>; COUNT]) -> Option<Formula> {
+    items.into_iter().flatten().reduce(and)
+}
+
+/// "the divisor unequal to 0"
+fn is_not_zero(divisor: &Expression) -> Formula {
+    compare(
+        Comparison::Unequal,
+        divisor.clone(),
+        Expression::Constant(0),
+    )
+}
+
+/// D and the old formula, or the old formula alone where D is nothing.
+fn behind(divisors: Option<Formula>, old: Formula) -> Formula {
+    match divisors {
+        Some(divisors) => and(divisors, old),
+        None => old,
     }
 }
 

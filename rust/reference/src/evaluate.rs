@@ -1,4 +1,6 @@
-//! "Meaning of a run": values and truth in a state.
+//! "Meaning of a run": values and truth in a state. Conditions and annotations
+//! have document 01's totals; what a script works out, since request P5, has a
+//! value only where no divisor is zero.
 
 use std::collections::BTreeMap;
 
@@ -35,6 +37,21 @@ impl State {
 #[derive(Clone, Copy, Debug, PartialEq, Eq)]
 pub struct TooLarge;
 
+/// Why a guard or an assigned expression has no value.
+#[derive(Clone, Copy, Debug, PartialEq, Eq)]
+pub enum NoValue {
+    /// Request P5: it "works out a div or mod by zero".
+    ZeroDivisor,
+    /// As [`TooLarge`]; no zero divisor was met, but one may be behind it.
+    TooLarge,
+}
+
+impl From<TooLarge> for NoValue {
+    fn from(_: TooLarge) -> NoValue {
+        NoValue::TooLarge
+    }
+}
+
 /// "Div and mod are those of SMT-LIB Ints: n = d × q + r with 0 ≤ r < |d|.
 /// Here n div 0 is 0."
 pub fn div(n: i128, d: i128) -> Result<i128, TooLarge> {
@@ -53,7 +70,7 @@ pub fn modulo(n: i128, d: i128) -> i128 {
     }
 }
 
-/// The value of an expression in a state.
+/// The value of an expression in a state, with document 01's totals.
 pub fn value_of(expression: &Expression, state: &State) -> Result<i128, TooLarge> {
     match expression {
         Expression::Constant(value) => Ok(i128::from(*value)),
@@ -85,7 +102,17 @@ fn calculate(operation: Arithmetic, left: i128, right: i128) -> Result<i128, Too
     }
 }
 
-/// Whether a formula is true in a state. "Connectives are two-valued."
+fn compare(comparison: Comparison, left: i128, right: i128) -> bool {
+    match comparison {
+        Comparison::Less => left < right,
+        Comparison::AtMost => left <= right,
+        Comparison::Equal => left == right,
+        Comparison::Unequal => left != right,
+    }
+}
+
+/// Whether a formula is true in a state, with document 01's totals.
+/// "Connectives are two-valued."
 pub fn formula_is_true(formula: &Formula, state: &State) -> Result<bool, TooLarge> {
     match formula {
         Formula::True => Ok(true),
@@ -93,12 +120,7 @@ pub fn formula_is_true(formula: &Formula, state: &State) -> Result<bool, TooLarg
         Formula::Not(part) => Ok(!formula_is_true(part, state)?),
         Formula::Compare(comparison, left, right) => {
             let (left, right) = (value_of(left, state)?, value_of(right, state)?);
-            Ok(match comparison {
-                Comparison::Less => left < right,
-                Comparison::AtMost => left <= right,
-                Comparison::Equal => left == right,
-                Comparison::Unequal => left != right,
-            })
+            Ok(compare(*comparison, left, right))
         }
         Formula::Connect(connective, left, right) => {
             let left = formula_is_true(left, state)?;
@@ -117,4 +139,74 @@ pub fn formula_is_true(formula: &Formula, state: &State) -> Result<bool, TooLarg
 pub fn spelled_formula_is_true(words: &[i32], state: &State) -> Option<Result<bool, TooLarge>> {
     let formula = formula_from_words(words)?;
     Some(formula_is_true(&formula, state))
+}
+
+/// The value of an assigned expression, as a script works it out. Request P5:
+/// "a guard or assigned expression that works out a div or mod by zero is a
+/// failed run".
+pub fn worked_out_value(expression: &Expression, state: &State) -> Result<i128, NoValue> {
+    match expression {
+        Expression::Constant(_) | Expression::Variable(_) | Expression::Mark(_) => {
+            Ok(value_of(expression, state)?)
+        }
+        Expression::Negate(part) => {
+            let value = worked_out_value(part, state)?;
+            value.checked_neg().ok_or(NoValue::TooLarge)
+        }
+        Expression::Arithmetic(operation, left, right) => {
+            let left = worked_out_value(left, state);
+            let right = worked_out_value(right, state);
+            if operation.divides() && right == Ok(0) {
+                return Err(NoValue::ZeroDivisor);
+            }
+            let (left, right) = both(left, right)?;
+            Ok(calculate(*operation, left, right)?)
+        }
+        // "choose works out only the branch taken"
+        Expression::Choose(chooser, first, second) => {
+            let taken = if worked_out_truth(chooser, state)? {
+                first
+            } else {
+                second
+            };
+            worked_out_value(taken, state)
+        }
+    }
+}
+
+/// Whether a guard is true, as a script works it out: "connectives both sides".
+pub fn worked_out_truth(formula: &Formula, state: &State) -> Result<bool, NoValue> {
+    match formula {
+        Formula::True => Ok(true),
+        Formula::False => Ok(false),
+        Formula::Not(part) => Ok(!worked_out_truth(part, state)?),
+        Formula::Compare(comparison, left, right) => {
+            let left = worked_out_value(left, state);
+            let right = worked_out_value(right, state);
+            let (left, right) = both(left, right)?;
+            Ok(compare(*comparison, left, right))
+        }
+        Formula::Connect(connective, left, right) => {
+            let left = worked_out_truth(left, state);
+            let right = worked_out_truth(right, state);
+            let (left, right) = both(left, right)?;
+            Ok(match connective {
+                Connective::And => left && right,
+                Connective::Or => left || right,
+                Connective::Implies => !left || right,
+            })
+        }
+    }
+}
+
+/// Both sides of an operation; a zero divisor in one of them is met whatever
+/// becomes of the other.
+fn both<T>(left: Result<T, NoValue>, right: Result<T, NoValue>) -> Result<(T, T), NoValue> {
+    match (left, right) {
+        (Ok(left), Ok(right)) => Ok((left, right)),
+        (Err(NoValue::ZeroDivisor), _) | (_, Err(NoValue::ZeroDivisor)) => {
+            Err(NoValue::ZeroDivisor)
+        }
+        _ => Err(NoValue::TooLarge),
+    }
 }

@@ -1,4 +1,4 @@
-//! Document 01 and requests P1, P2 and P4 a second time, written from the
+//! Document 01 and requests P1, P2, P4 and P5 a second time, written from the
 //! documents alone: trees, `Vec` and `Box`, clear rather than fast.
 //!
 //! Whole numbers of runs are kept as `i128`. Where a value would leave that
@@ -24,9 +24,11 @@ mod unparse;
 
 pub use check::{check, Verdict};
 pub use conditions::{conditions, list_words, Condition, ConditionKind, TooLong};
+pub use conditions::{divisors_of_expression, divisors_of_formula, guard_condition};
 pub use evaluate::{
     div, formula_is_true, modulo, spelled_formula_is_true, value_of, State, TooLarge,
 };
+pub use evaluate::{worked_out_truth, worked_out_value, NoValue};
 pub use generate::{generate, need, Need, Outcome, LONGEST_LIST};
 pub use kinds::{shape, Role, Shape, Sort};
 pub use list::{is_whole_formula, line_at, lines, Line, ListReader};

@@ -85,12 +85,13 @@ pub fn lines(list: &[i32]) -> Option<Vec<Line>> {
 }
 
 /// The line at the end of `words`: a trailer "with a kind 1 to 4, a row from 0
-/// to 2,047 and the true length of one whole formula".
+/// to 2,047 and the true length of one whole formula"; since request P5, "The
+/// list reader takes kind 5."
 fn last_line(words: &[i32]) -> Option<Line> {
     let end = words.len().checked_sub(3)?;
     let (kind, row, length) = (words[end], words[end + 1], words[end + 2]);
     let start = end.checked_sub(usize::try_from(length).ok()?)?;
-    let in_range = (1..=4).contains(&kind) && (0..=2_047).contains(&row);
+    let in_range = (1..=5).contains(&kind) && (0..=2_047).contains(&row);
     let whole = in_range && is_whole_formula(&words[start..end]);
     whole.then_some(Line {
         number: 0,

@@ -50,6 +50,7 @@ fn name(kind: i32) -> &'static str {
         2 => "floor",
         3 => "step",
         4 => "main",
+        5 => "guard",
         _ => unreachable!("condition kind {kind}"),
     }
 }

@@ -1,7 +1,9 @@
 //! "Meaning of a run": the script of an accepted table, run from a start.
 
 use crate::check::{check, Verdict};
-use crate::evaluate::{formula_is_true, value_of, State, TooLarge};
+use crate::evaluate::{
+    formula_is_true, value_of, worked_out_truth, worked_out_value, NoValue, State, TooLarge,
+};
 use crate::table::Row;
 use crate::tree::{script_of, Loop, Statement};
 
@@ -12,9 +14,13 @@ pub enum End {
     Done,
     /// "where false the run stops there as failed", with the row of the assert.
     Failed(Row),
+    /// Request P5: "a guard or assigned expression that works out a div or mod
+    /// by zero is a failed run".
+    DividedByZero,
     /// The steps allowed were used up; the run itself would go on.
     OutOfSteps,
-    /// A value left the range of `i128`; the run itself would go on.
+    /// A value left the range of `i128`; the run itself would go on, or meet a
+    /// zero divisor behind that value.
     TooLarge,
 }
 
@@ -82,6 +88,15 @@ impl From<TooLarge> for End {
     }
 }
 
+impl From<NoValue> for End {
+    fn from(reason: NoValue) -> End {
+        match reason {
+            NoValue::ZeroDivisor => End::DividedByZero,
+            NoValue::TooLarge => End::TooLarge,
+        }
+    }
+}
+
 struct Runner<'a> {
     state: State,
     steps_left: u64,
@@ -95,7 +110,7 @@ impl Runner<'_> {
         match statement {
             Statement::Skip => Ok(()),
             Statement::Assign(variable, assigned) => {
-                let value = value_of(assigned, &self.state)?;
+                let value = worked_out_value(assigned, &self.state)?;
                 self.state.set_variable(*variable, value);
                 (self.observer)(&self.state);
                 Ok(())
@@ -105,13 +120,14 @@ impl Runner<'_> {
                 self.statement(second)
             }
             Statement::If(guard, then, otherwise) => {
-                let taken = if formula_is_true(guard, &self.state)? {
+                let taken = if worked_out_truth(guard, &self.state)? {
                     then
                 } else {
                     otherwise
                 };
                 self.statement(taken)
             }
+            // "in annotations 01's totals stay"
             Statement::Assert(row, assertion) => {
                 if formula_is_true(assertion, &self.state)? {
                     Ok(())
@@ -133,7 +149,7 @@ impl Runner<'_> {
             variant,
             bodies_begun: 0,
         });
-        while formula_is_true(&the_loop.guard, &self.state)? {
+        while worked_out_truth(&the_loop.guard, &self.state)? {
             let value = value_of(&the_loop.variant, &self.state)?;
             self.state.set_mark(the_loop.row, value);
             (self.observer)(&self.state);

@@ -176,6 +176,11 @@ fn connective(kind: i32) -> Connective {
 }
 
 impl Arithmetic {
+    /// Whether the right operand is a divisor.
+    pub fn divides(self) -> bool {
+        matches!(self, Arithmetic::Div | Arithmetic::Mod)
+    }
+
     fn kind(self) -> i32 {
         match self {
             Arithmetic::Plus => 3,

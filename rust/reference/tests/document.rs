@@ -1,5 +1,6 @@
 //! Every trial row of document 01, example A to the byte, and the five wrong
-//! turns; of variables, what request P2 makes of them.
+//! turns; of variables, what request P2 makes of them, and of condition kinds,
+//! what request P5 does.
 
 mod example_a;
 
@@ -451,7 +452,8 @@ fn torn_lists() {
         &[25, 16, 16, 4, 3, 3, 2],
         &[25, 16, 16, 4, 3, 2, 1],
         &[16, 25, 16, 16, 4, 3, 3, 1],
-        &[25, 16, 16, 5, 3, 3, 1],
+        &[25, 16, 16, 0, 3, 3, 1],
+        &[25, 16, 16, 6, 3, 3, 1],
         &[25, 16, 16, 4, 2_048, 3, 1],
         &[20, 2, 1_024, 1, 0, 4, 3, 5, 1],
         &[20, 2, -1, 1, 0, 4, 3, 5, 1],
