@@ -83,6 +83,42 @@ fn time_lists(watch: &Stopwatch) {
     }
 }
 
+/// Scripts that divide in code, and one that divides in annotations alone.
+fn time_divisions(watch: &Stopwatch) {
+    let tables = [
+        ("one division", scripts::divisions(1)),
+        ("300 divisions", scripts::divisions(300)),
+        ("60 remainders, each by the last", scripts::remainders(60)),
+        ("50 loops, guards that divide", scripts::dividing_loops(50)),
+        ("7 branches on quotients", scripts::dividing_branches(7)),
+        ("24 branches on quotients", scripts::dividing_branches(24)),
+        ("200 chooses that divide", scripts::dividing_chooses(200)),
+        (
+            "1,000 quotients of quotients",
+            scripts::quotients_of_quotients(1_000),
+        ),
+        (
+            "90 quotients by quotients",
+            scripts::quotients_by_quotients(90),
+        ),
+        (
+            "900 quotients by quotients",
+            scripts::quotients_by_quotients(900),
+        ),
+        (
+            "24 branches, 200 divisions",
+            scripts::branches_then_divisions(24, 200),
+        ),
+        (
+            "50 loops, annotations that divide",
+            scripts::dividing_annotations(50),
+        ),
+    ];
+    for (name, table) in tables {
+        time_generating_at_the_need(watch, name, &table);
+    }
+}
+
 /// Scripts whose lists double with every branch: the time is bounded by the
 /// room times the rows, however long the list would be.
 fn time_exponential_lists(watch: &Stopwatch) {
@@ -125,6 +161,7 @@ fn time_readings(watch: &Stopwatch) {
     let lists = [
         ("50 loops", list_of(&scripts::loops(50))),
         ("v256 to v606", list_of(&scripts::shifted_variables(350))),
+        ("50 guards", list_of(&scripts::dividing_loops(50))),
         ("one condition", list_of(&scripts::full_list())),
         ("4,095 conditions", list_of_short_conditions()),
     ];
@@ -184,6 +221,7 @@ fn main() {
     let watch = Stopwatch { rounds };
     watch.print_head();
     time_lists(&watch);
+    time_divisions(&watch);
     time_exponential_lists(&watch);
     time_refusals(&watch);
     time_readings(&watch);

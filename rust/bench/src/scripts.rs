@@ -77,6 +77,24 @@ pub fn branches_then_skips(branches: i32, skips: i32) -> Vec<i32> {
     laid_out(arena, statement)
 }
 
+/// Branches of skips, with assignments that divide after them: each way through
+/// the branches writes the D of some.
+pub fn branches_then_divisions(branches: i32, divisions: i32) -> Vec<i32> {
+    let mut arena = Arena::default();
+    let mut statements = Vec::new();
+    for _ in 0..branches {
+        let guard = arena.leaf(16);
+        let (then, otherwise) = (arena.leaf(32), arena.leaf(32));
+        statements.push(arena.three(35, guard, then, otherwise));
+    }
+    for variable in 0..divisions {
+        let value = quotient(&mut arena, 100, 101);
+        statements.push(arena.assign(1 + variable % 90, value));
+    }
+    let statement = in_sequence(&mut arena, statements);
+    laid_out(arena, statement)
+}
+
 /// One assignment of an expression with so many sums, each a part of the next.
 pub fn deep_expression(sums: i32) -> Vec<i32> {
     let mut arena = Arena::default();
@@ -86,6 +104,127 @@ pub fn deep_expression(sums: i32) -> Vec<i32> {
         deep = arena.two(3, deep, one);
     }
     let statement = arena.assign(0, deep);
+    laid_out(arena, statement)
+}
+
+fn quotient(arena: &mut Arena, dividend: i32, divisor: i32) -> Node {
+    let (left, right) = (arena.variable(dividend), arena.variable(divisor));
+    arena.two(6, left, right)
+}
+
+/// v1 := v2 div v3; v2 := v3 div v4; .. over 100 variables, so many assignments.
+pub fn divisions(count: i32) -> Vec<i32> {
+    let mut arena = Arena::default();
+    let mut statements = Vec::new();
+    for place in 0..count {
+        let [first, second, third] = [0, 1, 2].map(|next| 1 + (place + next) % 100);
+        let value = quotient(&mut arena, second, third);
+        statements.push(arena.assign(first, value));
+    }
+    let statement = in_sequence(&mut arena, statements);
+    laid_out(arena, statement)
+}
+
+/// v0 := v1 mod v0, so many times: each divides by what the one before gave.
+pub fn remainders(count: i32) -> Vec<i32> {
+    let mut arena = Arena::default();
+    let mut statements = Vec::new();
+    for _ in 0..count {
+        let (left, right) = (arena.variable(1), arena.variable(0));
+        let value = arena.two(7, left, right);
+        statements.push(arena.assign(0, value));
+    }
+    let statement = in_sequence(&mut arena, statements);
+    laid_out(arena, statement)
+}
+
+/// Loops like example A's whose guards divide, one after the other.
+pub fn dividing_loops(count: i32) -> Vec<i32> {
+    let mut arena = Arena::default();
+    let mut loops = Vec::new();
+    for variable in 0..count {
+        let (zero, value) = (arena.constant(0), quotient(&mut arena, variable, 100));
+        let guard = arena.two(18, zero, value);
+        let invariant = comparison(&mut arena, 19, 0, variable);
+        let variant = arena.variable(variable);
+        let note = arena.two(37, invariant, variant);
+        let body = add(&mut arena, variable, -1);
+        loops.push(arena.three(36, guard, note, body));
+    }
+    let statement = in_sequence(&mut arena, loops);
+    laid_out(arena, statement)
+}
+
+/// Branches whose guards divide, one after the other.
+pub fn dividing_branches(count: i32) -> Vec<i32> {
+    let mut arena = Arena::default();
+    let mut statements = Vec::new();
+    for variable in 0..count {
+        let (zero, value) = (
+            arena.constant(0),
+            quotient(&mut arena, 0, 1 + variable % 100),
+        );
+        let guard = arena.two(18, zero, value);
+        let (then, otherwise) = (add(&mut arena, 0, 1), add(&mut arena, 0, 2));
+        statements.push(arena.three(35, guard, then, otherwise));
+    }
+    let statement = in_sequence(&mut arena, statements);
+    laid_out(arena, statement)
+}
+
+/// One assignment of chooses, each by a comparison that divides, of a quotient
+/// and of the choose before.
+pub fn dividing_chooses(depth: i32) -> Vec<i32> {
+    let mut arena = Arena::default();
+    let mut chosen = quotient(&mut arena, 1, 2);
+    for level in 0..depth {
+        let (zero, value) = (arena.constant(0), quotient(&mut arena, 1, 3 + level % 100));
+        let formula = arena.two(18, zero, value);
+        let first = quotient(&mut arena, 2, 3 + level % 100);
+        chosen = arena.three(10, formula, first, chosen);
+    }
+    let statement = arena.assign(0, chosen);
+    laid_out(arena, statement)
+}
+
+/// One assignment of a quotient of a quotient .., so deep.
+pub fn quotients_of_quotients(depth: i32) -> Vec<i32> {
+    let mut arena = Arena::default();
+    let mut value = arena.variable(0);
+    for level in 0..depth {
+        let divisor = arena.variable(1 + level % 100);
+        value = arena.two(6, value, divisor);
+    }
+    let statement = arena.assign(0, value);
+    laid_out(arena, statement)
+}
+
+/// One assignment of a quotient by a quotient .., so deep: D has each divisor.
+pub fn quotients_by_quotients(depth: i32) -> Vec<i32> {
+    let mut arena = Arena::default();
+    let mut value = arena.variable(0);
+    for level in 0..depth {
+        let dividend = arena.variable(1 + level % 100);
+        value = arena.two(6, dividend, value);
+    }
+    let statement = arena.assign(0, value);
+    laid_out(arena, statement)
+}
+
+/// Loops whose invariants and variants divide, and no code.
+pub fn dividing_annotations(count: i32) -> Vec<i32> {
+    let mut arena = Arena::default();
+    let mut loops = Vec::new();
+    for variable in 0..count {
+        let guard = comparison(&mut arena, 18, 0, variable);
+        let (zero, value) = (arena.constant(0), quotient(&mut arena, variable, 100));
+        let invariant = arena.two(19, zero, value);
+        let variant = quotient(&mut arena, variable, 101);
+        let note = arena.two(37, invariant, variant);
+        let body = add(&mut arena, variable, -1);
+        loops.push(arena.three(36, guard, note, body));
+    }
+    let statement = in_sequence(&mut arena, loops);
     laid_out(arena, statement)
 }
 

@@ -91,6 +91,7 @@ fn meaning(kind: ConditionKind) -> &'static str {
         ConditionKind::Floor => "where the loop goes on, its variant is not negative",
         ConditionKind::Step => "a pass of the body keeps the invariant and lowers the variant",
         ConditionKind::Main => "the precondition gives what the script needs at its start",
+        ConditionKind::Guard => "where the loop's guard is tested, no divisor in it is zero",
     }
 }
 

@@ -47,7 +47,7 @@ fn the_words_are_those_of_the_second_implementation() {
         }
         compared += 1;
     }
-    assert!(compared >= 30, "{compared} files");
+    assert!(compared >= 40, "{compared} files");
 }
 
 #[test]
@@ -69,8 +69,8 @@ fn the_list_of_examples_names_each() {
     }
 }
 
-/// README.md shows the countdown in full, and what is printed of a text that is
-/// refused.
+/// README.md shows the countdown in full, what is printed of a text that is
+/// refused, and a condition for a guard that divides.
 #[test]
 fn the_readme_shows_examples_as_they_are() {
     let readme = text(&top().join("README.md"));
@@ -79,11 +79,34 @@ fn the_readme_shows_examples_as_they_are() {
         "countdown.script.expected",
         "no-invariant.script.expected",
     ] {
-        let shown = text(&top().join("examples").join(file));
-        let indented = |line: &str| format!("    {line}").trim_end().to_string() + "\n";
-        let shown: String = shown.lines().map(indented).collect();
-        assert!(readme.contains(&shown), "{file}");
+        assert!(readme.contains(&indented(&example(file))), "{file}");
     }
+    let answer = example("pump-stop.script.expected");
+    let guard = answer.split("\n\n").nth(1).unwrap();
+    assert!(guard.starts_with("guard 21: ") && readme.contains(&indented(guard)));
+}
+
+fn example(file: &str) -> String {
+    text(&top().join("examples").join(file))
+}
+
+/// As README.md shows it.
+fn indented(text: &str) -> String {
+    let line = |line: &str| format!("    {line}").trim_end().to_string() + "\n";
+    text.lines().map(line).collect()
+}
+
+/// A loop whose guard divides has one condition more, before its exit.
+#[test]
+fn a_guard_that_divides_has_a_condition() {
+    let script = example("pump-stop.script");
+    let words = vcgen(&["--words", "-"], &script);
+    let smt = vcgen(&["smt", "-"], &script);
+    let shown = "planned 5 144\nguard 21 25 19 1 0 2 1 21 2 1 1 0\nexit 21 25 ";
+    assert!(written(&words).1.starts_with(shown));
+    let shown = "; guard 21\n(set-logic QF_NIA)\n(declare-const v1 Int)\n\
+        (assert (not (=> (<= 0 v1) (distinct v1 0))))\n(check-sat)\n; exit 21\n";
+    assert!(written(&smt).1.starts_with(shown));
 }
 
 #[test]

@@ -4,8 +4,9 @@ use std::collections::BTreeMap;
 use std::fmt;
 use std::path::PathBuf;
 
-use reference::Line;
+use reference::{Line, Verdict};
 
+use crate::divisions::places_of_divisions;
 use crate::inputs::Input;
 use crate::lent::{same, Lent};
 use crate::prng::Prng;
@@ -54,6 +55,22 @@ pub struct Tally {
     pub walk: BTreeMap<u8, u64>,
     pub smt: BTreeMap<u8, u64>,
     pub read_text: BTreeMap<u8, u64>,
+    /// The tables that the check accepts, those of them that divide in code, and
+    /// how many divide in each place.
+    pub accepted: u64,
+    pub dividing: u64,
+    pub divisions: BTreeMap<&'static str, u64>,
+}
+
+impl Tally {
+    fn count_divisions(&mut self, accepted: &[i32]) {
+        let places = places_of_divisions(accepted);
+        self.accepted += 1;
+        self.dividing += u64::from(!places.is_empty());
+        for place in places {
+            *self.divisions.entry(place).or_default() += 1;
+        }
+    }
 }
 
 /// Makes an input of a source of chance.
@@ -147,6 +164,9 @@ fn compare_table(
 ) -> Result<(), String> {
     let expected = Reference.check(words);
     count(&mut tally.check, number_of(expected));
+    if expected == Verdict::Accepted {
+        tally.count_divisions(words);
+    }
     same("check", expected, subject.check(words))?;
 
     let outcome = reference::generate(words, list_len, scratch_len);
@@ -179,10 +199,10 @@ fn compare_table(
     Ok(())
 }
 
-fn number_of(verdict: reference::Verdict) -> u8 {
+fn number_of(verdict: Verdict) -> u8 {
     match verdict {
-        reference::Verdict::Accepted => 0,
-        reference::Verdict::Refused { number, .. } => number,
+        Verdict::Accepted => 0,
+        Verdict::Refused { number, .. } => number,
     }
 }
 

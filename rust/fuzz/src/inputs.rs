@@ -2,9 +2,9 @@
 
 use std::fmt::Write;
 
-use reference::{conditions, list_words, need, script_of, LONGEST_LIST};
+use reference::{check, conditions, list_words, need, script_of, Verdict, LONGEST_LIST};
 
-use crate::limits::{limit_words, list_of_length};
+use crate::limits::{dividing_limit_words, limit_words, list_of_length};
 use crate::mutate::{change_words, list_with_length, made_up_list, random_words, tear, tiny_list};
 use crate::prng::Prng;
 use crate::script_texts::{any_room_for_table, any_script_text};
@@ -42,6 +42,20 @@ impl Input {
             21..=29 => Input::List(any_list(random)),
             30..=31 => Input::Bytes(any_bytes(random)),
             _ => any_text(random),
+        }
+    }
+
+    /// Tables that mostly divide in code, and their lists.
+    pub fn any_dividing(random: &mut Prng) -> Input {
+        let words = match random.below(32) {
+            0 => dividing_limit_words(random),
+            _ => dividing_words(random),
+        };
+        match random.below(32) {
+            0..=27 => table_with_any_lengths(words, random),
+            28..=29 => Input::List(torn_at_times(list_of(&words), random)),
+            30 => any_text_of(list_of(&words), random),
+            _ => Input::Bytes(bytes_of(&words)),
         }
     }
 
@@ -89,6 +103,10 @@ fn spaced<T: std::fmt::Display>(numbers: &[T]) -> String {
 
 fn any_table(random: &mut Prng) -> Input {
     let words = any_words(random);
+    table_with_any_lengths(words, random)
+}
+
+fn table_with_any_lengths(words: Vec<i32>, random: &mut Prng) -> Input {
     let (list_len, scratch_len) = any_lengths(&words, random);
     Input::Table {
         words,
@@ -122,6 +140,16 @@ fn any_words(random: &mut Prng) -> Vec<i32> {
             words
         }
     }
+}
+
+/// A script that divides in code; one in ten has words changed.
+fn dividing_words(random: &mut Prng) -> Vec<i32> {
+    let shape = Shape::any_dividing(random);
+    let mut words = script_words(random, shape);
+    if random.once_in(10) {
+        change_words(&mut words, random);
+    }
+    words
 }
 
 /// Rooms and scratches at, below and above the need.
@@ -167,6 +195,13 @@ fn any_list(random: &mut Prng) -> Vec<i32> {
     list
 }
 
+fn torn_at_times(mut list: Vec<i32>, random: &mut Prng) -> Vec<i32> {
+    for _ in 0..random.below(3) {
+        tear(&mut list, random);
+    }
+    list
+}
+
 fn any_long_list(random: &mut Prng) -> Vec<i32> {
     let any = 5 + random.below(LONGEST_LIST);
     let edge = random.pick(&[LONGEST_LIST - 1, LONGEST_LIST, LONGEST_LIST + 1]);
@@ -179,18 +214,29 @@ fn list_of_generator(random: &mut Prng) -> Vec<i32> {
         rows: 4 + random.below(60),
         ..Shape::any(random)
     };
-    let words = script_words(random, shape);
-    let listed = conditions(&script_of(&words), LONGEST_LIST);
+    list_of(&script_words(random, shape))
+}
+
+/// The list of a table; no words where it is refused or too long.
+fn list_of(words: &[i32]) -> Vec<i32> {
+    if check(words) != Verdict::Accepted {
+        return Vec::new();
+    }
+    let listed = conditions(&script_of(words), LONGEST_LIST);
     listed.map_or(Vec::new(), |conditions| list_words(&conditions))
 }
 
 /// Lists as above and ones full of divisions, whole and torn.
 fn any_text(random: &mut Prng) -> Input {
-    let mut list = match random.below(8) {
+    let list = match random.below(8) {
         0 => any_list(random),
         1 | 2 => list_of_generator(random),
         _ => dividing_list(random),
     };
+    any_text_of(list, random)
+}
+
+fn any_text_of(mut list: Vec<i32>, random: &mut Prng) -> Input {
     if random.once_in(10) {
         tear(&mut list, random);
     }
@@ -214,9 +260,13 @@ fn any_bytes(random: &mut Prng) -> Vec<u8> {
         }
         _ => any_words(random),
     };
-    let mut bytes: Vec<u8> = words.iter().flat_map(|word| word.to_le_bytes()).collect();
+    let mut bytes = bytes_of(&words);
     if random.once_in(4) {
         bytes.resize(bytes.len() + random.below(5), 0);
     }
     bytes
+}
+
+fn bytes_of(words: &[i32]) -> Vec<u8> {
+    words.iter().flat_map(|word| word.to_le_bytes()).collect()
 }

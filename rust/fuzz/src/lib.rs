@@ -8,6 +8,7 @@
 pub mod arena;
 pub mod claims;
 pub mod compare;
+pub mod divisions;
 pub mod inputs;
 pub mod lent;
 pub mod limits;

@@ -7,7 +7,8 @@ use crate::scripts::{ordinary_variables, script_words, Shape};
 
 /// The words of a table at some limit.
 pub fn limit_words(random: &mut Prng) -> Vec<i32> {
-    match random.below(10) {
+    match random.below(12) {
+        10 | 11 => dividing_limit_words(random),
         0 => odd_length(random),
         1 => {
             let rows = random.pick(&[2_046, 2_047, 2_048, 2_049, 2_050]);
@@ -26,6 +27,18 @@ pub fn limit_words(random: &mut Prng) -> Vec<i32> {
         7 => chain_of_branches(random),
         8 => chain_of_variables(random),
         _ => chain_of_loops(random),
+    }
+}
+
+/// The words of a table at some limit that divides in code.
+pub fn dividing_limit_words(random: &mut Prng) -> Vec<i32> {
+    match random.below(4) {
+        0 => {
+            let length = random.pick(&[16_383, 16_384, 16_385, 20_000]);
+            dividing_list_of_length(random, length)
+        }
+        1 => chain_of_dividing_loops(random),
+        _ => deep_division(random),
     }
 }
 
@@ -110,6 +123,102 @@ pub fn list_of_length(random: &mut Prng, length: usize) -> Vec<i32> {
     let pre = nots(&mut arena, pre, (length - 112) % 16);
     let post = nots(&mut arena, post, (length - 112) / 16);
     finish(arena, pre, statement.expect("four ifs"), post, random)
+}
+
+/// The same after a division, which takes six words.
+pub fn dividing_list_of_length(random: &mut Prng, length: usize) -> Vec<i32> {
+    let mut words = list_of_length(random, length - 6);
+    let script = words.split_off(words.len() - 4);
+    let row = words.len() as i32 / 4;
+    let kind = random.pick(&[6, 7]);
+    words.extend([1, 1, 0, 0, 2, 3, 0, 0, kind, row, row + 1, 0]);
+    words.extend([33, 5, row + 2, 0, 34, row + 3, script[2], 0]);
+    words.extend([script[0], script[1], row + 4, script[3]]);
+    words
+}
+
+/// An assigned expression or a guard of 20 to 300 levels around a division: each
+/// has the level below in one of its places, all in the same or each in any.
+fn deep_division(random: &mut Prng) -> Vec<i32> {
+    let mut arena = Arena::default();
+    let depth = random.pick(&[20, 60, 100, 300]);
+    let in_any_place = random.pick(&[false, false, true]);
+    let mut deep = dividing_leaf(&mut arena, random);
+    let mut place = random.below(6);
+    for _ in 0..depth {
+        if in_any_place {
+            place = random.below(6);
+        }
+        let other = arena.variable(random.between(0, 2));
+        let kind = random.pick(&[6, 7]);
+        deep = match place {
+            0 => arena.two(kind, deep, other),
+            1 => arena.two(kind, other, deep),
+            2 => arena.one(8, deep),
+            3 => {
+                let zero = arena.constant(0);
+                let formula = arena.two(20, deep, zero);
+                let second = arena.constant(1);
+                arena.three(10, formula, other, second)
+            }
+            _ => {
+                let (formula, second) = (arena.leaf(16), deep);
+                let (first, second) = if place == 4 {
+                    (second, other)
+                } else {
+                    (other, second)
+                };
+                arena.three(10, formula, first, second)
+            }
+        };
+    }
+    let statement = code_around(&mut arena, deep, random);
+    let (pre, post) = (arena.leaf(16), arena.leaf(16));
+    finish(arena, pre, statement, post, random)
+}
+
+fn dividing_leaf(arena: &mut Arena, random: &mut Prng) -> Node {
+    let (left, right) = (arena.constant(1), arena.variable(random.between(0, 2)));
+    arena.two(random.pick(&[6, 7]), left, right)
+}
+
+/// A statement with the expression in its code.
+fn code_around(arena: &mut Arena, expression: Node, random: &mut Prng) -> Node {
+    if random.once_in(2) {
+        return arena.assign(random.between(0, 2), expression);
+    }
+    let zero = arena.constant(0);
+    let guard = arena.two(21, expression, zero);
+    let body = arena.leaf(32);
+    if random.once_in(2) {
+        let other = arena.leaf(32);
+        return arena.three(35, guard, body, other);
+    }
+    let (invariant, variant) = (arena.leaf(16), arena.variable(3));
+    let note = arena.two(37, invariant, variant);
+    arena.three(36, guard, note, body)
+}
+
+/// Loops and other statements on end, or loops in one another, whose guards
+/// divide.
+fn chain_of_dividing_loops(random: &mut Prng) -> Vec<i32> {
+    let mut arena = Arena::default();
+    let mut statements = Vec::new();
+    for _ in 0..random.pick(&[3, 20, 100]) {
+        let divided = dividing_leaf(&mut arena, random);
+        statements.push(code_around(&mut arena, divided, random));
+    }
+    let leaning_left = random.once_in(2);
+    let mut statement = sequence(&mut arena, statements, leaning_left);
+    for _ in 0..random.below(7) {
+        let (left, right) = (dividing_leaf(&mut arena, random), arena.constant(0));
+        let guard = arena.two(18, left, right);
+        let (invariant, variant) = (arena.leaf(16), arena.variable(3));
+        let note = arena.two(37, invariant, variant);
+        statement = arena.three(36, guard, note, statement);
+    }
+    let (pre, post) = (arena.leaf(16), arena.leaf(17));
+    finish(arena, pre, statement, post, random)
 }
 
 /// An assigned expression or a postcondition as deep as the rows allow.

@@ -96,7 +96,7 @@ pub fn made_up_list(random: &mut Prng, wrong: usize) -> Vec<i32> {
         let any_row = random.between(0, 2_047);
         let row = random.pick(&[0, 2_047, any_row]);
         words.extend(formula);
-        words.extend([random.between(1, 4), row, length as i32]);
+        words.extend([random.between(1, 5), row, length as i32]);
         count += 1;
     }
     words.push(count as i32);
@@ -106,7 +106,7 @@ pub fn made_up_list(random: &mut Prng, wrong: usize) -> Vec<i32> {
 /// A few words, hardly ever a list.
 pub fn tiny_list(random: &mut Prng) -> Vec<i32> {
     let length = random.below(8);
-    let word = |random: &mut Prng| random.pick(&[-1, 0, 1, 1, 2, 3, 4, 16, 16, 17, 22]);
+    let word = |random: &mut Prng| random.pick(&[-1, 0, 1, 1, 2, 3, 4, 5, 6, 16, 16, 17, 22]);
     (0..length).map(|_| word(random)).collect()
 }
 
@@ -133,7 +133,7 @@ pub fn list_with_length(random: &mut Prng, length: usize) -> Vec<i32> {
         words.extend(std::iter::repeat_n(22, formula - 1));
         words.extend([
             16,
-            random.between(1, 4),
+            random.between(1, 5),
             random.between(0, 2_047),
             formula as i32,
         ]);
@@ -189,8 +189,8 @@ fn tear_trailer(list: &mut [i32], random: &mut Prng) {
     let field = random.below(3);
     let change = random.pick(&[-1, 1]);
     list[trailer + field] = match (field, random.below(3)) {
-        (0, 0) => random.pick(&[0, 5, -1, i32::MAX]),
-        (0, _) => random.between(1, 4),
+        (0, 0) => random.pick(&[0, 6, -1, i32::MAX]),
+        (0, _) => random.between(1, 5),
         (1, 0) => random.pick(&[-1, 2_048, i32::MIN]),
         (1, _) => random.between(0, 2_047),
         (_, 0) => random.pick(&[0, -1, i32::MIN, i32::MAX, list[trailer + 2] + 4]),

@@ -6,7 +6,7 @@ use crate::arena::Order;
 use crate::mutate_text::{bracket, change, change_bytes, change_number, change_operator, put_mark};
 use crate::nests::NESTS;
 use crate::prng::Prng;
-use crate::scripts::{script, Shape, Split};
+use crate::scripts::{script, Divisions, Shape, Split};
 use crate::tokens::{spaced, split, NO_TOKENS, TOKENS};
 
 /// The most words that a table has.
@@ -117,6 +117,7 @@ pub fn script_text(random: &mut Prng) -> String {
         nesting: random.pick(&[0, 1, 2, 3, 12]),
         split: random.pick(&[Split::Anywhere, Split::FirstSmall, Split::SecondSmall]),
         faults: 0,
+        divisions: Divisions::Some,
     };
     let brackets = match random.below(4) {
         0 => Brackets::Full,

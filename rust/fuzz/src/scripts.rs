@@ -26,6 +26,17 @@ pub struct Shape {
     pub split: Split,
     /// One place in so many is faulty; 0 for none.
     pub faults: usize,
+    /// How much is divided in code.
+    pub divisions: Divisions,
+}
+
+#[derive(Clone, Copy, Debug, PartialEq, Eq)]
+pub enum Divisions {
+    None,
+    /// As often as other operations.
+    Some,
+    /// Mostly, with larger guards and more chooses.
+    Many,
 }
 
 #[derive(Clone, Copy, Debug, PartialEq, Eq)]
@@ -49,6 +60,26 @@ impl Shape {
             nesting: random.pick(&[0, 1, 2, 3, 8, 8]),
             split: random.pick(&[Split::Anywhere, Split::FirstSmall, Split::SecondSmall]),
             faults: 0,
+            divisions: random.pick(&[
+                Divisions::None,
+                Divisions::Some,
+                Divisions::Some,
+                Divisions::Many,
+            ]),
+        }
+    }
+
+    /// Of a script that mostly divides in code, with a list that is not too long.
+    pub fn any_dividing(random: &mut Prng) -> Shape {
+        let rows = match random.below(20) {
+            0..=15 => 8 + random.below(60),
+            16..=18 => 40 + random.below(200),
+            _ => 200 + random.below(800),
+        };
+        Shape {
+            rows,
+            divisions: Divisions::Many,
+            ..Shape::any(random)
         }
     }
 
@@ -266,7 +297,7 @@ impl Writer<'_> {
     }
 
     fn branch(&mut self, size: usize, nesting: usize) -> Node {
-        let guard_size = (size / 6).clamp(1, 8);
+        let guard_size = self.guard_size(size).unwrap_or((size / 6).clamp(1, 8));
         let guard = self.formula(guard_size, Place::Code);
         let (then, otherwise) = self.split(size.saturating_sub(1 + guard_size));
         let then = self.statement(then, nesting + 1);
@@ -277,43 +308,65 @@ impl Writer<'_> {
     fn while_loop(&mut self, size: usize, nesting: usize) -> Node {
         let the_loop = self.arena.reserve();
         let part = (size / 8).clamp(1, 8);
-        let guard = self.formula(part, Place::Code);
+        let guard_size = self.guard_size(size).unwrap_or(part);
+        let guard = self.formula(guard_size, Place::Code);
         let invariant = self.formula(part, Place::Annotation);
         let variant = self.expression(part, Place::Annotation);
         let note = self.arena.two(37, invariant, variant);
         self.bodies.push(the_loop);
-        let body = self.statement(size.saturating_sub(2 + 3 * part).max(1), nesting + 1);
+        let body = self.statement(
+            size.saturating_sub(2 + guard_size + 2 * part).max(1),
+            nesting + 1,
+        );
         self.bodies.pop();
         self.arena
             .set(the_loop, 36, [guard, note, body].map(Field::Link));
         the_loop
     }
 
+    /// The size of a guard that is to divide.
+    fn guard_size(&self, size: usize) -> Option<usize> {
+        let divides = self.shape.divisions == Divisions::Many;
+        divides.then(|| (size / 4).clamp(4, 16))
+    }
+
+    fn operations(&self, place: Place) -> &'static [i32] {
+        match (place, self.shape.divisions) {
+            (Place::Code, Divisions::None) => &[3, 4, 5],
+            (Place::Code, Divisions::Many) => &[3, 4, 5, 6, 6, 6, 7, 7, 7],
+            _ => &[3, 4, 5, 6, 7],
+        }
+    }
+
     fn expression(&mut self, size: usize, place: Place) -> Node {
         if size < 2 {
             return self.leaf_expression(place);
         }
+        let chooses_more = place == Place::Code && self.shape.divisions == Divisions::Many;
         match self.random.below(12) {
+            1..=3 if size >= 4 && chooses_more => self.choose(size, place),
             0..=2 => {
                 let part = self.expression(size - 1, place);
                 self.arena.one(8, part)
             }
-            3 if size >= 4 => {
-                let (chooser, rest) = self.split(size - 1);
-                let (first, second) = self.split(rest);
-                let chooser = self.formula(chooser, place);
-                let first = self.expression(first, place);
-                let second = self.expression(second, place);
-                self.arena.three(10, chooser, first, second)
-            }
+            3 if size >= 4 => self.choose(size, place),
             _ => {
                 let (left, right) = self.split(size - 1);
                 let left = self.expression(left, place);
                 let right = self.expression(right, place);
-                let kind = self.random.pick(&[3, 4, 5, 6, 7]);
+                let kind = self.random.pick(self.operations(place));
                 self.arena.two(kind, left, right)
             }
         }
+    }
+
+    fn choose(&mut self, size: usize, place: Place) -> Node {
+        let (chooser, rest) = self.split(size - 1);
+        let (first, second) = self.split(rest);
+        let chooser = self.formula(chooser, place);
+        let first = self.expression(first, place);
+        let second = self.expression(second, place);
+        self.arena.three(10, chooser, first, second)
     }
 
     fn formula(&mut self, size: usize, place: Place) -> Node {

@@ -1,5 +1,7 @@
 //! Scripts whose conditions hold by construction, with random parameters.
 
+mod dividing;
+
 use std::collections::BTreeMap;
 
 use reference::{
@@ -14,6 +16,11 @@ use crate::prng::Prng;
 pub struct Template {
     pub name: &'static str,
     pub script: Script,
+}
+
+/// One of the templates that divide in code.
+pub fn any_dividing_template(random: &mut Prng) -> Template {
+    random.pick(&dividing::DIVIDING)(random)
 }
 
 /// One template, its parameters chosen by chance.
@@ -32,6 +39,9 @@ pub fn any_template(random: &mut Prng) -> Template {
         marks_in_assertions,
         two_loops,
         halving,
+        any_dividing_template,
+        any_dividing_template,
+        any_dividing_template,
     ];
     random.pick(&templates)(random)
 }

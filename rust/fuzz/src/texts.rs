@@ -60,7 +60,7 @@ pub fn dividing_list(random: &mut Prng) -> Vec<i32> {
         write_formula(depth, random, &mut words);
         let length = words.len() - start;
         words.extend([
-            random.between(1, 4),
+            random.between(1, 5),
             random.between(0, 2_047),
             length as i32,
         ]);

@@ -1,5 +1,6 @@
 //! The harness tried on the reference itself and on broken subjects.
 
+mod misdivided;
 mod misnumbered;
 mod misread;
 mod misspelt;
@@ -9,6 +10,7 @@ use fuzz::scripts::{script_words, Shape};
 use fuzz::texts::dividing_list;
 use fuzz::{compare, compare_counting, limits, seed_from_environment};
 use fuzz::{Answer, Input, Making, Prng, Reference, Subject, Tally};
+use misdivided::{DivisionFault, Misdivided, DIVISION_FAULTS};
 use misread::{Misread, ReadFault, READ_FAULTS};
 use misspelt::{Misspelt, TextFault, TEXT_FAULTS};
 use reference::{check, lines, need, Line, Variable, Verdict};
@@ -57,6 +59,10 @@ fn limits_are_where_they_are_said_to_be() {
         }
         let words = limits::list_of_length(&mut random, 16_385);
         assert_eq!(need(&words).unwrap().words, None);
+        for (length, listed) in [(500, Some(500)), (16_384, Some(16_384)), (16_385, None)] {
+            let words = limits::dividing_list_of_length(&mut random, length);
+            assert_eq!(need(&words).unwrap().words, listed);
+        }
         for nesting in 0..=8 {
             let words = limits::nested(&mut random, nesting);
             assert_eq!(need(&words).unwrap().nesting, nesting);
@@ -343,11 +349,29 @@ fn every_mistake_about_numbers_is_found() {
         &mut { misnumbered::FAULTLESS },
         Input::any,
         seed,
-        CASES / 10,
+        MOST_CASES,
     );
     assert!(faultless.is_ok(), "{}", faultless.unwrap_err());
     for mut misnumbered in misnumbered::all() {
         assert_found(misnumbered.to_string(), &mut misnumbered, Input::any, seed);
+    }
+}
+
+#[test]
+fn every_mistake_about_divisions_is_found() {
+    // Another seed: two tests are not to write the same files.
+    let seed = seed_from_environment().wrapping_add(4);
+    let faultless = compare(
+        &mut Misdivided(DivisionFault::Nothing),
+        Input::any_dividing,
+        seed,
+        MOST_CASES,
+    );
+    assert!(faultless.is_ok(), "{}", faultless.unwrap_err());
+    for fault in DIVISION_FAULTS {
+        let mut misdivided = Misdivided(fault);
+        let fault = format!("{fault:?}");
+        assert_found(fault, &mut misdivided, Input::any_dividing, seed);
     }
 }
 
@@ -359,7 +383,7 @@ fn every_misspelt_text_is_found() {
         &mut Misspelt(TextFault::Nothing),
         Input::any,
         seed,
-        CASES / 10,
+        MOST_CASES,
     );
     assert!(faultless.is_ok(), "{}", faultless.unwrap_err());
     for fault in TEXT_FAULTS {
@@ -375,7 +399,7 @@ fn every_misread_text_is_found() {
         &mut Misread(ReadFault::Nothing),
         Input::any_script,
         seed,
-        CASES / 10,
+        MOST_CASES,
     );
     assert!(faultless.is_ok(), "{}", faultless.unwrap_err());
     for fault in READ_FAULTS {

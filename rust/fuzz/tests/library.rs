@@ -25,6 +25,22 @@ fn not_one_difference() {
     assert!(tally.smt.keys().copied().eq([0, 20, 21, 30]));
 }
 
+/// Tables that mostly divide in code.
+const DIVIDING_CASES: u64 = 180_000;
+
+#[test]
+fn not_one_difference_where_code_divides() {
+    let seed = seed_from_environment();
+    let mut tally = Tally::default();
+    let making = Input::any_dividing;
+    let result = compare_counting(&mut Proved, making, seed, DIVIDING_CASES, &mut tally);
+    tell(format!("{DIVIDING_CASES} cases: {tally:?}"));
+    assert!(result.is_ok(), "{}", result.unwrap_err());
+    assert!(tally.dividing >= 100_000);
+    assert_eq!(tally.divisions.len(), 9);
+    assert!(tally.divisions.values().all(|tables| *tables >= 5_000));
+}
+
 fn compare_all(inputs: impl Iterator<Item = Input>) {
     let mut tally = Tally::default();
     let mut count = 0;
@@ -37,16 +53,32 @@ fn compare_all(inputs: impl Iterator<Item = Input>) {
     tell(format!("{count} inputs: {tally:?}"));
 }
 
+/// It divides in what is assigned, in the guards of a branch and of a loop, and in
+/// each of its annotations.
+fn dividing_table() -> Vec<i32> {
+    let text = "pre 1 div v0 = 1; v1 := v1 - 1;
+        while 0 < v0 div v1 and not when(v0 = 1, 1 mod v2, v2) = 0
+        keep v1 div 0 = 0 fall v0 mod v1 do
+            if (v0 div v1) mod (v1 div v2) = 0 then v0 := v0 div v0 else skip end
+        end; post 2 mod v0 = 0";
+    leqwarti::read_text(text.as_bytes()).expect("a script")
+}
+
 #[test]
 fn every_room_up_to_the_need_and_scratches_around_it() {
-    let need = need(&EXAMPLE_A).expect("an accepted table");
+    every_room_of(&EXAMPLE_A);
+    every_room_of(&dividing_table());
+}
+
+fn every_room_of(table: &[i32]) {
+    let need = need(table).expect("an accepted table");
     let words = need.words.expect("a short list");
     let rooms = (0..words + 3).chain([LONGEST_LIST - 1, LONGEST_LIST, LONGEST_LIST + 1]);
     compare_all(rooms.flat_map(|list_len| {
         let enough = need.scratch(list_len.min(LONGEST_LIST));
         let scratches = [0, enough / 2, enough.saturating_sub(1), enough, enough + 1];
         scratches.map(|scratch_len| Input::Table {
-            words: EXAMPLE_A.to_vec(),
+            words: table.to_vec(),
             list_len,
             scratch_len,
         })
@@ -90,6 +122,18 @@ fn every_small_change(words: Vec<i32>) -> impl Iterator<Item = Vec<i32>> {
 #[test]
 fn every_small_tear_of_a_list() {
     let list = leqwarti::plan(&EXAMPLE_A).expect("a plan").words().to_vec();
+    compare_all(every_small_change(list).map(Input::List));
+}
+
+/// A guard before an exit, and as if no loop were there.
+#[test]
+fn every_small_tear_of_a_list_with_a_guard() {
+    let guard = [
+        25, 16, 23, 21, 2, 0, 1, 0, 21, 6, 1, 1, 2, 0, 1, 0, 5, 9, 16,
+    ];
+    let exit = [25, 16, 17, 1, 9, 3];
+    let list = [&guard[..], &exit, &[2]].concat();
+    assert_eq!(lines(&list).expect("a list").len(), 2);
     compare_all(every_small_change(list).map(Input::List));
 }
 
@@ -167,6 +211,17 @@ fn every_small_change_of_a_table() {
             words,
             list_len: 120,
             scratch_len: 360,
+        }),
+    );
+}
+
+#[test]
+fn every_small_change_of_a_table_that_divides() {
+    compare_all(
+        every_small_change(dividing_table()).map(|words| Input::Table {
+            words,
+            list_len: 500,
+            scratch_len: 2_000,
         }),
     );
 }

@@ -4,13 +4,16 @@
 use std::collections::BTreeMap;
 
 use fuzz::lent::{same, Lent};
-use fuzz::{seed_from_environment, tell, Input, Prng};
+use fuzz::{seed_from_environment, tell, Input, Making, Prng};
 use leqwarti::entries;
 
 /// About 21 in 48 are tables, 9 are lists, and 16 are for the text of a condition.
 const CASES: u64 = 150_000;
 
-/// Beside these, texts of scripts.
+/// Beside these, tables that mostly divide in code, and their lists.
+const DIVIDING_CASES: u64 = 100_000;
+
+/// And texts of scripts.
 const SCRIPTS: u64 = 100_000;
 
 /// How often each number was given.
@@ -156,10 +159,35 @@ fn not_one_difference_in_scripts() {
 
 #[test]
 fn not_one_difference() {
+    let Tallies {
+        tables,
+        lists,
+        texts,
+    } = compare_cases(Input::any, CASES);
+    assert!(tables.values().sum::<u64>() >= 50_000);
+    assert!(tables.keys().copied().eq(0..=12));
+    assert!(lists.keys().copied().eq([0, 20, 21]));
+    assert!(texts.keys().copied().eq([0, 20, 21, 30]));
+}
+
+#[test]
+fn not_one_difference_where_code_divides() {
+    let tallies = compare_cases(Input::any_dividing, DIVIDING_CASES);
+    assert!(tallies.tables[&0] >= 30_000 && tallies.tables[&12] >= 10_000);
+}
+
+/// What the library gave for tables, lists and texts.
+struct Tallies {
+    tables: Tally,
+    lists: Tally,
+    texts: Tally,
+}
+
+fn compare_cases(making: Making, cases: u64) -> Tallies {
     let seed = seed_from_environment();
     let (mut tables, mut lists, mut texts) = (Tally::new(), Tally::new(), Tally::new());
-    for case in 0..CASES {
-        let input = Input::any(&mut Prng::for_case(seed, case));
+    for case in 0..cases {
+        let input = making(&mut Prng::for_case(seed, case));
         let result = match &input {
             Input::Table {
                 words,
@@ -180,8 +208,9 @@ fn not_one_difference() {
     tell(format!(
         "tables {tables:?}, lists {lists:?}, texts {texts:?}"
     ));
-    assert!(tables.values().sum::<u64>() >= 50_000);
-    assert!(tables.keys().copied().eq(0..=12));
-    assert!(lists.keys().copied().eq([0, 20, 21]));
-    assert!(texts.keys().copied().eq([0, 20, 21, 30]));
+    Tallies {
+        tables,
+        lists,
+        texts,
+    }
 }

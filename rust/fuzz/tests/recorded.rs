@@ -18,14 +18,24 @@
 //! 9, and these are split: inputs are drawn until so many that hold none are there
 //! as the group wants, and the others have a digest of their own. That one was
 //! recorded with P2, and so was the digest of group 11: 5,000 inputs beside the
-//! 210,000 that hold such numbers in plenty. Every other constant is of the
-//! library from before P2, also that of group 5, where some inputs hold such
-//! numbers and are refused as they were.
+//! 210,000 that hold such numbers in plenty.
+//!
+//! P5 made a div or mod in code add to conditions, and the list reader take the
+//! condition guard. It may have changed the answers only of tables where an
+//! assigned expression or a guard divides, and of words in which a formula stands
+//! before a trailer of kind 5. It changed some in all groups but 5, 6 and 8, and
+//! these are split too: such inputs have a digest recorded with P5, and so has
+//! group 17: 5,000 inputs more that divide in plenty, with lists that have such
+//! trailers. The digests of all other inputs are of the library from before P5;
+//! that one gave the digests from before P2 on every whole group.
 
 mod digest;
 mod frozen;
 
+use std::collections::BTreeMap;
+
 use digest::{compare, expect, junk, Digest};
+use frozen::divisions::{dividing_script, list_has_guard, put_kinds, table_divides_in_code};
 use frozen::limits::script_at_a_limit;
 use frozen::lists::{few_words, list, tear};
 use frozen::numbers::{list_has_new_number, put_at_edges, renumbered_script, table_has_new_number};
@@ -33,46 +43,75 @@ use frozen::tables::{altered_script, faulty_script, random_rows, script, Script}
 use frozen::Chance;
 use leqwarti::{entries, Record, LONGEST_LIST};
 
-/// The digests of a split group: of the inputs that hold none of the variable
-/// numbers that P2 made ordinary, and of the others.
+/// The request that may have changed the answer of an input last.
+#[derive(Clone, Copy, Debug, PartialEq, Eq, PartialOrd, Ord)]
+enum Since {
+    BeforeP2,
+    P2,
+    P5,
+}
+
+use Since::{BeforeP2, P2, P5};
+
+/// Of an input that P5 may have changed, or else another request.
+fn since(p5: bool, otherwise: Since) -> Since {
+    if p5 {
+        P5
+    } else {
+        otherwise
+    }
+}
+
+/// The digests of a split group.
+#[derive(Default)]
 struct Digests {
-    from_before_p2: Digest,
-    since_p2: Digest,
+    of: BTreeMap<Since, Digest>,
+    /// The inputs that the group counts.
+    counted: u64,
 }
 
 impl Digests {
-    fn of_input(&mut self, has_new_number: bool) -> &mut Digest {
-        let digest = if has_new_number {
-            &mut self.since_p2
-        } else {
-            &mut self.from_before_p2
-        };
+    fn of_input(&mut self, since: Since) -> &mut Digest {
+        self.counted += 1;
+        self.of_input_beside(since)
+    }
+
+    /// Of an input that the group does not count.
+    fn of_input_beside(&mut self, since: Since) -> &mut Digest {
+        let digest = self.of.entry(since).or_insert_with(Digest::new);
         digest.inputs += 1;
         digest
     }
+
+    /// Of an input that is counted unless it holds a number that P2 made ordinary.
+    fn of_input_with(&mut self, has_new_number: bool, changed_by_p5: bool) -> &mut Digest {
+        if has_new_number {
+            self.of_input_beside(since(changed_by_p5, P2))
+        } else {
+            self.of_input(since(changed_by_p5, BeforeP2))
+        }
+    }
 }
 
-/// Runs inputs of a group until so many hold none of the numbers that P2 made
-/// ordinary, and compares the two digests with those recorded: with the library
-/// from before P2, and since.
-fn compare_split(group: u64, inputs: u64, recorded: [u64; 2], run: fn(&mut Chance, &mut Digests)) {
-    let mut digests = Digests {
-        from_before_p2: Digest::new(),
-        since_p2: Digest::new(),
-    };
+/// Runs inputs of a group until so many are counted, and compares each digest with
+/// the one recorded.
+fn compare_split(
+    group: u64,
+    inputs: u64,
+    recorded: &[(Since, u64)],
+    run: fn(&mut Chance, &mut Digests),
+) {
+    let mut digests = Digests::default();
     let mut drawn = 0;
-    while digests.from_before_p2.inputs < inputs {
+    while digests.counted < inputs {
         run(&mut Chance::of_input(group, drawn), &mut digests);
         drawn += 1;
     }
-    let [from_before_p2, since_p2] = recorded;
-    let name = |of| format!("group {group} {of}");
-    expect(
-        &name("from before P2"),
-        from_before_p2,
-        digests.from_before_p2,
-    );
-    expect(&name("since P2"), since_p2, digests.since_p2);
+    assert_eq!(digests.of.len(), recorded.len(), "group {group}");
+    for (&(since, recorded), (found, digest)) in recorded.iter().zip(digests.of) {
+        assert_eq!(since, found, "group {group}");
+        expect(&format!("group {group}, {since:?}"), recorded, digest);
+    }
 }
 
 fn digest_table(words: &[i32], list_len: usize, scratch_len: usize, digest: &mut Digest) {
@@ -212,33 +251,55 @@ fn digest_text(words: &[i32], chance: &mut Chance, digest: &mut Digest) {
 
 #[test]
 fn tables_accepted() {
-    compare(1, 50_000, 0x124F_E570_025F_2DF1, |chance, digest| {
-        digest_at_the_need(&script(chance), digest);
+    const RECORDED: [(Since, u64); 2] = [
+        (BeforeP2, 0x2A5C_FA4F_32A3_07FF),
+        (P5, 0x23AC_AD3E_3C49_EE85),
+    ];
+    compare_split(1, 50_000, &RECORDED, |chance, digests| {
+        let script = script(chance);
+        let digest = digests.of_input(since(table_divides_in_code(&script.words), BeforeP2));
+        digest_at_the_need(&script, digest);
     });
 }
 
 #[test]
 fn tables_with_rooms_around_the_need() {
-    compare(2, 30_000, 0x4C99_CDAB_660F_850B, |chance, digest| {
+    const RECORDED: [(Since, u64); 2] = [
+        (BeforeP2, 0x972D_FD5D_7849_34BF),
+        (P5, 0x671F_4D27_08EE_22AD),
+    ];
+    compare_split(2, 30_000, &RECORDED, |chance, digests| {
         let script = script(chance);
+        let digest = digests.of_input(since(table_divides_in_code(&script.words), BeforeP2));
         digest_around_the_need(&script, chance, digest);
     });
 }
 
 #[test]
 fn tables_altered() {
-    const RECORDED: [u64; 2] = [0xF5D9_0313_BFD6_D064, 0xFC51_7DA0_B842_25EC];
-    compare_split(3, 50_000, RECORDED, |chance, digests| {
+    const RECORDED: [(Since, u64); 3] = [
+        (BeforeP2, 0xDEC2_A706_D8D6_92F1),
+        (P2, 0x6B0E_F023_2009_57DD),
+        (P5, 0xFB28_EAE8_6D22_CD3D),
+    ];
+    compare_split(3, 50_000, &RECORDED, |chance, digests| {
         let script = altered_script(chance);
-        let digest = digests.of_input(table_has_new_number(&script.words));
+        let has_new_number = table_has_new_number(&script.words);
+        let divides = table_divides_in_code(&script.words);
+        let digest = digests.of_input_with(has_new_number, divides);
         digest_at_the_need(&script, digest);
     });
 }
 
 #[test]
 fn tables_with_names_or_nesting_out_of_place() {
-    compare(4, 20_000, 0xCAB0_F20F_45DE_48A9, |chance, digest| {
+    const RECORDED: [(Since, u64); 2] = [
+        (BeforeP2, 0xCAF2_9476_3A6F_EFEB),
+        (P5, 0xABD0_A6AA_01F3_9ABD),
+    ];
+    compare_split(4, 20_000, &RECORDED, |chance, digests| {
         let script = faulty_script(chance);
+        let digest = digests.of_input(since(table_divides_in_code(&script.words), BeforeP2));
         digest_around_the_need(&script, chance, digest);
     });
 }
@@ -260,8 +321,13 @@ fn tables_at_limits() {
 
 #[test]
 fn lists_of_the_generator() {
-    compare(7, 9_000, 0x83B1_8392_8125_007E, |chance, digest| {
+    const RECORDED: [(Since, u64); 2] = [
+        (BeforeP2, 0x6EA7_614C_9A91_4004),
+        (P5, 0xC1ED_D968_6707_E613),
+    ];
+    compare_split(7, 9_000, &RECORDED, |chance, digests| {
         let script = script(chance);
+        let digest = digests.of_input(since(table_divides_in_code(&script.words), BeforeP2));
         if let Ok(plan) = leqwarti::plan(&script.words) {
             digest_list(plan.words(), chance, digest);
         }
@@ -278,8 +344,12 @@ fn lists_made_up() {
 
 #[test]
 fn lists_torn() {
-    const RECORDED: [u64; 2] = [0x3607_6BC7_344F_9735, 0xCF06_00FB_E110_A018];
-    compare_split(9, 10_000, RECORDED, |chance, digests| {
+    const RECORDED: [(Since, u64); 3] = [
+        (BeforeP2, 0xA49E_80E4_9F8F_4EC9),
+        (P2, 0xDC4C_982A_EDA7_6919),
+        (P5, 0x83EF_FEDE_F267_CDC2),
+    ];
+    compare_split(9, 10_000, &RECORDED, |chance, digests| {
         let mut words = match chance.below(4) {
             0 => few_words(chance),
             _ => list(chance),
@@ -287,40 +357,70 @@ fn lists_torn() {
         for _ in 0..1 + chance.below(2) {
             tear(&mut words, chance);
         }
-        let digest = digests.of_input(list_has_new_number(&words));
+        let has_new_number = list_has_new_number(&words);
+        let digest = digests.of_input_with(has_new_number, list_has_guard(&words));
         digest_list(&words, chance, digest);
     });
 }
 
 #[test]
 fn texts_for_solvers() {
-    compare(10, 10_000, 0xA3B6_A87F_CF78_1FCB, |chance, digest| {
+    const RECORDED: [(Since, u64); 2] = [
+        (BeforeP2, 0x5B06_7BCA_EAFA_457F),
+        (P5, 0x972B_5D78_D270_3655),
+    ];
+    compare_split(10, 10_000, &RECORDED, |chance, digests| {
         let mut words = list(chance);
         if chance.once_in(8) {
             tear(&mut words, chance);
         }
+        let digest = digests.of_input(since(list_has_guard(&words), BeforeP2));
         digest_text(&words, chance, digest);
     });
+}
+
+/// A script, and its list and texts with some words changed.
+fn digest_all(
+    script: &Script,
+    chance: &mut Chance,
+    digest: &mut Digest,
+    change: fn(&mut [i32], &mut Chance),
+) {
+    digest_at_the_need(script, digest);
+    if let Ok(plan) = leqwarti::plan(&script.words) {
+        let mut words = plan.words().to_vec();
+        if chance.once_in(4) {
+            change(&mut words, chance);
+        }
+        digest_list(&words, chance, digest);
+        digest_text(&words, chance, digest);
+    }
 }
 
 /// Scripts with the numbers that P2 made ordinary, and their lists and texts;
 /// one in four has numbers at the edges of the ranges too.
 #[test]
 fn numbers_that_p2_made_ordinary() {
-    compare(11, 5_000, 0x3867_D288_33CA_E5E2, |chance, digest| {
+    const RECORDED: [(Since, u64); 2] = [(P2, 0x7A88_0440_38BA_C25B), (P5, 0x4048_AE1D_0E7A_47BD)];
+    compare_split(11, 5_000, &RECORDED, |chance, digests| {
         let mut script = renumbered_script(chance);
         if chance.once_in(4) {
             put_at_edges(&mut script.words, 4, &[2, 33], chance);
         }
-        digest_at_the_need(&script, digest);
-        if let Ok(plan) = leqwarti::plan(&script.words) {
-            let mut words = plan.words().to_vec();
-            if chance.once_in(4) {
-                put_at_edges(&mut words, 1, &[2], chance);
-            }
-            digest_list(&words, chance, digest);
-            digest_text(&words, chance, digest);
-        }
+        let digest = digests.of_input(since(table_divides_in_code(&script.words), P2));
+        digest_all(&script, chance, digest, |words, chance| {
+            put_at_edges(words, 1, &[2], chance);
+        });
+    });
+}
+
+/// Scripts that divide, and their lists and texts; one list in four has other
+/// kinds in its trailers.
+#[test]
+fn divisions_in_code() {
+    compare(17, 5_000, 0xA4C1_8AC6_4D8E_EEE5, |chance, digest| {
+        let script = dividing_script(chance);
+        digest_all(&script, chance, digest, put_kinds);
     });
 }
 
@@ -348,5 +448,49 @@ fn a_number_is_new_in_a_whole_formula_with_its_trailer() {
         &[20, 2, 300, 16, 4, 0, 4, 1],
     ] {
         assert!(!list_has_new_number(words), "{words:?}");
+    }
+}
+
+#[test]
+fn a_guard_is_a_whole_formula_with_its_trailer() {
+    for words in [
+        &[16, 5, 0, 1, 1][..],
+        &[16, 5, 0, 1],
+        &[20, 2, 300, 1, 0, 5, 0, 5, 1],
+        &[9, 9, 22, 17, 5, 2_047, 2, 0],
+        &[16, 5, 0, 1, 17, 4, 0, 1, 2],
+    ] {
+        assert!(list_has_guard(words), "{words:?}");
+    }
+    for words in [
+        &[][..],
+        &[5, 0, 0],
+        &[16, 4, 0, 1, 1],
+        &[16, 5, 2_048, 1, 1],
+        &[16, 5, 0, 2, 1],
+        &[20, 2, 1_024, 1, 0, 5, 0, 5, 1],
+        &[1, 5, 5, 0, 2, 1],
+    ] {
+        assert!(!list_has_guard(words), "{words:?}");
+    }
+}
+
+#[test]
+fn a_table_divides_in_code_where_a_guard_or_an_assigned_expression_does() {
+    let division = [1, 1, 0, 0, 2, 0, 0, 0, 6, 0, 1, 0, 8, 2, 0, 0, 20, 3, 0, 0];
+    for (row, divides) in [
+        ([33, 0, 3, 0], true),
+        ([33, 0, 0, 0], false),
+        ([33, 3, 1, 0], false),
+        ([35, 4, 0, 0], true),
+        ([36, 4, 0, 0], true),
+        ([35, 0, 4, 4], false),
+        ([38, 4, 0, 0], false),
+        ([37, 4, 3, 0], false),
+        ([48, 4, 0, 4], false),
+        ([33, 0, 5, 0], false),
+    ] {
+        let words = [&division[..], &row].concat();
+        assert_eq!(table_divides_in_code(&words), divides, "{row:?}");
     }
 }

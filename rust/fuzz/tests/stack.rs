@@ -216,7 +216,7 @@ impl Input {
     }
 }
 
-/// The generator's number, from code that does not nest.
+/// The generator's number, from code that nests only where it writes D.
 fn number_by_peer(table: &[i32]) -> usize {
     let (mut list, mut scratch) = buffers();
     peer::generate(table, &mut list, &mut scratch).number

@@ -3,7 +3,7 @@
 use crate::entries::{self, Line};
 use crate::{index_word, Formula, Refusal};
 
-/// Which condition of Hoare's rules it is.
+/// Which of the conditions it is.
 #[derive(Clone, Copy, Debug, PartialEq, Eq, Hash)]
 #[repr(u8)]
 pub enum ConditionKind {
@@ -15,6 +15,20 @@ pub enum ConditionKind {
     Step = 3,
     /// The precondition implies what must hold before the script's statement.
     Main = 4,
+    /// The invariant implies that the guard works out no division by zero. Only a
+    /// loop whose guard divides has it, before its exit. What assignments and
+    /// branches divide by is part of what must hold before them.
+    ///
+    /// ```
+    /// use leqwarti::{ConditionKind, Plan};
+    ///
+    /// let plan = Plan::read(vec![25, 18, 1, 0, 2, 1, 21, 2, 1, 1, 0, 5, 9, 11, 1])?;
+    /// let guard = plan.conditions().next().unwrap();
+    /// assert_eq!((guard.kind, guard.row), (ConditionKind::Guard, 9));
+    /// assert_eq!(guard.formula.to_string(), "(0 < v1) implies (v1 != 0)");
+    /// # Ok::<(), leqwarti::Refusal>(())
+    /// ```
+    Guard = 5,
 }
 
 impl ConditionKind {
@@ -25,6 +39,7 @@ impl ConditionKind {
             ConditionKind::Floor => "floor",
             ConditionKind::Step => "step",
             ConditionKind::Main => "main",
+            ConditionKind::Guard => "guard",
         }
     }
 
@@ -33,7 +48,8 @@ impl ConditionKind {
             1 => ConditionKind::Exit,
             2 => ConditionKind::Floor,
             3 => ConditionKind::Step,
-            _ => ConditionKind::Main,
+            4 => ConditionKind::Main,
+            _ => ConditionKind::Guard,
         }
     }
 }

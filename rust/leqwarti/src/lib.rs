@@ -3,8 +3,8 @@
 //! A script comes as a table of rows, four words to a row. [`plan`] lists the
 //! conditions to be proved of it. If all of them are true in every state, then
 //! every run from a start that meets the script's precondition ends, fails no
-//! assertion and meets the postcondition, and a loop begins its body at most
-//! v + 1 times on each arrival with variant v.
+//! assertion, divides by no zero and meets the postcondition, and a loop begins
+//! its body at most v + 1 times on each arrival with variant v.
 //!
 //! ```
 //! use leqwarti::ConditionKind;

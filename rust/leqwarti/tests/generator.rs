@@ -3,30 +3,14 @@
 //! are worked out from document 01's rules, with the range of variables from
 //! document 02, P2. Document 01's trial rows, which the program `trials` runs,
 //! are among them: here the buffers are looked at too. `generator_cases.txt` has
-//! cases that an independent reading of P2 answered.
+//! cases that an independent reading of P2 answered; in seven of them code
+//! divides, and their answers are those since P5.
 
 mod common;
 
-use common::{answer, cases, edited, longest_path, nested, number, numbers, parts};
-use common::{planned, refused, sum_of_all_variables, sum_of_all_variables_list, Row, Script};
-use common::{EVERY_KIND, EXAMPLE_A, EXAMPLE_A_LIST, FOUR_ROWS};
-use leqwarti::entries::{generate, Answer};
-use leqwarti::Plan;
-
-/// The answer is the one wanted. The scratch, and what is past the words of the
-/// list, are zeros, whatever stood there before; the list reader finds as many
-/// conditions. Gives the words of the list.
-fn expect(name: &str, table: &[i32], room: usize, scratch: usize, wanted: Answer) -> Vec<i32> {
-    let (mut list, mut scratch) = (vec![-7; room], vec![-7; scratch]);
-    let given = generate(table, &mut list, &mut scratch);
-    assert_eq!(given, wanted, "{name}");
-    let rest = list.split_off(wanted.words);
-    assert!(rest.iter().all(|&word| word == 0), "{name}: past the list");
-    assert!(scratch.iter().all(|&word| word == 0), "{name}: the scratch");
-    let read = Plan::read(list.clone()).map_or(0, |plan| plan.conditions().len());
-    assert_eq!(read, wanted.conditions, "{name}: the conditions read back");
-    list
-}
+use common::{answer, cases, edited, expect, expect_list, longest_path, nested, number, numbers};
+use common::{parts, planned, refused, rows, sum_of_all_variables, sum_of_all_variables_list};
+use common::{Row, Script, EVERY_KIND, EXAMPLE_A, EXAMPLE_A_LIST, FOUR_ROWS};
 
 /// A case to a line: room, scratch, and the answer.
 fn expect_answers(name: &str, rows: &[Row], text: &str) {
@@ -42,30 +26,6 @@ fn expect_answers(name: &str, rows: &[Row], text: &str) {
             answer(wanted),
         );
     }
-}
-
-/// The whole list, word for word: with room to spare, with as much as it needs,
-/// and refused with one word less.
-fn expect_list(name: &str, rows: &[Row], list: &str) {
-    let (table, words) = (rows.concat(), numbers(list));
-    let conditions = *words.last().expect("a count") as usize;
-    let wanted = planned(conditions, words.len());
-    for room in [1_024, words.len()] {
-        assert_eq!(
-            expect(name, &table, room, 10_240, wanted),
-            words,
-            "{name}: the list"
-        );
-    }
-    expect(name, &table, words.len() - 1, 10_240, refused(12, 0));
-}
-
-/// Rows written as the document prints them.
-fn rows(text: &str) -> Vec<Row> {
-    let words = numbers(text);
-    assert_eq!(words.len() % 4, 0, "four words to a row: {text}");
-    let row = |words: &[i32]| [words[0], words[1], words[2], words[3]];
-    words.chunks(4).map(row).collect()
 }
 
 /// Words that are all zeros: where their number passes, row 0 has a kind that
@@ -560,8 +520,8 @@ fn expressions() {
         25 23 20 2 0 2 0 24 17 22 18 2 0 1 3 19 1 0 10 19 2 0 1 5 3 2 0 2 1 5 2 0 1 2 2 52 34,
         25 23 19 9 52 2 128 22 16 23 20 2 0 2 0 18 10 19 2 0 1 5 3 2 0 2 1 5 2 0 1 2 9 52 1 48 34,
         25 23 19 9 52 2 128 16 19 1 0 8 2 1 2 48 14,
-        25 23 23 19 9 52 2 128 16 20 8 2 1 9 48 23 20 9 48 9 52 23 19 9 52 2 128 18 8 7 6 2 0 1 2
-          1 3 9 48 3 48 39,
+        25 23 23 19 9 52 2 128 16 20 8 2 1 9 48 23 23 21 1 2 1 0 21 1 3 1 0 23 20 9 48 9 52 23 19
+          9 52 2 128 18 8 7 6 2 0 1 2 1 3 9 48 3 48 51,
         25 23 23 20 2 0 2 0 24 17 22 18 2 0 1 3 20 10 19 2 0 1 5 3 2 0 2 1 5 2 0 1 2 9 52 23 21 9
           52 2 0 23 25 23 16 25 16 17 19 9 52 2 128 25 22 23 16 25 16 17 23 20 2 0 2 0 18 10 19 2 0
           1 5 3 2 0 2 1 5 2 0 1 2 9 52 3 52 85,

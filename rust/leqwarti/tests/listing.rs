@@ -1,7 +1,7 @@
 //! The list reader: the line at an index, words that are no list (20), and
 //! indexes that a list does not have (21). What is wanted is from document 01,
-//! with the range of variables from document 02, P2; `listing_cases.txt` has
-//! cases that an independent reading of P2 answered.
+//! with the range of variables from document 02, P2, and kind 5 from P5;
+//! `listing_cases.txt` has cases that an independent reading of P2 answered.
 
 mod common;
 
@@ -90,10 +90,15 @@ fn small_lists() {
         17 2 0 1 1               | 0 | 2 | 0 | 0 to 1 | no main at its end, and no implication
         16 4 7 1 22 17 4 7 2 2   | 0 | 4 | 7 | 0 to 1 | the first of two lines
         16 4 7 1 22 17 4 7 2 2   | 1 | 4 | 7 | 4 to 6 | the second
+        25 16 16 5 3 3 1         | 0 | 5 | 3 | 0 to 3 | a guard alone; 20 before P5
+        16 5 2047 1 17 1 0 1 2   | 0 | 5 | 2047 | 0 to 1 | a guard before an exit
+        16 5 2047 1 17 1 0 1 2   | 1 | 1 | 0 | 4 to 5 | the exit
+        16 4 7 1 22 17 5 7 2 2   | 1 | 5 | 7 | 4 to 6 | a guard last
         ",
     );
     assert_eq!(passed(&[25, 16, 16, 4, 3, 3, 1]), 1);
     assert_eq!(passed(&[16, 4, 7, 1, 22, 17, 4, 7, 2, 2]), 2);
+    assert_eq!(passed(&[16, 5, 7, 1, 22, 17, 5, 7, 2, 2]), 2);
 }
 
 #[test]
@@ -168,14 +173,16 @@ fn torn_by_the_count() {
     );
 }
 
-/// A kind of condition is 1 to 4.
+/// A kind of condition is 1 to 5.
 #[test]
 fn torn_by_the_kind() {
     expect_all_torn(
         "
         16 0 0 1 1  | 0
-        16 5 0 1 1  | 5
+        16 6 0 1 1  | 6 (before P5 from 5 on)
         16 -1 0 1 1 | negative
+        16 5 0 1 16 0 0 1 2 | 0 after a guard
+        16 6 0 1 16 5 0 1 2 | 6 before a guard
         ",
     );
 }

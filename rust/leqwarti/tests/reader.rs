@@ -13,7 +13,7 @@ fn told(words: &[i32], line: Line) -> String {
     if line.number != 0 {
         return format!("refused {}", line.number);
     }
-    let name = ["exit", "floor", "step", "main"][line.kind - 1];
+    let name = ["exit", "floor", "step", "main", "guard"][line.kind - 1];
     let formula: String = words[line.start..line.end]
         .iter()
         .map(|word| format!(" {word}"))
@@ -94,7 +94,7 @@ fn torn_lists_at_every_step() {
     for (name, list, steps) in [
         ("example A with the count 5", with_count(5), 3),
         ("example A with a negative count", with_count(-4), 2),
-        ("a kind that is none", vec![25, 16, 16, 5, 3, 3, 1], 2),
+        ("a kind that is none", vec![25, 16, 16, 6, 3, 3, 1], 2),
         ("a wrong length", vec![25, 16, 16, 4, 3, 2, 1], 2),
         ("one word", vec![1], 2),
     ] {
@@ -106,4 +106,18 @@ fn torn_lists_at_every_step() {
 fn seven_words() {
     let wanted = ["main 3 25 16 16", PAST_THE_FIRST, PAST_THE_FIRST];
     assert_eq!(walk(&[25, 16, 16, 4, 3, 3, 1], 3), wanted);
+}
+
+/// A list of one loop whose guard divides: its first condition is read last.
+#[test]
+fn a_guard_before_an_exit() {
+    let guard = [25, 16, 21, 2, 0, 1, 0, 5, 9, 7];
+    let exit = [25, 16, 17, 1, 9, 3];
+    let list = [&guard[..], &exit, &[2]].concat();
+    let wanted = [
+        "exit 9 25 16 17",
+        "guard 9 25 16 21 2 0 1 0",
+        PAST_THE_FIRST,
+    ];
+    assert_eq!(walk(&list, 3), wanted);
 }

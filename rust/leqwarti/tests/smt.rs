@@ -205,7 +205,7 @@ fn refusals_in_order() {
         list
     };
     let torn_at_the_front = with_word(0, 99);
-    let torn_at_the_last_kind = with_word(90, 5);
+    let torn_at_the_last_kind = with_word(90, 6);
     for index in [0, 3, 4, -1, i32::MIN, i32::MAX] {
         for room in [0, 1, 1_000] {
             for torn in [&torn_at_the_front, &torn_at_the_last_kind, &vec![]] {

@@ -25,6 +25,8 @@ const NESTING: State = 0xF0;
 pub struct Accepted {
     pub nesting: usize,
     pub has_loops: bool,
+    /// Whether there is a div or mod anywhere.
+    pub has_divisions: bool,
     /// Above the number of every variable that is assigned to.
     pub targets: usize,
 }
@@ -52,6 +54,7 @@ pub fn check_rows(rows: &[Row]) -> Result<Accepted, Verdict> {
         states: states.filled(rows.len(), NOT_SEEN),
         has_names: false,
         has_loops: false,
+        has_divisions: false,
         targets: 0,
     };
     for (row, &fields) in rows.iter().enumerate() {
@@ -72,6 +75,7 @@ pub fn check_rows(rows: &[Row]) -> Result<Accepted, Verdict> {
     Ok(Accepted {
         nesting: nesting.into(),
         has_loops: checker.has_loops,
+        has_divisions: checker.has_divisions,
         targets: checker.targets,
     })
 }
@@ -99,6 +103,7 @@ struct Checker<'a> {
     states: &'a mut [State],
     has_names: bool,
     has_loops: bool,
+    has_divisions: bool,
     targets: usize,
 }
 
@@ -118,6 +123,7 @@ impl Checker<'_> {
                 E
             }
             3..=7 => {
+                self.has_divisions |= kind >= 6;
                 self.link([(first, E), (second, E)], third)?;
                 E
             }

@@ -49,16 +49,14 @@ fn answer(table: &[i32], list: &mut [i32], scratch: usize) -> Result<Answer, Ver
 
 /// How many conditions the list has, and how many words.
 fn write_list(rows: &[Row], list: &mut [i32], accepted: Accepted) -> Result<(usize, usize), Full> {
-    let Accepted {
-        has_loops, targets, ..
-    } = accepted;
+    let has_loops = accepted.has_loops;
     let last = rows.len() - 1;
     let [_, precondition, statement, postcondition] = rows[last];
     let (mut memory, mut follow) = (Memory::new(), Storage::<_, MOST_ROWS>::new());
     let (mut invariants, mut open) = (Storage::<_, MOST_ROWS>::new(), Storage::new());
     let mut branches = Storage::new();
     let mut walk = Walk {
-        writer: Writer::new(rows, list, &mut memory, targets),
+        writer: Writer::new(rows, list, &mut memory, &accepted),
         follow: follow.filled(rows.len(), SCRIPT),
         invariants: invariants.filled(if has_loops { rows.len() } else { 0 }, Part::default()),
         open: open.stack(),
@@ -125,15 +123,31 @@ impl Walk<'_> {
         }
     }
 
-    /// The conditions exit and floor.
+    /// The condition guard, for a guard that divides: its invariant.
+    fn list_guard(&mut self, row: u16, guard: i32, invariant: i32) -> Result<Part, Full> {
+        let start = self.writer.place();
+        self.writer.put(25)?;
+        let invariant_words = self.writer.write(invariant)?;
+        self.writer.write_divisors(guard)?;
+        self.finish(start, 5, row)?;
+        Ok(invariant_words)
+    }
+
+    /// The conditions guard, exit and floor.
     fn open_loop(&mut self, row: u16) -> Result<(), Full> {
         let [_, guard, note, body] = self.writer.rows[usize::from(row)];
         let [_, invariant, variant, _] = self.writer.rows[note as usize];
 
+        let listed = if self.writer.divides(guard) {
+            Some(self.list_guard(row, guard, invariant)?)
+        } else {
+            None
+        };
+
         let start = self.writer.place();
         self.writer.put(25)?;
         self.writer.put(23)?;
-        let invariant_words = self.writer.write(invariant)?;
+        let invariant_words = self.writer.write_or_copy(invariant, listed)?;
         self.invariants[usize::from(row)] = invariant_words;
         self.writer.put(22)?;
         let guard_words = self.writer.write(guard)?;

@@ -1,5 +1,5 @@
-//! A yardstick for the proved library: document 01 and requests P1, P2 and P4
-//! written by hand for speed.
+//! A yardstick for the proved library: document 01 and requests P1, P2, P4
+//! and P5 written by hand for speed.
 //!
 //! Nothing of it is proved. `fuzz/tests/peer.rs` compares it with the proved
 //! library word for word, and the benchmark times the library beside it; it has
@@ -7,13 +7,15 @@
 //!
 //! [`check`] reads the table once, and again only where a frozen name or a mark
 //! occurs. [`generate`] writes the list from front to back, keeps no formula,
-//! and copies what stands in the list already. The reader goes over the words
+//! and copies what stands in the list already; where there is a div or mod, it
+//! notes once which rows divide. The reader goes over the words
 //! of a line once. [`smt`] writes a part once and copies it where it stands
 //! again. [`read_text`] goes over the text once. Nothing is taken from the heap,
 //! and working memory is cleared only as far as the table has rows, or assigns to
 //! variables; the module `stack` has the only `unsafe` code.
 
 mod check;
+mod divisors;
 mod faults;
 mod generate;
 mod names;

@@ -116,7 +116,7 @@ const NO_SUCH_LINE: Line = no_line(21);
 fn last_line(words: &[i32]) -> Option<Line> {
     let (before, &[kind, row, length]) = words.split_last_chunk()?;
     let start = before.len().checked_sub(length as u32 as usize)?;
-    let in_range = (1..=4).contains(&kind) && (0..=2_047).contains(&row);
+    let in_range = (1..=5).contains(&kind) && (0..=2_047).contains(&row);
     (in_range && is_formula(&before[start..])).then_some(Line {
         number: 0,
         kind: kind as usize,

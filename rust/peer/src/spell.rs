@@ -4,6 +4,8 @@
 //! variable is written as what its latest assignment gave it; once that stands
 //! in the list it is copied.
 
+use crate::check::Accepted;
+use crate::divisors::note_divisions;
 use crate::stack::{Stack, Storage};
 use crate::{Row, MOST_ROWS, VARIABLES};
 
@@ -48,6 +50,7 @@ pub struct Memory {
     later: Storage<u16, MOST_ROWS>,
     values: Storage<Value, MOST_ROWS>,
     latest: Storage<u16, VARIABLES>,
+    divides: Storage<bool, MOST_ROWS>,
 }
 
 impl Memory {
@@ -57,6 +60,7 @@ impl Memory {
             later: Storage::new(),
             values: Storage::new(),
             latest: Storage::new(),
+            divides: Storage::new(),
         }
     }
 }
@@ -68,6 +72,8 @@ pub struct Writer<'a> {
     path: Stack<'a, Passed, MOST_ROWS>,
     /// The latest assignment to each variable, or 0; none to variables beyond.
     latest: &'a mut [u16],
+    /// Whether a row has a div or mod in it; none has where there are no such rows.
+    divides: &'a [bool],
     /// How many assignments were ever put on the path.
     versions: u32,
     /// Rows to be written later.
@@ -79,19 +85,23 @@ pub struct Writer<'a> {
 const SHORT: usize = 8;
 
 impl<'a> Writer<'a> {
-    /// For rows that assign to variables below `targets` only.
+    /// For rows that the check accepted.
     pub fn new(
         rows: &'a [Row],
         list: &'a mut [i32],
         memory: &'a mut Memory,
-        targets: usize,
+        accepted: &Accepted,
     ) -> Writer<'a> {
+        let looked_at = if accepted.has_divisions { rows } else { &[] };
+        let divides = memory.divides.filled(looked_at.len(), false);
+        note_divisions(looked_at, divides);
         Writer {
             rows,
             list,
             at: 0,
             path: memory.path.stack(),
-            latest: memory.latest.filled(targets, 0),
+            latest: memory.latest.filled(accepted.targets, 0),
+            divides,
             versions: 0,
             later: &mut memory.later,
             values: &mut memory.values,
@@ -156,6 +166,20 @@ impl<'a> Writer<'a> {
                 self.latest[usize::from(variable)] = before;
             }
         }
+    }
+
+    /// Writes a row, or copies it where it stands already.
+    #[inline(always)]
+    pub fn write_or_copy(&mut self, row: i32, known: Option<Part>) -> Result<Part, Full> {
+        match known {
+            Some(part) => self.copy(part).map(|()| part),
+            None => self.write(row),
+        }
+    }
+
+    #[inline(always)]
+    pub fn divides(&self, row: i32) -> bool {
+        self.divides.get(row as usize) == Some(&true)
     }
 
     /// Writes the expression or formula at a row, under the whole path.

@@ -101,7 +101,7 @@ impl Walk<'_> {
         }
     }
 
-    /// Passes the statements that write nothing: the first that does, or an end.
+    /// Passes the statements that write nothing of their own: the first that does, or an end.
     #[inline(always)]
     fn pass_silent(&mut self, mut statement: Follow) -> Follow {
         let (rows, follow) = (self.writer.rows, &mut *self.follow);
@@ -109,7 +109,7 @@ impl Walk<'_> {
             let [kind, first, second, _] = rows[usize::from(statement)];
             statement = match kind {
                 32 => follow[usize::from(statement)],
-                33 => {
+                33 if !self.writer.divides(second) => {
                     self.writer.pass(first, second);
                     follow[usize::from(statement)]
                 }
@@ -133,8 +133,18 @@ impl Walk<'_> {
         }
         let [kind, first, second, third] = self.writer.rows[usize::from(statement)];
         Ok(match kind {
+            33 => {
+                self.writer.put(23)?;
+                self.writer.write_divisors(second)?;
+                self.writer.pass(first, second);
+                Some(self.follow[usize::from(statement)])
+            }
             35 => {
                 follow_branch(self.follow, statement, second, third);
+                if self.writer.divides(first) {
+                    self.writer.put(23)?;
+                    self.writer.write_divisors(first)?;
+                }
                 self.writer.put(23)?;
                 self.writer.put(25)?;
                 let passed = self.writer.passed();

@@ -1,5 +1,6 @@
 //! The inputs that nest deepest, of every shape.
 
+mod divisions;
 mod formulas;
 mod lists;
 mod rows;

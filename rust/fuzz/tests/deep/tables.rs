@@ -17,6 +17,7 @@ pub fn cases() -> Vec<Case> {
     cases.add_expressions();
     cases.add_sequences();
     cases.add_assignments();
+    cases.add_divisions();
     cases.add_nesting();
     cases.add_faults();
     cases.0

@@ -5,7 +5,8 @@
 
 use std::str::FromStr;
 
-use leqwarti::entries::Answer;
+use leqwarti::entries::{generate, Answer};
+use leqwarti::Plan;
 
 /// A row as the document writes it: kind, first, second, third.
 pub type Row = [i32; 4];
@@ -306,4 +307,44 @@ pub fn longest_path(first: Row) -> Vec<Row> {
     let nots = (0..2_044).map(|below| [22, below, 0, 0]);
     let rest = [[32, 0, 0, 0], [16, 0, 0, 0], [48, 2_044, 2_045, 2_046]];
     [first].into_iter().chain(nots).chain(rest).collect()
+}
+
+/// The answer is the one wanted. The scratch, and what is past the words of the
+/// list, are zeros, whatever stood there before; the list reader finds as many
+/// conditions. Gives the words of the list.
+pub fn expect(name: &str, table: &[i32], room: usize, scratch: usize, wanted: Answer) -> Vec<i32> {
+    let (mut list, mut scratch) = (vec![-7; room], vec![-7; scratch]);
+    let given = generate(table, &mut list, &mut scratch);
+    assert_eq!(given, wanted, "{name}");
+    let rest = list.split_off(wanted.words);
+    assert!(rest.iter().all(|&word| word == 0), "{name}: past the list");
+    assert!(scratch.iter().all(|&word| word == 0), "{name}: the scratch");
+    let read = Plan::read(list.clone()).map_or(0, |plan| plan.conditions().len());
+    assert_eq!(read, wanted.conditions, "{name}: the conditions read back");
+    list
+}
+
+/// The whole list, word for word: with room to spare, with as much as it needs,
+/// and refused with one word less.
+pub fn expect_words(name: &str, table: &[i32], words: &[i32]) {
+    let conditions = *words.last().expect("a count") as usize;
+    let wanted = planned(conditions, words.len());
+    for room in [words.len() + 100, words.len()] {
+        let written = expect(name, table, room, 10 * room, wanted);
+        assert_eq!(written, words, "{name}: the list");
+    }
+    let short = words.len() - 1;
+    expect(name, table, short, 10 * short, refused(12, 0));
+}
+
+pub fn expect_list(name: &str, rows: &[Row], list: &str) {
+    expect_words(name, &rows.concat(), &numbers(list));
+}
+
+/// Rows written as the document prints them.
+pub fn rows(text: &str) -> Vec<Row> {
+    let words = numbers(text);
+    assert_eq!(words.len() % 4, 0, "four words to a row: {text}");
+    let row = |words: &[i32]| [words[0], words[1], words[2], words[3]];
+    words.chunks(4).map(row).collect()
 }

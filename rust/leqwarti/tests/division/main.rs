@@ -1,0 +1,50 @@
+//! Division by zero: what D adds at an assignment and at a guard, and the
+//! condition guard. The answers wanted are worked out from document 02, P5;
+//! `cases.txt` has cases that an independent reading of it answered.
+
+#[path = "../common/mod.rs"]
+mod common;
+mod conditions;
+mod divisors;
+mod long;
+mod reading;
+
+use common::{answer, cases, expect, number, numbers, parts};
+
+fn table_of(text: &str) -> Vec<i32> {
+    leqwarti::read_text(text.as_bytes()).unwrap_or_else(|refusal| panic!("{text}: {refusal}"))
+}
+
+const NAMES: [&str; 5] = ["exit", "floor", "step", "main", "guard"];
+
+/// The words of a list whose conditions are written as the program prints them:
+/// name, row and formula words, one to a line.
+fn list_of(conditions: &str) -> Vec<i32> {
+    let mut list = Vec::new();
+    let mut count = 0;
+    for condition in cases(conditions) {
+        let (name, rest) = condition.split_once(' ').expect("a name");
+        let (row, formula) = rest.split_once(' ').expect("a row");
+        let place = NAMES.iter().position(|known| *known == name);
+        let kind = place.expect("the name of a condition") as i32 + 1;
+        let formula = numbers(formula);
+        list.extend(&formula);
+        list.extend([kind, number(row), formula.len() as i32]);
+        count += 1;
+    }
+    list.push(count);
+    list
+}
+
+#[test]
+fn the_recorded_cases() {
+    let mut tried = 0;
+    for case in cases(include_str!("cases.txt")).skip(1) {
+        let [table, room, scratch, wanted, list] = parts(case, "|");
+        let (room, scratch) = (number(room), number(scratch));
+        let written = expect(case, &numbers(table), room, scratch, answer(wanted));
+        assert_eq!(written, numbers(list), "{case}");
+        tried += 1;
+    }
+    assert_eq!(tried, 125);
+}
