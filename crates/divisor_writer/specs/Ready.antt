@@ -11,7 +11,7 @@ use lib.ListN.{length}
 use Rattle.script.specs.declared.Sort.{Sort}
 use Rattle.script.specs.Syntax.{Formula}
 use Rattle.theorems.specs.Unchanged.{stands}
-use Rattle.theorems.specs.DivisorWords.{joint}
+use Rattle.theorems.specs.DivisorWords.{and-if-both}
 use Rattle.theorems.specs.Writing.{Wrote, wrote-nothing, then, wrote-as}
 use Rattle.formula_writer.specs.Links.{Linked}
 use Rattle.formula_writer.specs.Paths.{under}
@@ -64,8 +64,8 @@ module _ {t follow path : List ℤ} {j r : ℕ} (g : DivisorReady t follow path 
 
   -- ---- before a formula
 
-  conjunct : {b : Bool} → stands (divisors-at t r) ≡ b → conjunct-words t path j r ≡ joint b true ++ divisor-words t path j r
-  conjunct e = ap (λ b. joint b true ++ divisor-words t path j r) (replaced-stands (under t path j) (divisors-at t r) ∙ e)
+  conjunct : {b : Bool} → stands (divisors-at t r) ≡ b → conjunct-words t path j r ≡ and-if-both b true ++ divisor-words t path j r
+  conjunct e = ap (λ b. and-if-both b true ++ divisor-words t path j r) (replaced-stands (under t path j) (divisors-at t r) ∙ e)
 
   pub conjunct-written : {d : Bool} {p p′ q : ℕ} {l l′ l″ : List ℤ} → d ≡ marked follow r → d ≡ true → Wrote l p (pos 23 ∷ []) p′ l′
       → Wrote l′ p′ (divisor-words t path j r) q l″ → Wrote l p (conjunct-words t path j r) q l″

@@ -11,14 +11,14 @@ use Rattle.script.specs.Syntax.{Expr, Formula}
 use Rattle.script.specs.Conditions.{_joined_, behind}
 use Rattle.script.specs.Words.{expr-words, formula-words}
 use Rattle.theorems.specs.Unchanged.{stands}
-use Rattle.theorems.specs.DivisorWords.{item-words, joint, three-words}
+use Rattle.theorems.specs.DivisorWords.{item-words, and-if-both, three-words}
 use Rattle.theorems.specs.Writing.{Wrote, wrote-nothing}
 use Rattle.formula_writer.specs.Paths.{replaceᵉ, replaceᶠ, replaceᵒ}
 use Rattle.dividing.specs.Divisions.{divisor-of}
 
 -- the ands of three items that stand or not, grouped from the left
 abbrev pub ands : Bool → Bool → Bool → List ℤ
-ands p q r = joint (p || q) r ++ joint p q
+ands p q r = and-if-both (p || q) r ++ and-if-both p q
 
 -- what is put before an item that stands
 abbrev pub lead : Bool → List ℤ → List ℤ
@@ -54,7 +54,7 @@ module _ (τ : ℕ → Expr) where
   three-under x y z {p} {q} {r} hx hy hz =
       ap item-words (joined-replaced (x joined y) z ∙ ap (λ u. u joined replaceᵒ τ z) (joined-replaced x y))
       ∙ (three-words (replaceᵒ τ x) (replaceᵒ τ y) (replaceᵒ τ z) (replaced-stands x ∙ hx) (replaced-stands y ∙ hy) (replaced-stands z ∙ hz)
-      ∙ sym (append-assoc (joint (p || q) r) (joint p q) (words-of x ++ (words-of y ++ words-of z))))
+      ∙ sym (append-assoc (and-if-both (p || q) r) (and-if-both p q) (words-of x ++ (words-of y ++ words-of z))))
 
   pub behind-under : (f : Formula) (x : Option Formula) {p : Bool} → stands x ≡ p
       → words-of (behind f x) ≡ lead p (pos 25 ∷ formula-words (replaceᶠ τ f)) ++ words-of x
@@ -73,13 +73,13 @@ module _ (τ : ℕ → Expr) where
 -- ---- pieces that are written where items stand
 
 module _ {l : List ℤ} {p : ℕ} where
-  pub joint-written : {x y : Bool} {q : ℕ} {l′ : List ℤ} → x ≡ true → y ≡ true → Wrote l p (pos 23 ∷ []) q l′ → Wrote l p (joint x y) q l′
-  joint-written hx hy w = rw (hx, hy) w
+  pub both-written : {x y : Bool} {q : ℕ} {l′ : List ℤ} → x ≡ true → y ≡ true → Wrote l p (pos 23 ∷ []) q l′ → Wrote l p (and-if-both x y) q l′
+  both-written hx hy w = rw (hx, hy) w
 
-  pub no-first : {x : Bool} (y : Bool) → x ≡ false → Wrote l p (joint x y) p l
+  pub no-first : {x : Bool} (y : Bool) → x ≡ false → Wrote l p (and-if-both x y) p l
   no-first y hx = rw hx (wrote-nothing l p)
 
-  pub no-second : (x : Bool) {y : Bool} → y ≡ false → Wrote l p (joint x y) p l
+  pub no-second : (x : Bool) {y : Bool} → y ≡ false → Wrote l p (and-if-both x y) p l
   no-second true hy = rw hy (wrote-nothing l p)
   no-second false hy = wrote-nothing l p
 

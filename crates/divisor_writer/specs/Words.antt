@@ -14,7 +14,7 @@ use Rattle.script.specs.Words.{formula-words}
 use Rattle.script.specs.Rows.{rows}
 use Rattle.theorems.specs.Accepted.{Accepted}
 use Rattle.theorems.specs.Unchanged.{stands}
-use Rattle.theorems.specs.DivisorWords.{item-words, joint, and-words}
+use Rattle.theorems.specs.DivisorWords.{item-words, and-if-both, and-words}
 use Rattle.formula_writer.specs.Paths.{replaceᵒ, under, none-passedᵒ}
 use Rattle.formula_writer.specs.Nodes.{OnPath}
 use Rattle.dividing.specs.Nodes.{Node, divisors-at}
@@ -22,7 +22,7 @@ use Rattle.dividing.specs.Divided.{Divided}
 
 -- the words that an item puts before a formula: an and, and its own, where it stands
 abbrev pub item-and : Option Formula → List ℤ
-item-and x = joint (stands x) true ++ item-words x
+item-and x = and-if-both (stands x) true ++ item-words x
 
 -- D of the node at row r, under the first j assignments of the path
 abbrev pub divisors-under : List ℤ → List ℤ → ℕ → ℕ → Option Formula
@@ -49,7 +49,7 @@ pub conjunct-and : (τ : ℕ → Expr) (x : Option Formula) (q : Formula)
     → formula-words (replaceᵒ τ x and q) ≡ item-and (replaceᵒ τ x) ++ formula-words q
 conjunct-and τ x q =
     and-words (replaceᵒ τ x) q
-    ∙ sym (append-assoc (joint (stands (replaceᵒ τ x)) true) (item-words (replaceᵒ τ x)) (formula-words q))
+    ∙ sym (append-assoc (and-if-both (stands (replaceᵒ τ x)) true) (item-words (replaceᵒ τ x)) (formula-words q))
 
 pub divisor-words-first : (t path : List ℤ) (r : ℕ) → divisor-words t path 0 r ≡ item-words (divisors-at t r)
 divisor-words-first t path r = ap item-words (none-passedᵒ t path (divisors-at t r))

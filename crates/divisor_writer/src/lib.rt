@@ -12,7 +12,7 @@ ghost use Prim.Native.Nat.{_<_};
 ghost use lib.ListN.{length};
 ghost use Rattle.script.specs.declared.Sort.the-variants.{Expression, Formula};
 ghost use Rattle.theorems.specs.Writing.{Wrote};
-ghost use Rattle.theorems.specs.DivisorWords.{joint};
+ghost use Rattle.theorems.specs.DivisorWords.{and-if-both};
 ghost use Rattle.formula_writer.specs.Paths.{expr-under, formula-under};
 ghost use Rattle.formula_writer.specs.Nodes.{Ready};
 ghost use Rattle.dividing.specs.Divided.{marked};
@@ -20,8 +20,8 @@ ghost use Rattle.divisor_writer.specs.Words.{divisor-words, conjunct-wor
 ghost use Rattle.divisor_writer.specs.Under.{ands, lead, premise, unequal-zero};
 
 // Writes the and of two items, where both stand.
-fn push_joint(list: &mut [i32], at: usize, first: bool, second: bool) -> usize
-    ensures { λ p. ⌜ Wrote (now (list .entry)) at (joint first second) p (now (list .exit)) ⌝ }
+fn push_and_if_both(list: &mut [i32], at: usize, first: bool, second: bool) -> usize
+    ensures { λ p. ⌜ Wrote (now (list .entry)) at (and-if-both first second) p (now (list .exit)) ⌝ }
 {
     if first && second {
         return push_kind(list, at, kinds::AND);
@@ -45,8 +45,8 @@ fn push_ands(
 {
     let first = divides(follow, a);
     let second = divides(follow, b);
-    let p = push_joint(list, at, first | second, third);
-    push_joint(list, p, first, second)
+    let p = push_and_if_both(list, at, first | second, third);
+    push_and_if_both(list, p, first, second)
 }
 
 // Writes what a choose by the formula at row f puts before D of a side, at row a, where that stands: f implies, and for the second

@@ -187,28 +187,27 @@ pub fn dividing_chooses(depth: i32) -> Vec<i32> {
     laid_out(arena, statement)
 }
 
-/// One assignment of a quotient of a quotient .., so deep.
-pub fn quotients_of_quotients(depth: i32) -> Vec<i32> {
+/// One assignment of so many quotients, each made by `divide` of the last one and a
+/// variable.
+fn quotients(depth: i32, divide: impl Fn(&mut Arena, Node, Node) -> Node) -> Vec<i32> {
     let mut arena = Arena::default();
     let mut value = arena.variable(0);
     for level in 0..depth {
-        let divisor = arena.variable(1 + level % 100);
-        value = arena.two(6, value, divisor);
+        let variable = arena.variable(1 + level % 100);
+        value = divide(&mut arena, value, variable);
     }
     let statement = arena.assign(0, value);
     laid_out(arena, statement)
 }
 
+/// One assignment of a quotient of a quotient .., so deep.
+pub fn quotients_of_quotients(depth: i32) -> Vec<i32> {
+    quotients(depth, |arena, last, variable| arena.two(6, last, variable))
+}
+
 /// One assignment of a quotient by a quotient .., so deep: D has each divisor.
 pub fn quotients_by_quotients(depth: i32) -> Vec<i32> {
-    let mut arena = Arena::default();
-    let mut value = arena.variable(0);
-    for level in 0..depth {
-        let dividend = arena.variable(1 + level % 100);
-        value = arena.two(6, dividend, value);
-    }
-    let statement = arena.assign(0, value);
-    laid_out(arena, statement)
+    quotients(depth, |arena, last, variable| arena.two(6, variable, last))
 }
 
 /// Loops whose invariants and variants divide, and no code.

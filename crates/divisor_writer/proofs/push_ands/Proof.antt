@@ -2,7 +2,7 @@
 use mathlib.Core.Path.{ap₂}
 use mathlib.Core.Bool.{_||_}
 use borrow.Author.Needs.{needs}
-use Rattle.theorems.specs.DivisorWords.{joint}
+use Rattle.theorems.specs.DivisorWords.{and-if-both}
 use Rattle.theorems.specs.Writing.{then, wrote-as, wrote-length}
 use Rattle.divisor_writer.proofs.push_ands.Statement.{statement}
 use Rattle.divisor_writer.proofs.push_ands.Tie as tie
@@ -14,8 +14,8 @@ returns c =
     let second = outer .before .before in
     let first = second .before in
     let third = first .before .args .third in
-    then (wrote-as (ap₂ (λ x y. joint (x || y) third) (first .divides .ensures) (second .divides2 .ensures)) (outer .push-joint .ensures))
-    (wrote-as (ap₂ joint (first .divides .ensures) (second .divides2 .ensures)) (inner .push-joint2 .ensures))
+    then (wrote-as (ap₂ (λ x y. and-if-both (x || y) third) (first .divides .ensures) (second .divides2 .ensures)) (outer .push-and-if-both .ensures))
+    (wrote-as (ap₂ and-if-both (first .divides .ensures) (second .divides2 .ensures)) (inner .push-and-if-both2 .ensures))
 
 pub push-ands-spec : {M : Type 1} → statement M
 push-ands-spec =
