@@ -6,21 +6,19 @@ mod files;
 mod solver;
 
 use cli::{scripts, Source};
-use fuzz::claims::changed_meaning;
-use fuzz::mutate::made_up_list;
-use fuzz::scripts::{script_words, Shape};
-use fuzz::templates::{any_template, lay_out};
+use fuzz::lists::any_list;
 use fuzz::{seed_from_environment, tell, Prng};
 use leqwarti::Plan;
 use reference::{formula_from_words, formula_is_true, Formula, Row, State, Variable};
 use solver::{contradict, verdicts, Effort, Model, Verdict};
 
-/// The conditions of all examples, as `fleet-join: exit 45`, with their texts.
+/// The conditions of all examples, as `fleet-join: exit 47`, with their texts.
 fn example_scripts() -> Vec<(String, String)> {
     let mut named = Vec::new();
-    for file in files::rows() {
-        let source = Source::read(files::text(&file).as_bytes()).unwrap();
-        let Ok(plan) = leqwarti::plan(source.words()) else {
+    for file in files::each() {
+        let source = Source::read(files::text(&file).as_bytes());
+        let plan = source.ok().map(|source| leqwarti::plan(source.words()));
+        let Some(Ok(plan)) = plan else {
             continue;
         };
         for script in scripts(&plan) {
@@ -32,8 +30,9 @@ fn example_scripts() -> Vec<(String, String)> {
 }
 
 /// The conditions of examples that are false in some state.
-const FALSE: [&str; 3] = [
-    "fleet-join: exit 45",
+const FALSE: [&str; 4] = [
+    "absolute-above-zero: main 14",
+    "fleet-join: exit 47",
     "pump-average: main 25",
     "pump-stop: guard 21",
 ];
@@ -97,31 +96,10 @@ fn any_case(random: &mut Prng) -> Case {
     }
 }
 
-/// A list that no generator wrote, or that of a script: of any shape, with
-/// conditions that hold by construction, or one of these with a change.
+/// A list with the library's conditions where it is that of a script.
 fn any_plan(random: &mut Prng) -> Plan {
-    let table = match random.below(4) {
-        0 => return Plan::read(made_up_list(random, 0)).unwrap(),
-        1 => {
-            let shape = Shape {
-                rows: 4 + random.below(60),
-                ..Shape::any(random)
-            };
-            script_words(random, shape)
-        }
-        2 => sound_table(random),
-        _ => {
-            let table = sound_table(random);
-            changed_meaning(&table, random)
-        }
-    };
-    // A list may be too long.
-    leqwarti::plan(&table).unwrap_or_else(|_| any_plan(random))
-}
-
-fn sound_table(random: &mut Prng) -> Vec<i32> {
-    let template = any_template(random);
-    lay_out(&template.script, random)
+    let generate = |table: &[i32]| Some(leqwarti::plan(table).ok()?.words().to_vec());
+    Plan::read(any_list(random, generate)).unwrap()
 }
 
 impl Case {

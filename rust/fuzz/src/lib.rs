@@ -12,6 +12,7 @@ pub mod divisions;
 pub mod inputs;
 pub mod lent;
 pub mod limits;
+pub mod lists;
 pub mod mutate;
 pub mod mutate_text;
 pub mod nests;
