@@ -3,7 +3,7 @@
 use leqwarti::{Condition, ConditionKind, Formula, Plan, Reason, Refusal};
 
 use crate::rows::RowLine;
-use crate::{Fault, RefusedText, Source, Text, Unread};
+use crate::{Fault, Json, RefusedText, Source, Text, Unread};
 
 /// What the generator says of a file.
 #[derive(Clone, Debug, PartialEq, Eq)]
@@ -38,7 +38,7 @@ impl Answer {
     pub fn words(&self) -> String {
         let mut text = self.first_line();
         for condition in self.plan().into_iter().flatten() {
-            text += &format!("{} {}", condition.kind.name(), condition.row);
+            text += &condition.kind.with_row(condition.row);
             for word in condition.formula.words() {
                 text += &format!(" {word}");
             }
@@ -60,6 +60,22 @@ impl Answer {
         self.first_line() + &rest
     }
 
+    /// Why there is no plan, for other programs: the number, and its row, or the
+    /// byte of the file where a text is not read.
+    pub fn refusal_json(&self) -> Option<Json> {
+        let (number, place, at) = match self {
+            Answer::Table(_, Ok(_)) => return None,
+            Answer::Table(_, Err(refusal)) => (refusal.reason.number(), "row", refusal.row),
+            Answer::Unread(text) => (text.refusal.reason.number(), "byte", text.place_in_file()),
+        };
+        Some(Json::object([
+            ("verdict", Json::text("refused")),
+            ("number", Json::number(number)),
+            (place, Json::number(at)),
+            ("text", Json::text(self.text())),
+        ]))
+    }
+
     fn first_line(&self) -> String {
         match self {
             Answer::Table(_, Ok(plan)) => {
@@ -76,13 +92,10 @@ impl Answer {
 
 fn condition_text(condition: &Condition, source: &Source) -> String {
     let Condition { kind, row, formula } = *condition;
-    let (name, meaning) = (kind.name(), meaning(kind));
-    let (line, said) = match source {
-        Source::Rows(rows) => (rows.lines[row].line, rows.lines[row].said().to_string()),
-        Source::Text(text) => (text.point(row).line, text.head(row)),
-    };
-    let formula = source.names().put_into(&formula_text(formula, source));
-    format!("\n{name} {row}: {meaning}\nline {line}: {said}\n{formula}")
+    let (name, meaning) = (kind.with_row(row), meaning(kind));
+    let (line, said) = (source.line(row), source.said(row));
+    let formula = formula_text(formula, source);
+    format!("\n{name}: {meaning}\nline {line}: {said}\n{formula}")
 }
 
 fn meaning(kind: ConditionKind) -> &'static str {
@@ -97,16 +110,12 @@ fn meaning(kind: ConditionKind) -> &'static str {
 
 /// A formula, the two sides of an implication on lines of their own.
 fn formula_text(formula: Formula, source: &Source) -> String {
-    let written = |formula| match source {
-        Source::Rows(_) => format!("{formula}"),
-        Source::Text(_) => format!("{formula:#}"),
-    };
     match formula.implication() {
         Some(sides) => {
-            let (given, wanted) = (written(sides.0), written(sides.1));
+            let (given, wanted) = (source.formula(sides.0), source.formula(sides.1));
             format!("    {given}\n  implies\n    {wanted}\n")
         }
-        None => format!("    {}\n", written(formula)),
+        None => format!("    {}\n", source.formula(formula)),
     }
 }
 

@@ -1,19 +1,26 @@
 //! The generator as a command: a script's text or a file of rows in, an answer
-//! for people out.
+//! for people out; and the solvers that can be asked about its conditions.
 
 mod answer;
+mod json;
 mod names;
 mod point;
+mod proof;
 mod refused_text;
 mod rows;
 mod smt;
+pub mod solvers;
 mod source;
 mod text;
 mod tokens;
 
 pub use answer::Answer;
+pub use json::Json;
 pub use names::Names;
 pub use point::Point;
+pub use proof::{
+    Asked, Contradiction, Finding, Outcome, Progress, Proof, Refutation, Report, Verdict,
+};
 pub use refused_text::RefusedText;
 pub use rows::{RowLine, Rows};
 pub use smt::{scripts, Script};

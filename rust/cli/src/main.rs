@@ -1,19 +1,27 @@
-//! The command: `vcgen [list] [--words] FILE`, `vcgen smt FILE [INDEX]` and
-//! `vcgen smt --into FOLDER FILE`.
+//! The command: `vcgen [list] [--words] FILE`, `vcgen smt FILE [INDEX]`,
+//! `vcgen smt --into FOLDER FILE` and
+//! `vcgen prove [--timeout SECONDS] [--json] FILE`.
 
+mod progress;
 mod request;
 
+use std::ffi::OsString;
 use std::fs;
 use std::io::{self, Read, Write};
 use std::path::Path;
 use std::process::ExitCode;
 
-use cli::{scripts, Answer, Script, HELP};
+use cli::solvers::Solver;
+use cli::{scripts, Answer, Outcome, Progress, Proof, Report, Script, HELP};
 use leqwarti::Plan;
-use request::{request, Request, Wanted};
+use progress::ProgressLine;
+use request::{request, Prove, Request, Wanted};
 
 const REFUSED: u8 = 1;
 const UNREADABLE: u8 = 2;
+const NO_SOLVER: u8 = 3;
+const NOT_PROVED: u8 = 4;
+const CONTRADICTED: u8 = 5;
 
 /// What to tell, and the exit status.
 struct Failure {
@@ -22,14 +30,16 @@ struct Failure {
 }
 
 fn main() -> ExitCode {
-    let arguments: Vec<String> = std::env::args().skip(1).collect();
-    let arguments: Vec<&str> = arguments.iter().map(String::as_str).collect();
-    let done = match request(&arguments) {
-        Some(request) => carry_out(request),
-        None => Err(unreadable(HELP.to_string())),
+    let arguments: Vec<OsString> = std::env::args_os().skip(1).collect();
+    let arguments: Option<Vec<&str>> = arguments.iter().map(|one| one.to_str()).collect();
+    let done = match arguments.as_deref().map(request) {
+        Some(Some(request)) => carry_out(request),
+        Some(None) => Err(unreadable(HELP.to_string())),
+        None => Err(unreadable("vcgen: an argument is no UTF-8\n".to_string())),
     };
     ExitCode::from(done.unwrap_or_else(|failure| {
-        eprint!("{}", failure.told);
+        // Where standard error takes nothing, the status tells.
+        let _ = io::stderr().write_all(failure.told.as_bytes());
         failure.status
     }))
 }
@@ -39,6 +49,7 @@ fn carry_out(request: Request) -> Result<u8, Failure> {
         Request::Help => print(HELP).map(|()| 0),
         Request::List { file, as_words } => list(&answer(file)?, as_words),
         Request::Smt { file, wanted } => smt(&answer(file)?, wanted).map(|()| 0),
+        Request::Prove(request) => prove(&answer(request.file)?, &request),
     }
 }
 
@@ -91,6 +102,55 @@ fn smt(answer: &Answer, wanted: Wanted) -> Result<(), Failure> {
                 write_file(&folder.join(script.file_name()), &text)
             })
         }
+    }
+}
+
+fn prove(answer: &Answer, request: &Prove) -> Result<u8, Failure> {
+    let Answer::Table(source, Ok(plan)) = answer else {
+        let told = match answer.refusal_json() {
+            Some(refusal) if request.as_json => format!("{refusal}\n"),
+            _ => answer.text(),
+        };
+        return print(&told).map(|()| REFUSED);
+    };
+    let solvers = solvers()?;
+    let report = Report { source };
+    let mut progress = ProgressLine::new(plan.conditions().len());
+    let mut printed = Ok(());
+    let proof = Proof::of(plan, &solvers, request.limit, &mut |told| {
+        progress.take(&told);
+        if let (Progress::Settled(finding), false, Ok(())) = (told, request.as_json, &printed) {
+            printed = print(&report.line(finding));
+        }
+        progress.show();
+    });
+    progress.wipe();
+    printed?;
+    print(&if request.as_json {
+        format!("{}\n", report.json(&proof))
+    } else {
+        report.conclusion(&proof)
+    })?;
+    Ok(status(proof.outcome()))
+}
+
+/// Those that there are, one at least.
+fn solvers() -> Result<Vec<Solver>, Failure> {
+    let solvers = Solver::on_path(std::env::var_os("PATH").as_deref());
+    if solvers.is_empty() {
+        return Err(Failure {
+            told: "vcgen: neither z3 nor cvc5 is on the PATH; Debian's packages z3 and cvc5 have them\n".to_string(),
+            status: NO_SOLVER,
+        });
+    }
+    Ok(solvers)
+}
+
+fn status(outcome: Outcome) -> u8 {
+    match outcome {
+        Outcome::Proved => 0,
+        Outcome::NotProved => NOT_PROVED,
+        Outcome::Contradicted => CONTRADICTED,
     }
 }
 

@@ -23,9 +23,15 @@ const SORTS: &str = "1 v0 skip assert if while pre post true false not when mark
 impl RefusedText {
     /// The number, and the place as a byte of the file.
     pub fn first_line(&self) -> String {
+        let number = self.refusal.reason.number();
+        format!("refused {number} {}\n", self.place_in_file())
+    }
+
+    /// The place as a byte of the file; 0 where there is none.
+    pub fn place_in_file(&self) -> usize {
         let TextRefusal { reason, place, .. } = self.refusal;
         let start = if reason.has_place() { self.start } else { 0 };
-        format!("refused {} {}\n", reason.number(), start + place)
+        start + place
     }
 
     /// What is wrong and where; and what may stand there instead.

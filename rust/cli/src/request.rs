@@ -1,11 +1,13 @@
 //! What the command's arguments ask for.
 
 use std::path::Path;
+use std::time::Duration;
 
 pub enum Request<'a> {
     Help,
     List { file: &'a str, as_words: bool },
     Smt { file: &'a str, wanted: Wanted<'a> },
+    Prove(Prove<'a>),
 }
 
 /// Which scripts are wanted, and where.
@@ -14,6 +16,16 @@ pub enum Wanted<'a> {
     All,
     Into(&'a Path),
 }
+
+pub struct Prove<'a> {
+    pub file: &'a str,
+    /// The time that a solver has for a condition.
+    pub limit: Duration,
+    pub as_json: bool,
+}
+
+const DEFAULT_LIMIT: Duration = Duration::from_secs(10);
+const LONGEST_LIMIT: Duration = Duration::from_secs(86_400);
 
 /// Nothing for wrong usage. Only the first argument names a subcommand, so any
 /// name serves for a file.
@@ -25,6 +37,7 @@ pub fn request<'a>(arguments: &[&'a str]) -> Option<Request<'a>> {
     match arguments {
         ["list", rest @ ..] => list_request(rest),
         ["smt", rest @ ..] => smt_request(rest),
+        ["prove", rest @ ..] => prove_request(rest),
         _ => list_request(arguments),
     }
 }
@@ -48,6 +61,38 @@ fn smt_request<'a>(arguments: &[&'a str]) -> Option<Request<'a>> {
         _ => return None,
     };
     is_file(file).then_some(Request::Smt { file, wanted })
+}
+
+fn prove_request<'a>(arguments: &[&'a str]) -> Option<Request<'a>> {
+    let (mut files, mut limit, mut as_json) = (Vec::new(), None, false);
+    let mut arguments = arguments.iter();
+    while let Some(&argument) = arguments.next() {
+        match argument {
+            "--json" if !as_json => as_json = true,
+            "--timeout" if limit.is_none() => limit = Some(seconds(arguments.next()?)?),
+            file if is_file(file) => files.push(file),
+            _ => return None,
+        }
+    }
+    let limit = limit.unwrap_or(DEFAULT_LIMIT);
+    match files[..] {
+        [file] => Some(Request::Prove(Prove {
+            file,
+            limit,
+            as_json,
+        })),
+        _ => None,
+    }
+}
+
+/// Seconds as `10` or `0.5`, more than none and a day at most.
+fn seconds(argument: &str) -> Option<Duration> {
+    let is_digit_or_point = |byte: u8| byte.is_ascii_digit() || byte == b'.';
+    if !argument.bytes().all(is_digit_or_point) {
+        return None;
+    }
+    let duration = Duration::try_from_secs_f64(argument.parse().ok()?).ok()?;
+    (!duration.is_zero() && duration <= LONGEST_LIMIT).then_some(duration)
 }
 
 /// What begins with - is an option, but for standard input.
@@ -78,6 +123,10 @@ mod tests {
                 Wanted::All => format!("smt {file}"),
                 Wanted::Into(folder) => format!("smt {file} into {}", folder.display()),
             },
+            Some(Request::Prove(prove)) => {
+                let form = if prove.as_json { "json" } else { "text" };
+                format!("prove {} {:?} {form}", prove.file, prove.limit)
+            }
         }
     }
 
@@ -98,6 +147,12 @@ mod tests {
             ("smt --into b a", "smt a into b"),
             ("smt a --into b", "smt a into b"),
             ("smt --into -b a", "smt a into -b"),
+            ("prove a", "prove a 10s text"),
+            ("prove -", "prove - 10s text"),
+            ("prove --json a", "prove a 10s json"),
+            ("prove --timeout 2 a", "prove a 2s text"),
+            ("prove a --timeout 0.25 --json", "prove a 250ms json"),
+            ("prove --json --timeout 86400 a", "prove a 86400s json"),
             ("--help", "help"),
             ("smt -h", "help"),
         ] {
@@ -111,6 +166,8 @@ mod tests {
         assert_eq!(told("list list"), "list list false");
         assert_eq!(told("smt list"), "smt list");
         assert_eq!(told("--words smt"), "list smt true");
+        assert_eq!(told("prove prove"), "prove prove 10s text");
+        assert_eq!(told("list prove"), "list prove false");
     }
 
     #[test]
@@ -130,6 +187,23 @@ mod tests {
             "smt a 1 2",
             "smt --into b",
             "smt --into b a 1",
+            "prove",
+            "prove a b",
+            "prove --words a",
+            "prove --json",
+            "prove --json --json a",
+            "prove --timeout a",
+            "prove a --timeout",
+            "prove --timeout 0 a",
+            "prove --timeout 0.0 a",
+            "prove --timeout -1 a",
+            "prove --timeout +1 a",
+            "prove --timeout 1e3 a",
+            "prove --timeout . a",
+            "prove --timeout 1.2.3 a",
+            "prove --timeout inf a",
+            "prove --timeout 86401 a",
+            "prove --timeout 1 --timeout 2 a",
         ] {
             assert_eq!(told(arguments), "usage", "{arguments}");
         }

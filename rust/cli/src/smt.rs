@@ -1,6 +1,9 @@
 //! The conditions of a plan as scripts for solvers.
 
+use evaluator::Evaluator;
 use leqwarti::{Condition, Plan, Refusal};
+
+use crate::solvers::Question;
 
 /// A condition, and where it stands in its plan.
 #[derive(Clone, Copy, Debug)]
@@ -23,7 +26,7 @@ pub fn scripts(plan: &Plan) -> impl Iterator<Item = Script<'_>> {
 impl Script<'_> {
     /// The condition's name and row, as `exit 15`.
     pub fn name(&self) -> String {
-        format!("{} {}", self.condition.kind.name(), self.condition.row)
+        self.condition.kind.with_row(self.condition.row)
     }
 
     /// A name such as `0-exit-15.smt2`. The files of a plan sort by name in the
@@ -37,6 +40,21 @@ impl Script<'_> {
 
     pub fn text(&self) -> Result<String, Refusal> {
         self.plan.smt(self.index)
+    }
+
+    pub fn condition(&self) -> Condition<'_> {
+        self.condition
+    }
+
+    pub fn evaluator(&self) -> Evaluator<'_> {
+        Evaluator::of(self.condition.formula).expect("a condition is a formula")
+    }
+}
+
+impl Question for Script<'_> {
+    fn script(&self) -> Result<String, String> {
+        let text = self.text();
+        text.map_err(|refusal| refusal.reason.words().to_string())
     }
 }
 

@@ -1,5 +1,7 @@
 //! A file as a person writes it: the text of a script, or rows.
 
+use leqwarti::Formula;
+
 use crate::{Names, RefusedText, Rows, Text};
 
 #[derive(Clone, Debug, PartialEq, Eq)]
@@ -47,6 +49,31 @@ impl Source {
             Source::Rows(rows) => &rows.words,
             Source::Text(text) => &text.words,
         }
+    }
+
+    /// The line of a row that a condition names, from 1.
+    pub fn line(&self, row: usize) -> usize {
+        match self {
+            Source::Rows(rows) => rows.lines[row].line,
+            Source::Text(text) => text.point(row).line,
+        }
+    }
+
+    /// What the file says at a row that a condition names.
+    pub fn said(&self, row: usize) -> String {
+        match self {
+            Source::Rows(rows) => rows.lines[row].said().to_string(),
+            Source::Text(text) => text.head(row),
+        }
+    }
+
+    /// A formula as the file writes it, in its names.
+    pub fn formula(&self, formula: Formula) -> String {
+        let written = match self {
+            Source::Rows(_) => format!("{formula}"),
+            Source::Text(_) => format!("{formula:#}"),
+        };
+        self.names().put_into(&written)
     }
 
     pub fn names(&self) -> &Names {

@@ -43,6 +43,11 @@ impl ConditionKind {
         }
     }
 
+    /// The name of a condition with its row, as `exit 15`.
+    pub fn with_row(self, row: usize) -> String {
+        format!("{} {row}", self.name())
+    }
+
     fn of(kind: usize) -> ConditionKind {
         match kind {
             1 => ConditionKind::Exit,

@@ -1,0 +1,76 @@
+//! What a condition that is not proved means for a script.
+
+use leqwarti::ConditionKind;
+
+pub fn of_false(kind: ConditionKind) -> &'static str {
+    match kind {
+        ConditionKind::Exit => {
+            "As far as the invariant and the guard say, the loop may be left with these values, and what must
+hold after it is not true there. Either the loop ends too early or in a wrong state, or what
+follows it is wrong or asks for too much, or the invariant says too little: then it has to
+exclude these values.
+"
+        }
+        ConditionKind::Floor => {
+            "As far as the invariant and the guard say, the loop may go on with these values, and its variant is
+negative there, so nothing shows that the loop ends. Either the variant is the wrong one, or the
+invariant or the guard has to keep it from falling below 0.
+"
+        }
+        ConditionKind::Step => {
+            "As far as the invariant and the guard say, a pass of the body may begin with these values, and it fails
+an assertion, divides by zero, does not establish the invariant of a loop inside, does not keep
+the invariant, or does not lower the variant. Either the body, the guard or the variant is wrong,
+or an invariant is: one that says too little has to exclude these values, one that says too much
+is not kept.
+"
+        }
+        ConditionKind::Guard => {
+            "As far as the invariant says, the guard may be tested with these values, and it divides by zero there.
+Either the guard is wrong, or the invariant says too little: then it has to exclude these values.
+"
+        }
+        ConditionKind::Main => {
+            "A start with these values meets the precondition, and up to its first loop, or its end, the script
+fails, or does not reach what must hold there: the loop's invariant, or the postcondition. Either
+the script is wrong, or what must hold there asks for too much, or the precondition for too
+little: then it has to exclude these values.
+"
+        }
+    }
+}
+
+pub const OF_OPEN: &str =
+    "No solver has settled it, and no small values were found in which it is false. More time
+may help (--timeout), and so may annotations in simpler terms: solvers find products, div and mod
+of variables hard. README.md says what a planner can do then.
+";
+
+pub const OF_NO_ANSWER: &str = "No solver has answered, for the reason that its line above gives, and no small values were found in
+which it is false.
+";
+
+pub const OF_CONTRADICTION: &str = "A solver is wrong here, or the evaluator is, or a solver ended before it gave its values: nothing that is
+said of the script above counts. Try it again with more time. If it stays so, please keep the file
+and the versions of the solvers, and tell the maintainers.
+";
+
+/// What solvers are asked of a condition's premise.
+pub fn premise(kind: ConditionKind) -> &'static str {
+    match kind {
+        ConditionKind::Main => "the precondition",
+        _ => "the invariant and the guard together",
+    }
+}
+
+/// What it means that a premise has no state.
+pub fn without_states(kind: ConditionKind, row: usize) -> String {
+    match kind {
+        ConditionKind::Main => {
+            format!("main {row} is true for nothing, and no run is promised anything")
+        }
+        _ => {
+            format!("floor {row} and step {row} are true for nothing, and where the invariant holds the body is not begun")
+        }
+    }
+}

@@ -1,0 +1,239 @@
+//! The conditions of a plan put to solvers, and what comes of it.
+
+mod explanation;
+mod json;
+mod report;
+mod verdict;
+
+use std::time::Duration;
+
+use leqwarti::{Condition, ConditionKind, Plan};
+
+use crate::solvers::{ask, Event, Replied, Solver};
+use crate::{scripts, Script};
+
+pub use report::Report;
+pub use verdict::{Contradiction, Refutation, Verdict};
+
+/// What is found of a plan.
+#[derive(Clone, Debug)]
+pub struct Proof {
+    /// One for each condition, in the list's order.
+    pub findings: Vec<Finding>,
+    /// Of those premises for which the evaluator finds no state: what is found
+    /// of their opposites. Where one is true, its premise has no state.
+    pub opposites: Vec<Finding>,
+}
+
+/// What is found of a condition, or of the opposite of its premise.
+#[derive(Clone, Debug)]
+pub struct Finding {
+    pub kind: ConditionKind,
+    pub row: usize,
+    pub verdict: Verdict,
+    pub replies: Vec<Replied>,
+}
+
+#[derive(Clone, Copy, Debug, PartialEq, Eq)]
+pub enum Outcome {
+    Proved,
+    NotProved,
+    /// Solvers contradict each other or the evaluator.
+    Contradicted,
+}
+
+/// What is told while solvers work.
+pub enum Progress<'a> {
+    /// A solver begins.
+    Begun(Asked, Condition<'a>),
+    /// All solvers have answered.
+    Answered(Asked, Condition<'a>),
+    /// A condition is settled, and so are all before it.
+    Settled(&'a Finding),
+}
+
+/// What solvers are asked about.
+#[derive(Clone, Copy, Debug, PartialEq, Eq)]
+pub enum Asked {
+    Condition,
+    OppositeOfPremise,
+}
+
+impl Proof {
+    /// Asks about each condition, and then whether there are states for the
+    /// premises of those that are not false.
+    pub fn of(
+        plan: &Plan,
+        solvers: &[Solver],
+        limit: Duration,
+        watch: &mut dyn FnMut(Progress),
+    ) -> Proof {
+        let mut settle = |asked, questions: Vec<Script>| {
+            let mut settled = Settled::new(asked, &questions, watch);
+            ask(&questions, solvers, limit, |event| settled.take(event));
+            settled.findings()
+        };
+        let findings = settle(Asked::Condition, scripts(plan).collect());
+        let opposites: Vec<Plan> = plan
+            .conditions()
+            .zip(&findings)
+            .filter(|(_, finding)| !matches!(finding.verdict, Verdict::False(_)))
+            .filter_map(|(condition, _)| opposite_of_premise(condition))
+            .collect();
+        let in_doubt = |script: &Script| script.evaluator().find_false().is_none();
+        let opposites = opposites.iter().flat_map(scripts).filter(in_doubt);
+        let opposites = settle(Asked::OppositeOfPremise, opposites.collect());
+        Proof {
+            findings,
+            opposites,
+        }
+    }
+
+    pub fn outcome(&self) -> Outcome {
+        let contradicts = |finding: &Finding| matches!(finding.verdict, Verdict::Contradiction(_));
+        if self.findings.iter().chain(&self.opposites).any(contradicts) {
+            Outcome::Contradicted
+        } else if self.unproved().next().is_none() {
+            Outcome::Proved
+        } else {
+            Outcome::NotProved
+        }
+    }
+
+    /// The conditions that are not found true.
+    pub fn unproved(&self) -> impl Iterator<Item = &Finding> {
+        let findings = self.findings.iter();
+        findings.filter(|finding| finding.verdict != Verdict::True)
+    }
+}
+
+/// A list with one condition: the opposite of the precondition, or of a loop's
+/// invariant and guard. Where it is true, main, or floor and step, are true for
+/// nothing. The other conditions have none.
+fn opposite_of_premise(condition: Condition) -> Option<Plan> {
+    if !matches!(condition.kind, ConditionKind::Main | ConditionKind::Floor) {
+        return None;
+    }
+    let (premise, _) = condition.formula.implication()?;
+    let not = 22;
+    let mut list = [&[not], premise.words()].concat();
+    let length = list.len();
+    let trailer = [condition.kind as usize, condition.row, length];
+    list.extend(trailer.map(|word| word as i32));
+    let count = 1;
+    list.push(count);
+    Some(Plan::read(list).expect("a premise is a formula"))
+}
+
+/// Findings, as replies come in.
+struct Settled<'a> {
+    asked: Asked,
+    questions: &'a [Script<'a>],
+    watch: &'a mut dyn FnMut(Progress),
+    findings: Vec<Option<Finding>>,
+    /// How many from the front are told.
+    told: usize,
+}
+
+impl<'a> Settled<'a> {
+    fn new(
+        asked: Asked,
+        questions: &'a [Script<'a>],
+        watch: &'a mut dyn FnMut(Progress),
+    ) -> Settled<'a> {
+        Settled {
+            asked,
+            questions,
+            watch,
+            findings: vec![None; questions.len()],
+            told: 0,
+        }
+    }
+
+    fn take(&mut self, event: Event) {
+        match event {
+            Event::Begun { question, .. } => {
+                let condition = self.questions[question].condition();
+                (self.watch)(Progress::Begun(self.asked, condition));
+            }
+            Event::Answered { question, replies } => {
+                let script = &self.questions[question];
+                (self.watch)(Progress::Answered(self.asked, script.condition()));
+                self.findings[question] = Some(Finding::of(script, replies));
+                self.tell();
+            }
+        }
+    }
+
+    /// Tells which conditions are settled, from the front.
+    fn tell(&mut self) {
+        while let Some(Some(finding)) = self.findings.get(self.told) {
+            if self.asked == Asked::Condition {
+                (self.watch)(Progress::Settled(finding));
+            }
+            self.told += 1;
+        }
+    }
+
+    /// Where nobody has answered, the evaluator alone.
+    fn findings(self) -> Vec<Finding> {
+        let findings = self.findings.into_iter().zip(self.questions);
+        let or_open = |(finding, script): (Option<Finding>, &Script)| {
+            finding.unwrap_or_else(|| Finding::of(script, Vec::new()))
+        };
+        findings.map(or_open).collect()
+    }
+}
+
+impl Finding {
+    fn of(script: &Script, replies: Vec<Replied>) -> Finding {
+        let Condition { kind, row, .. } = script.condition();
+        let verdict = Verdict::of(&script.evaluator(), &replies);
+        Finding {
+            kind,
+            row,
+            verdict,
+            replies,
+        }
+    }
+
+    /// Its name and row, as `exit 15`.
+    pub fn name(&self) -> String {
+        self.kind.with_row(self.row)
+    }
+}
+
+#[cfg(test)]
+mod tests {
+    use super::*;
+
+    /// Two conditions, `true` and `v0 < 5`.
+    #[test]
+    fn what_nobody_is_asked_is_not_proved() {
+        let list = vec![16, 1, 7, 1, 18, 2, 0, 1, 5, 4, 9, 5, 2];
+        let plan = Plan::read(list).unwrap();
+        let proof = Proof::of(&plan, &[], Duration::MAX, &mut |_| ());
+        assert_eq!(proof.outcome(), Outcome::NotProved);
+        let [always, sometimes] = &proof.findings[..] else {
+            panic!("{proof:?}");
+        };
+        assert_eq!(
+            (always.name(), &always.verdict),
+            ("exit 7".to_string(), &Verdict::Open)
+        );
+        assert!(matches!(sometimes.verdict, Verdict::False(_)), "{proof:?}");
+    }
+
+    #[test]
+    fn only_main_and_floor_have_premises_that_are_asked() {
+        let opposite = |kind| {
+            let list = vec![25, 19, 1, 0, 2, 0, 16, kind, 9, 7, 1];
+            let plan = Plan::read(list).unwrap();
+            let condition = plan.conditions().next().unwrap();
+            opposite_of_premise(condition).map(|opposite| opposite.words().to_vec())
+        };
+        let with_kind = |kind| Some(vec![22, 19, 1, 0, 2, 0, kind, 9, 6, 1]);
+        assert_eq!([2, 4].map(opposite), [2, 4].map(with_kind));
+        assert_eq!([1, 3, 5].map(opposite), [None, None, None]);
+    }
+}

@@ -1,0 +1,242 @@
+//! What solvers and the evaluator together say of a condition.
+
+use std::collections::BTreeMap;
+
+use evaluator::{Evaluator, FalsePart, Name, State, Whole};
+
+use crate::solvers::{Replied, Reply};
+
+#[derive(Clone, Debug, PartialEq)]
+pub enum Verdict {
+    True,
+    False(Refutation),
+    Open,
+    Contradiction(Contradiction),
+}
+
+/// A state in which a condition is false.
+#[derive(Clone, Debug, PartialEq)]
+pub struct Refutation {
+    pub state: State,
+    /// The words of the part that makes it false.
+    pub part: Vec<i32>,
+    /// The values of the part's sides, where it compares.
+    pub sides: Option<[Whole; 2]>,
+}
+
+/// Why a solver is not believed.
+#[derive(Clone, Debug, PartialEq)]
+pub enum Contradiction {
+    /// It says false, and gives no values that can be read.
+    NoValues { solver: &'static str },
+    /// It says false, and its values are too long to be checked.
+    TooLong { solver: &'static str },
+    /// It says false, and the condition is true in its values.
+    TrueThere { solver: &'static str, values: State },
+    /// It says true, and the condition is false in a state.
+    FalseSomewhere { solver: &'static str, state: State },
+}
+
+impl Verdict {
+    /// No value is believed: the condition is evaluated in all of them. What
+    /// solvers say is true is tried in some states, and so is what they leave
+    /// open.
+    pub fn of(condition: &Evaluator, replies: &[Replied]) -> Verdict {
+        let states = match refuting(condition, replies) {
+            Ok(states) => states,
+            Err(contradiction) => return Verdict::Contradiction(contradiction),
+        };
+        let states = states.into_iter().chain(condition.find_false());
+        let refutation = Refutation::nearest(condition, states);
+        let is_unsat = |replied: &&Replied| replied.reply == Reply::Unsat;
+        match (replies.iter().find(is_unsat), refutation) {
+            (Some(Replied { solver, .. }), Some(Refutation { state, .. })) => {
+                Verdict::Contradiction(Contradiction::FalseSomewhere { solver, state })
+            }
+            (Some(_), None) => Verdict::True,
+            (None, Some(refutation)) => Verdict::False(refutation),
+            (None, None) => Verdict::Open,
+        }
+    }
+}
+
+impl Refutation {
+    /// The one nearest to 0, after each state was brought as near as may be.
+    /// Nothing where the condition is true in all of them.
+    fn nearest(condition: &Evaluator, states: impl Iterator<Item = State>) -> Option<Refutation> {
+        let simplified = states.map(|state| condition.simplified(&state));
+        let state = simplified.min_by_key(State::distance)?;
+        let FalsePart { formula, sides } = condition.false_part(&state)?;
+        let part = formula.words().to_vec();
+        Some(Refutation { state, part, sides })
+    }
+}
+
+/// The states that solvers give, if the condition is false in all of them.
+fn refuting(condition: &Evaluator, replies: &[Replied]) -> Result<Vec<State>, Contradiction> {
+    let state = |replied: &Replied| match &replied.reply {
+        Reply::Sat(values) => Some(falsifying(condition, replied.solver, values.as_ref())),
+        _ => None,
+    };
+    replies.iter().filter_map(state).collect()
+}
+
+/// The state that a solver's values are, if the condition is false there.
+fn falsifying(
+    condition: &Evaluator,
+    solver: &'static str,
+    values: Option<&BTreeMap<String, String>>,
+) -> Result<State, Contradiction> {
+    let values = values
+        .and_then(state)
+        .ok_or(Contradiction::NoValues { solver })?;
+    match condition.truth(&values) {
+        Some(false) => Ok(values),
+        Some(true) => Err(Contradiction::TrueThere { solver, values }),
+        None => Err(Contradiction::TooLong { solver }),
+    }
+}
+
+fn state(values: &BTreeMap<String, String>) -> Option<State> {
+    let values = values.iter();
+    let named = values.map(|(constant, value)| Some((name(constant)?, value.parse().ok()?)));
+    named.collect()
+}
+
+/// What a constant of a solver's script stands for. Frozen names are `f` there,
+/// other variables `v`.
+fn name(constant: &str) -> Option<Name> {
+    let number = constant.get(1..)?.parse().ok()?;
+    match constant.as_bytes()[0] {
+        b'v' | b'f' => Some(Name::Variable(number)),
+        b'm' => Some(Name::Mark(number)),
+        _ => None,
+    }
+}
+
+#[cfg(test)]
+mod tests {
+    use super::*;
+    use leqwarti::Formula;
+    use std::time::Duration;
+
+    use Contradiction::{FalseSomewhere, NoValues, TrueThere};
+
+    /// v0 + v0 = 24691358 implies v1 <> 5: false in one state, which is not small.
+    const RARELY_FALSE: [i32; 14] = [25, 20, 3, 2, 0, 2, 0, 1, 24_691_358, 21, 2, 1, 1, 5];
+    const NEVER_FALSE: [i32; 5] = [20, 2, 0, 2, 0];
+    const OFTEN_FALSE: [i32; 5] = [20, 2, 0, 2, 1];
+
+    fn verdict<const N: usize>(words: &[i32], replies: [Reply; N]) -> Verdict {
+        let condition = Evaluator::of(Formula::new(words)).unwrap();
+        let replies = ["z3", "cvc5"].into_iter().zip(replies);
+        let replies = replies.map(|(solver, reply)| Replied {
+            solver,
+            reply,
+            time: Duration::ZERO,
+        });
+        Verdict::of(&condition, &replies.collect::<Vec<_>>())
+    }
+
+    fn sat(values: &[(&str, &str)]) -> Reply {
+        let owned = |(name, value): &(&str, &str)| (name.to_string(), value.to_string());
+        Reply::Sat(Some(values.iter().map(owned).collect()))
+    }
+
+    fn values(values: [i32; 2]) -> State {
+        let named = values.into_iter().enumerate();
+        let named = named.map(|(number, value)| (Name::Variable(number), value.into()));
+        named.collect()
+    }
+
+    fn refuted(verdict: Verdict) -> State {
+        match verdict {
+            Verdict::False(refutation) => refutation.state,
+            _ => panic!("{verdict:?}"),
+        }
+    }
+
+    const RARE: [(&str, &str); 2] = [("v0", "12345679"), ("v1", "5")];
+
+    #[test]
+    fn one_solver_that_decides_is_enough() {
+        let nonsense = || Reply::Failed("banana".to_string());
+        for other in [Reply::Undecided, nonsense()] {
+            let verdicts = [
+                verdict(&NEVER_FALSE, [Reply::Unsat, other.clone()]),
+                verdict(&NEVER_FALSE, [other.clone(), Reply::Unsat]),
+            ];
+            assert_eq!(verdicts, [Verdict::True, Verdict::True]);
+            for replies in [[sat(&RARE), other.clone()], [other.clone(), sat(&RARE)]] {
+                let state = refuted(verdict(&RARELY_FALSE, replies));
+                assert_eq!(state, values([12_345_679, 5]));
+            }
+        }
+        assert_eq!(verdict(&NEVER_FALSE, [Reply::Unsat]), Verdict::True);
+    }
+
+    #[test]
+    fn what_nobody_decides_is_open_unless_a_small_state_shows_it() {
+        let undecided = || [Reply::Undecided, Reply::Undecided];
+        assert_eq!(verdict(&NEVER_FALSE, undecided()), Verdict::Open);
+        assert_eq!(verdict(&RARELY_FALSE, undecided()), Verdict::Open);
+        assert_eq!(verdict(&NEVER_FALSE, []), Verdict::Open);
+        let state = refuted(verdict(&OFTEN_FALSE, undecided()));
+        assert_eq!(state, values([1, 0]));
+    }
+
+    #[test]
+    fn values_that_leave_the_condition_true_are_a_contradiction() {
+        let there = [("v0", "12345679"), ("v1", "6")];
+        let told = Verdict::Contradiction(TrueThere {
+            solver: "z3",
+            values: values([12_345_679, 6]),
+        });
+        for other in [Reply::Unsat, Reply::Undecided, sat(&RARE)] {
+            assert_eq!(verdict(&RARELY_FALSE, [sat(&there), other]), told);
+        }
+    }
+
+    #[test]
+    fn a_state_that_is_none_is_a_contradiction() {
+        let told = Verdict::Contradiction(NoValues { solver: "cvc5" });
+        for reply in [
+            Reply::Sat(None),
+            sat(&[("v0", "1x")]),
+            sat(&[("", "1")]),
+            sat(&[("x", "1")]),
+            sat(&[("\u{e9}0", "1")]),
+        ] {
+            assert_eq!(verdict(&OFTEN_FALSE, [Reply::Unsat, reply]), told);
+        }
+    }
+
+    #[test]
+    fn a_solver_that_says_true_of_what_is_false_is_told() {
+        let told = |solver, state| Verdict::Contradiction(FalseSomewhere { solver, state });
+        let state = || values([12_345_679, 5]);
+        assert_eq!(
+            verdict(&RARELY_FALSE, [Reply::Unsat, sat(&RARE)]),
+            told("z3", state())
+        );
+        assert_eq!(
+            verdict(&RARELY_FALSE, [sat(&RARE), Reply::Unsat]),
+            told("cvc5", state())
+        );
+        assert_eq!(
+            verdict(&OFTEN_FALSE, [Reply::Unsat]),
+            told("z3", values([1, 0]))
+        );
+        assert_eq!(verdict(&RARELY_FALSE, [Reply::Unsat]), Verdict::True);
+    }
+
+    #[test]
+    fn constants_of_scripts_are_names() {
+        assert_eq!(name("v1023"), Some(Name::Variable(1_023)));
+        assert_eq!(name("f128"), Some(Name::Variable(128)));
+        assert_eq!(name("m15"), Some(Name::Mark(15)));
+        for other in ["", "v", "x0", "v-1", "vx", "15"] {
+            assert_eq!(name(other), None, "{other}");
+        }
+    }
+}

@@ -1,0 +1,97 @@
+//! The solvers that there are, and how they are started.
+
+use std::env;
+use std::ffi::OsStr;
+use std::fs;
+use std::os::unix::fs::PermissionsExt;
+use std::path::{Path, PathBuf};
+use std::process::Command;
+use std::time::Duration;
+
+/// A solver on the PATH.
+#[derive(Clone, Debug, PartialEq, Eq)]
+pub struct Solver {
+    pub(super) name: &'static str,
+    pub(super) program: PathBuf,
+}
+
+impl Solver {
+    /// z3 and then cvc5, each where one of the folders has it.
+    pub fn on_path(path: Option<&OsStr>) -> Vec<Solver> {
+        let folders: Vec<PathBuf> = path.map(env::split_paths).into_iter().flatten().collect();
+        let found = |name| {
+            let program = program(name, &folders)?;
+            Some(Solver { name, program })
+        };
+        ["z3", "cvc5"].into_iter().filter_map(found).collect()
+    }
+
+    pub fn name(&self) -> &'static str {
+        self.name
+    }
+
+    /// Has the solver read a script from standard input. Its own time limit is
+    /// there only so that it ends some time after a command that was killed.
+    pub(super) fn command(&self, limit: Duration) -> Command {
+        let seconds = own_limit(limit);
+        let mut command = Command::new(&self.program);
+        match self.name {
+            "z3" => command.args(["-in", "-smt2", &format!("-T:{seconds}")]),
+            _ => command.args([
+                "--lang=smt2",
+                "--produce-models",
+                &format!("--tlimit={seconds}000"),
+            ]),
+        };
+        command
+    }
+}
+
+/// The first executable file of that name. A folder without a name is the current
+/// one.
+fn program(name: &str, folders: &[PathBuf]) -> Option<PathBuf> {
+    let in_folder = |folder: &PathBuf| Path::new(".").join(folder).join(name);
+    folders
+        .iter()
+        .map(in_folder)
+        .find(|file| is_executable(file))
+}
+
+fn is_executable(file: &Path) -> bool {
+    fs::metadata(file).is_ok_and(|found| found.is_file() && found.permissions().mode() & 0o111 != 0)
+}
+
+/// In seconds, and late enough for the values after a verdict in the last moment.
+fn own_limit(limit: Duration) -> u64 {
+    limit.as_secs().saturating_add(3)
+}
+
+#[cfg(test)]
+mod tests {
+    use super::*;
+
+    #[test]
+    fn the_limit_of_a_solver_is_later_than_ours() {
+        for (milliseconds, seconds) in [(1, 3), (500, 3), (10_000, 13), (10_001, 13)] {
+            let limit = Duration::from_millis(milliseconds);
+            assert_eq!(own_limit(limit), seconds);
+            assert!(Duration::from_secs(own_limit(limit)) > limit + Duration::from_secs(1));
+        }
+    }
+
+    #[test]
+    fn without_a_path_there_is_no_solver() {
+        assert_eq!(Solver::on_path(None), []);
+    }
+
+    #[test]
+    fn a_folder_without_a_name_is_the_current_one() {
+        let folders = [PathBuf::new()];
+        assert_eq!(program("no such solver", &folders), None);
+        // A program without a folder would be looked for on the PATH.
+        assert_eq!(
+            Path::new(".").join(&folders[0]).join("z3"),
+            Path::new("./z3")
+        );
+    }
+}

@@ -1,0 +1,105 @@
+//! How long pretended solvers may take, and that they are ended.
+
+mod pretended;
+
+use std::fs;
+use std::path::Path;
+use std::thread::available_parallelism;
+use std::time::{Duration, Instant};
+
+use cli::solvers::{Reply, Solver};
+use pretended::{asked, folder, replies, sat, READS, SCRIPT};
+
+const ENOUGH: Duration = Duration::from_secs(20);
+const SHORT: Duration = Duration::from_millis(500);
+const SECOND: Duration = Duration::from_secs(1);
+
+#[test]
+fn values_have_a_second_after_the_limit() {
+    let silent = format!("{READS}echo sat; exec sleep 60");
+    let (replied, time) = asked(&silent, SCRIPT, SHORT);
+    assert_eq!(replied.reply, Reply::Sat(None));
+    assert!(replied.time < SECOND, "{replied:?}");
+    assert!(time > SECOND && time < 3 * SECOND, "{time:?}");
+
+    let slow = format!("{READS}echo sat; sleep 0.8; echo '((v0 1) (m15 2))'");
+    let (replied, _) = asked(&slow, SCRIPT, SHORT);
+    assert_eq!(replied.reply, sat(&[("v0", "1"), ("m15", "2")]));
+}
+
+#[test]
+fn a_solver_that_takes_too_long_is_ended() {
+    for does in ["exec sleep 60", "sleep 60", "sleep 60 & sleep 60"] {
+        let (replied, time) = asked(does, SCRIPT, SHORT);
+        assert_eq!(replied.reply, Reply::Undecided);
+        assert!(replied.time >= SHORT && replied.time <= time);
+        assert!(time < 2 * SECOND, "{time:?}");
+    }
+}
+
+#[test]
+fn nothing_is_left_of_a_process() {
+    for does in [
+        "exec sleep 60",
+        "echo unsat; exec sleep 60",
+        "echo unsat",
+        "exit 1",
+    ] {
+        let folder = folder(&[("z3", &format!("echo $$ > \"$0.number\"; {does}"))]);
+        let solvers = Solver::on_path(Some(folder.as_os_str()));
+        replies(SCRIPT, &solvers, SECOND);
+        let number = fs::read_to_string(folder.join("z3.number")).unwrap();
+        let process = Path::new("/proc").join(number.trim());
+        assert!(!process.exists(), "{does}");
+    }
+}
+
+#[test]
+fn once_one_has_decided_the_other_has_a_second() {
+    // On one core the first is through before the other begins.
+    let cores = available_parallelism().unwrap().get();
+    for decides in ["echo unsat", "echo sat"] {
+        for at_once in ["z3", "cvc5"].into_iter().take(cores) {
+            let does = |name| match name == at_once {
+                true => decides,
+                false => "exec sleep 60",
+            };
+            let folder = folder(&[("z3", does("z3")), ("cvc5", does("cvc5"))]);
+            let solvers = Solver::on_path(Some(folder.as_os_str()));
+            let begun = Instant::now();
+            for replied in replies(SCRIPT, &solvers, ENOUGH) {
+                let is_slow = replied.solver != at_once;
+                assert_eq!(replied.reply == Reply::Undecided, is_slow, "{replied:?}");
+                assert_eq!(replied.time >= SECOND, is_slow, "{replied:?}");
+            }
+            assert!(begun.elapsed() < 4 * SECOND, "{:?}", begun.elapsed());
+        }
+    }
+}
+
+#[test]
+fn once_one_has_decided_the_other_has_twice_its_time() {
+    let solvers = [
+        ("z3", "sleep 0.9; echo unsat"),
+        ("cvc5", "sleep 1.3; echo unsat"),
+    ];
+    let solvers = Solver::on_path(Some(folder(&solvers).as_os_str()));
+    for replied in replies(SCRIPT, &solvers, ENOUGH) {
+        assert_eq!(replied.reply, Reply::Unsat, "{replied:?}");
+    }
+}
+
+#[test]
+fn what_failed_has_decided_nothing() {
+    for decides_nothing in [
+        "echo unsat; echo sat",
+        "echo banana",
+        "echo unknown",
+        "exit 1",
+    ] {
+        let solvers = [("z3", decides_nothing), ("cvc5", "sleep 1.2; echo unsat")];
+        let solvers = Solver::on_path(Some(folder(&solvers).as_os_str()));
+        let replies = replies(SCRIPT, &solvers, ENOUGH);
+        assert_eq!(replies[1].reply, Reply::Unsat, "{decides_nothing}");
+    }
+}

@@ -1,0 +1,147 @@
+//! `./vcgen`, the script at the top: what it looks at before anything is built. It
+//! runs in a tree of its own, where `rt` and `cargo` only pretend to build.
+
+mod files;
+mod pretended;
+mod proving;
+
+use std::fs;
+use std::path::PathBuf;
+use std::process::{Command, Stdio};
+use std::{env, ffi::OsString};
+
+use files::top;
+use pretended::folder;
+use proving::{run, Run};
+
+/// The library is an empty file.
+const RT: &str = "echo library >> built; : > target/staticlib/libexports.a";
+
+/// The command prints its arguments.
+const CARGO: &str = "echo command >> ../built; mkdir -p target/release
+printf '#!/bin/sh\\nfor argument; do echo \"<$argument>\"; done\\n' > target/release/vcgen
+chmod +x target/release/vcgen";
+
+struct Tree {
+    folder: PathBuf,
+}
+
+impl Tree {
+    /// With the script, its help and two files, one of which is called 5.
+    fn new() -> Tree {
+        let folder = folder(&[("rt", RT), ("cargo", CARGO)]);
+        let sources = folder.join("rust/cli/src");
+        fs::create_dir_all(&sources).unwrap();
+        fs::create_dir(folder.join("crates")).unwrap();
+        fs::copy(top().join("vcgen"), folder.join("vcgen")).unwrap();
+        fs::write(sources.join("help.txt"), cli::HELP).unwrap();
+        for file in ["crates.txt", "a.script", "5"] {
+            fs::write(folder.join(file), "").unwrap();
+        }
+        Tree { folder }
+    }
+
+    /// `./vcgen` with some arguments, which blanks part.
+    fn vcgen(&self, arguments: &str) -> Run {
+        let mut path = OsString::from(&self.folder);
+        path.push(":");
+        path.push(env::var_os("PATH").unwrap());
+        let mut vcgen = Command::new("bash");
+        vcgen
+            .arg("vcgen")
+            .args(arguments.split_whitespace())
+            .env("PATH", path)
+            .current_dir(&self.folder)
+            .stdin(Stdio::piped())
+            .stdout(Stdio::piped())
+            .stderr(Stdio::piped());
+        run(vcgen, "")
+    }
+
+    fn is_built(&self) -> bool {
+        self.folder.join("built").exists()
+    }
+}
+
+#[test]
+fn wrong_usage_builds_nothing() {
+    let tree = Tree::new();
+    for arguments in [
+        "prove",
+        "prove --json",
+        "prove --timeout 5",
+        "prove --timeout a.script",
+        "prove --json --timeout 5",
+        "prove a.script 5",
+        "prove a.script --timeout 5 a.script",
+        "list",
+        "smt",
+        "",
+    ] {
+        let run = tree.vcgen(arguments);
+        let written = (run.status, &run.out[..], &run.error[..]);
+        assert_eq!(written, (Some(2), "", cli::HELP), "{arguments}");
+    }
+    assert!(!tree.is_built());
+}
+
+#[test]
+fn a_file_that_is_not_there_builds_nothing() {
+    let tree = Tree::new();
+    for arguments in [
+        "prove none",
+        "prove --timeout 5 none",
+        "prove none --timeout 5",
+        "prove --json none",
+        "list none",
+        "none",
+    ] {
+        let run = tree.vcgen(arguments);
+        let written = (run.status, &run.out[..], &run.error[..]);
+        assert_eq!(
+            written,
+            (Some(2), "", "vcgen: cannot read none\n"),
+            "{arguments}"
+        );
+    }
+    assert!(!tree.is_built());
+}
+
+#[test]
+fn the_help_needs_no_command() {
+    let tree = Tree::new();
+    for arguments in ["--help", "prove --help", "prove a.script -h"] {
+        let run = tree.vcgen(arguments);
+        assert_eq!(
+            (run.status, &run.out[..]),
+            (Some(0), cli::HELP),
+            "{arguments}"
+        );
+    }
+    assert!(!tree.is_built());
+}
+
+#[test]
+fn what_is_built_gets_the_arguments_as_they_are() {
+    let tree = Tree::new();
+    for arguments in [
+        "prove a.script",
+        "prove --timeout 5 a.script",
+        "prove a.script --json --timeout 0.5",
+        "prove 5",
+        "prove -",
+        "list --words a.script",
+        "smt a.script 5",
+        "smt --into none a.script",
+        "a.script",
+    ] {
+        let passed: String = arguments
+            .split(' ')
+            .map(|one| format!("<{one}>\n"))
+            .collect();
+        let run = tree.vcgen(arguments);
+        assert_eq!((run.status, run.out), (Some(0), passed), "{arguments}");
+    }
+    let built = files::text(&tree.folder.join("built"));
+    assert_eq!(built.matches("library").count(), 1);
+}
