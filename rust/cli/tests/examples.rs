@@ -7,6 +7,8 @@ mod files;
 use cli::{Rows, Source};
 use command::{vcgen, written};
 use files::{expected, name, rows, text, texts, top};
+use leqwarti::{LARGEST_SCRATCH, LONGEST_LIST};
+use reference::output_with;
 
 #[test]
 fn every_example_gives_what_is_stored_beside_it() {
@@ -30,17 +32,7 @@ fn the_words_are_those_of_the_second_implementation() {
         let Ok(source) = Source::read(content.as_bytes()) else {
             continue;
         };
-        let bytes: Vec<u8> = source
-            .words()
-            .iter()
-            .flat_map(|word| word.to_le_bytes())
-            .collect();
-        let expected = String::from_utf8(reference::program_output(&bytes)).unwrap();
-        assert!(
-            !expected.starts_with("refused 12"),
-            "{} is too long",
-            name(&file)
-        );
+        let expected = output_with(source.words(), LONGEST_LIST, LARGEST_SCRATCH);
         for arguments in [&["--words", "-"][..], &["list", "--words", "-"]] {
             let output = vcgen(arguments, &content);
             assert_eq!(written(&output).1, expected, "{}", file.display());
@@ -69,16 +61,12 @@ fn the_list_of_examples_names_each() {
     }
 }
 
-/// README.md shows the countdown in full, what is printed of a text that is
+/// README.md shows the countdown's conditions, what is printed of a text that is
 /// refused, and a condition for a guard that divides.
 #[test]
 fn the_readme_shows_examples_as_they_are() {
     let readme = text(&top().join("README.md"));
-    for file in [
-        "countdown.script",
-        "countdown.script.expected",
-        "no-invariant.script.expected",
-    ] {
+    for file in ["countdown.script.expected", "no-invariant.script.expected"] {
         assert!(readme.contains(&indented(&example(file))), "{file}");
     }
     let answer = example("pump-stop.script.expected");

@@ -32,7 +32,7 @@ pub use evaluate::{worked_out_truth, worked_out_value, NoValue};
 pub use generate::{generate, need, Need, Outcome, LONGEST_LIST};
 pub use kinds::{shape, Role, Shape, Sort};
 pub use list::{is_whole_formula, line_at, lines, Line, ListReader};
-pub use program::program_output;
+pub use program::{output_with, program_output};
 pub use run::{run, run_observed, Arrival, End, Run};
 pub use script_text::{read_text, TextAnswer};
 pub use smt::{smt, Written};

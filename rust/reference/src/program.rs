@@ -16,12 +16,16 @@ pub fn program_output(bytes: &[u8]) -> Vec<u8> {
     }
     let word = |four: &[u8]| i32::from_le_bytes([four[0], four[1], four[2], four[3]]);
     let words: Vec<i32> = bytes.chunks(4).map(word).collect();
-    let outcome = generate(&words, ROOM, SCRATCH);
-    let text = match outcome.number {
+    output_with(&words, ROOM, SCRATCH).into_bytes()
+}
+
+/// The same of a table's words, with a list buffer and a scratch of these lengths.
+pub fn output_with(words: &[i32], room: usize, scratch: usize) -> String {
+    let outcome = generate(words, room, scratch);
+    match outcome.number {
         0 => planned(&outcome),
         number => refused(number, outcome.row),
-    };
-    text.into_bytes()
+    }
 }
 
 fn refused(number: u8, row: usize) -> String {

@@ -20,6 +20,15 @@ pub fn texts() -> Vec<PathBuf> {
     examples("script")
 }
 
+/// Each example once, by name: its rows, or its text where it has no rows.
+pub fn each() -> Vec<PathBuf> {
+    let mut files = texts();
+    files.retain(|file| !file.with_extension("rows").exists());
+    files.extend(rows());
+    files.sort();
+    files
+}
+
 fn examples(extension: &str) -> Vec<PathBuf> {
     let folder = fs::read_dir(top().join("examples")).unwrap();
     let mut files: Vec<PathBuf> = folder.map(|entry| entry.unwrap().path()).collect();
