@@ -120,7 +120,7 @@ mod tests {
     use leqwarti::Formula;
     use std::time::Duration;
 
-    use Contradiction::{FalseSomewhere, NoValues, TrueThere};
+    use Contradiction::{FalseSomewhere, NoValues, TooLong, TrueThere};
 
     /// v0 + v0 = 24691358 implies v1 <> 5: false in one state, which is not small.
     const RARELY_FALSE: [i32; 14] = [25, 20, 3, 2, 0, 2, 0, 1, 24_691_358, 21, 2, 1, 1, 5];
@@ -209,6 +209,18 @@ mod tests {
         ] {
             assert_eq!(verdict(&OFTEN_FALSE, [Reply::Unsat, reply]), told);
         }
+    }
+
+    /// 500 times ten thousand digits, multiplied.
+    #[test]
+    fn values_that_cannot_be_checked_are_a_contradiction() {
+        let product = [[5, 2, 0].repeat(500), vec![2, 0]].concat();
+        let words = [&[19][..], &product, &[1, 5]].concat();
+        let digits = "9".repeat(10_000);
+        let told = Verdict::Contradiction(TooLong { solver: "z3" });
+        assert_eq!(verdict(&words, [sat(&[("v0", &digits)])]), told);
+        let state = refuted(verdict(&words, [sat(&[("v0", "9")])]));
+        assert_eq!(state.iter().count(), 1);
     }
 
     #[test]
