@@ -5,10 +5,12 @@ mod files;
 mod pretended;
 mod proving;
 
+use std::env;
+use std::ffi::{OsStr, OsString};
 use std::fs;
+use std::os::unix::fs::symlink;
 use std::path::PathBuf;
 use std::process::{Command, Stdio};
-use std::{env, ffi::OsString};
 
 use files::top;
 use pretended::folder;
@@ -43,9 +45,14 @@ impl Tree {
 
     /// `./vcgen` with some arguments, which blanks part.
     fn vcgen(&self, arguments: &str) -> Run {
+        self.vcgen_beside(&env::var_os("PATH").unwrap(), arguments)
+    }
+
+    /// The same with other folders beside the one that pretends to build.
+    fn vcgen_beside(&self, folders: &OsStr, arguments: &str) -> Run {
         let mut path = OsString::from(&self.folder);
         path.push(":");
-        path.push(env::var_os("PATH").unwrap());
+        path.push(folders);
         let mut vcgen = Command::new("bash");
         vcgen
             .arg("vcgen")
@@ -63,10 +70,20 @@ impl Tree {
     }
 }
 
+/// All of these give the same, and nothing is built.
+fn assert_unbuilt(all_arguments: &[&str], expected: (Option<i32>, &str, &str)) {
+    let tree = Tree::new();
+    for arguments in all_arguments {
+        let run = tree.vcgen(arguments);
+        let written = (run.status, &run.out[..], &run.error[..]);
+        assert_eq!(written, expected, "{arguments}");
+    }
+    assert!(!tree.is_built());
+}
+
 #[test]
 fn wrong_usage_builds_nothing() {
-    let tree = Tree::new();
-    for arguments in [
+    let all_arguments = [
         "prove",
         "prove --json",
         "prove --timeout 5",
@@ -77,48 +94,62 @@ fn wrong_usage_builds_nothing() {
         "list",
         "smt",
         "",
-    ] {
-        let run = tree.vcgen(arguments);
-        let written = (run.status, &run.out[..], &run.error[..]);
-        assert_eq!(written, (Some(2), "", cli::HELP), "{arguments}");
-    }
-    assert!(!tree.is_built());
+    ];
+    assert_unbuilt(&all_arguments, (Some(2), "", cli::HELP));
 }
 
 #[test]
 fn a_file_that_is_not_there_builds_nothing() {
-    let tree = Tree::new();
-    for arguments in [
+    let all_arguments = [
         "prove none",
         "prove --timeout 5 none",
         "prove none --timeout 5",
         "prove --json none",
         "list none",
         "none",
-    ] {
-        let run = tree.vcgen(arguments);
-        let written = (run.status, &run.out[..], &run.error[..]);
-        assert_eq!(
-            written,
-            (Some(2), "", "vcgen: cannot read none\n"),
-            "{arguments}"
-        );
-    }
-    assert!(!tree.is_built());
+    ];
+    assert_unbuilt(&all_arguments, (Some(2), "", "vcgen: cannot read none\n"));
 }
 
 #[test]
 fn the_help_needs_no_command() {
-    let tree = Tree::new();
-    for arguments in ["--help", "prove --help", "prove a.script -h"] {
-        let run = tree.vcgen(arguments);
-        assert_eq!(
-            (run.status, &run.out[..]),
-            (Some(0), cli::HELP),
-            "{arguments}"
-        );
+    let all_arguments = ["--help", "prove --help", "prove a.script -h"];
+    assert_unbuilt(&all_arguments, (Some(0), cli::HELP, ""));
+}
+
+/// What the script and the pretended builds run.
+const TOOLS: [&str; 12] = [
+    "bash", "cat", "chmod", "dirname", "find", "flock", "mkdir", "readlink", "rm", "sh", "tail",
+    "touch",
+];
+
+/// A folder with these tools, and so without solvers.
+fn tools() -> PathBuf {
+    let tools = folder(&[]);
+    let path = env::var_os("PATH").unwrap();
+    for tool in TOOLS {
+        let mut places = env::split_paths(&path).map(|folder| folder.join(tool));
+        let place = places.find(|place| place.is_file()).unwrap();
+        symlink(place, tools.join(tool)).unwrap();
     }
+    tools
+}
+
+/// Nobody waits for a build to be told so; what needs no solver is built without.
+#[test]
+fn without_a_solver_nothing_is_built_to_prove() {
+    let (tree, tools) = (Tree::new(), tools());
+    let run = |arguments| tree.vcgen_beside(tools.as_os_str(), arguments);
+    let told =
+        "vcgen: neither z3 nor cvc5 is on the PATH; Debian's packages z3 and cvc5 have them\n";
+    let proved = run("prove a.script");
+    let written = (proved.status, &proved.out[..], &proved.error[..]);
+    assert_eq!(written, (Some(3), "", told));
     assert!(!tree.is_built());
+
+    assert_eq!(run("list a.script").out, "<list>\n<a.script>\n");
+    assert!(tree.is_built());
+    assert_eq!(run("prove a.script").out, "<prove>\n<a.script>\n");
 }
 
 #[test]

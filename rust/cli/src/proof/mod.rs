@@ -38,7 +38,8 @@ pub struct Finding {
 pub enum Outcome {
     Proved,
     NotProved,
-    /// Solvers contradict each other or the evaluator.
+    /// A solver contradicts another one or the evaluator, or its values were not
+    /// checked.
     Contradicted,
 }
 
