@@ -2,20 +2,24 @@
 -- demand 3 alone at one table: all that they list is true, and a run fails for a zero divisor. Left out at an assignment, an if
 -- or a while, and nowhere else (`assigned-alone-by-3`, `tested-alone-by-3`, `guard-lost-by-3`); at all three, as before P5
 -- (`former-by-3`); too weak at a connective, under an assignment, or in kind 5 (`short-circuit-by-3`, `first-side-only-by-3`,
--- `later-divisors-kept-by-3`, `guard-behind-itself-by-3`). Assumes nothing.
-use Prim.Native.Nat.{_≤_}
+-- `later-divisors-kept-by-3`, `guard-behind-itself-by-3`); at a while only where it is arrived at (`asked-on-arrival-by-3`).
+-- Assumes nothing.
+use Prim.Native.Nat.{zero, suc, _≤_}
+use native.Mathlib.Omega.{arith as linear}
 use mathlib.Core.Path.{_≡_, refl}
 use mathlib.Core.Bool.{Bool, true, false, _&&_, _||_}
 use mathlib.Core.Bool as Bool
 use mathlib.Core.Option.{some}
 use mathlib.Core.List.{List, []}
+use borrow.Author.Tests.{ne-eqb}
 use lib.Dec.{T, lit≤}
-use lib.IntN.{ℤ, pos, _-ℤ_}
+use lib.IntN.{ℤ, pos, negsuc, negℤ, _-ℤ_}
+use lib.Signed.{leZ, ltZ}
 use lib.ListN.{length}
 use Rattle.script.specs.declared.Operator.the-variants.{Minus, Div}
 use Rattle.script.specs.declared.Relation.the-variants.{Equal}
-use Rattle.script.specs.declared.Connective.the-variants.{And}
-use Rattle.script.specs.Syntax.{Expr, const, var, arith, Formula, truth, cmp, join, skip, assign, branch, loop, Tree}
+use Rattle.script.specs.declared.Connective.the-variants.{And, Or}
+use Rattle.script.specs.Syntax.{Expr, const, var, arith, neg, Formula, truth, cmp, join, skip, assign, branch, loop, Tree}
 use Rattle.script.specs.Meaning.{eqZ, whole, value, holds, defined, definedᶠ}
 use Rattle.script.specs.Run.{zero-divisor, step, step-of, first-step, test, after}
 use Rattle.script.specs.Conditions.{Condition, conditions, walk, wp, divisors, divisorsᶠ, subst-expr, subst-formula}
@@ -32,7 +36,7 @@ use Rattle.theorems.specs.NoDivision.{outcome-for₀, outcome₀}
 use Rattle.theorems.specs.Bodies.{Body, Demanded, Lists, planned, Failing, lists-valid}
 use Rattle.theorems.specs.WrongItems.{divisors-by, divisors-byᶠ}
 use Rattle.theorems.specs.WrongRules.{wp-by, walk-by, conditions-by}
-use Rattle.theorems.specs.WrongDivisors.{short-circuit, first-side-only, assigned-alone, later-divisors-kept, tested-alone, guard-lost, guard-behind-itself}
+use Rattle.theorems.specs.WrongDivisors.{short-circuit, first-side-only, assigned-alone, later-divisors-kept, tested-alone, guard-lost, asked-on-arrival, guard-behind-itself}
 
 -- ---- tables, whose runs from the state of zeros divide by zero
 
@@ -70,6 +74,16 @@ after-assignment =
     ⨾ (1, 1, 0, 0) ⨾ (2, 1, 0, 0) ⨾ (1, 1, 0, 0) ⨾ (4, 10, 11, 0) ⨾ (6, 9, 12, 0) ⨾ (33, 0, 13, 0)
     ⨾ (34, 8, 14, 0) ⨾ (16, 0, 0, 0) ⨾ (48, 4, 15, 16) ⨾ []
 
+-- with v1 - 1 unequal to 0 for its precondition: while (true or 1 div (v1 - 1) = 0) and v1 = 0 (true, -v1) do v1 := 1. From v1 = 0
+-- the first test of the guard works out no zero divisor, and the second does
+unfoldable pub after-pass : List ℤ
+after-pass =
+    (2, 1, 0, 0) ⨾ (1, 1, 0, 0) ⨾ (4, 0, 1, 0) ⨾ (1, 0, 0, 0) ⨾ (21, 2, 3, 0)
+    ⨾ (16, 0, 0, 0) ⨾ (1, 1, 0, 0) ⨾ (2, 1, 0, 0) ⨾ (1, 1, 0, 0) ⨾ (4, 7, 8, 0) ⨾ (6, 6, 9, 0) ⨾ (1, 0, 0, 0) ⨾ (20, 10, 11, 0) ⨾ (24, 5, 12, 0)
+    ⨾ (2, 1, 0, 0) ⨾ (1, 0, 0, 0) ⨾ (20, 14, 15, 0) ⨾ (23, 13, 16, 0)
+    ⨾ (16, 0, 0, 0) ⨾ (2, 1, 0, 0) ⨾ (8, 19, 0, 0) ⨾ (37, 18, 20, 0) ⨾ (1, 1, 0, 0) ⨾ (33, 1, 22, 0) ⨾ (36, 17, 21, 23)
+    ⨾ (16, 0, 0, 0) ⨾ (48, 4, 24, 25) ⨾ []
+
 -- ---- 12 now: 7 words before, and 13 with D
 
 pub fitted-before : (outcome₀ in-assignment 7 14 .answer ≡ planned 1 7)
@@ -103,10 +117,30 @@ never = join And (truth false) (cmp Equal one-div (const (pos 0)))
 one-less : Expr
 one-less = arith Minus (var 1) (const (pos 1))
 
--- what later divisors that are kept come to: p, the precondition, says v1 - 1 unequal to 0
+-- what later divisors that are kept come to, and main where D is asked for on arrival: p, the precondition, says v1 - 1 unequal to 0
 kept : (p : Bool) → T (Bool.not p || (p && true))
 kept true = tt
 kept false = tt
+
+-- the guard of the while whose second test fails: it is true where v1 is 0
+once : Formula
+once = join And (join Or (truth true) (cmp Equal (arith Div (const (pos 1)) one-less) (const (pos 0)))) (cmp Equal (var 1) (const (pos 0)))
+
+either-way : (b : Bool) → T (Bool.not b || true)
+either-way true = tt
+either-way false = tt
+
+-- its floor and its step; x is v1, and m the mark
+floor-once : (x : ℤ) → T (Bool.not (eqZ x (pos 0)) || leZ (pos 0) (negℤ x))
+floor-once (pos zero) = tt
+floor-once (pos (suc n)) = rw (ne-eqb (suc n) 0 (λ e. omega linear)) tt
+floor-once (negsuc n) = tt
+
+step-once : (x m : ℤ) → T (Bool.not (eqZ x (pos 0) && eqZ (negℤ x) m) || ltZ (negsuc 0) m)
+step-once x (pos k) = either-way (eqZ x (pos 0) && eqZ (negℤ x) (pos k))
+step-once (pos zero) (negsuc k) = tt
+step-once (pos (suc n)) (negsuc k) = rw (ne-eqb (suc n) 0 (λ e. omega linear)) tt
+step-once (negsuc n) (negsuc k) = tt
 
 record Facts : Type 0 where
   assignment : Untold (conditions-by assigned-alone) in-assignment
@@ -117,9 +151,10 @@ record Facts : Type 0 where
   one-side : Untold (conditions-by first-side-only) in-if
   itself : Untold (conditions-by guard-behind-itself) in-while
   later : Untold (conditions-by later-divisors-kept) after-assignment
+  arrival : Untold (conditions-by asked-on-arrival) after-pass
 
 facts : Facts
-unfolding one-div never one-less in-assignment in-if in-while in-all after-assignment zero-state conditions-by walk-by wp-by divisors-by divisors-byᶠ conditions₀ walk₀ wp₀ _⨾_ verdict-within length-test row-test-within script-test unlinked-test target-test reading-test nesting-test lowest row-fault-within linked misread misreads row row-of expr formula stmt expr-at formula-at stmt-at tree nesting subst-expr subst-formula list-words all-lines line-words expr-words formula-words value holds defined definedᶠ after step step-of first-step test read-expr-within read-formula-within spelled-within found-within line-before-within lines-before-within lines-within read-list
+unfolding one-div never one-less once in-assignment in-if in-while in-all after-assignment after-pass zero-state conditions-by walk-by wp-by divisors-by divisors-byᶠ conditions₀ walk₀ wp₀ _⨾_ verdict-within length-test row-test-within script-test unlinked-test target-test reading-test nesting-test lowest row-fault-within linked misread misreads row row-of expr formula stmt expr-at formula-at stmt-at tree nesting subst-expr subst-formula list-words all-lines line-words expr-words formula-words value holds defined definedᶠ after step step-of first-step test read-expr-within read-formula-within spelled-within found-within line-before-within lines-before-within lines-within read-list
 facts =
     let at-assignment : Failing in-assignment =
     record { accepts = refl; need = lit≤ tt; pre = tt; steps = 1; cause = zero-divisor; due = assign 0 one-div; fails = refl } in
@@ -147,6 +182,16 @@ facts =
       due = assign 0 (arith Div (const (pos 1)) one-less);
       fails = refl;
     } in
+    let at-second-test : Failing after-pass =
+    record {
+      accepts = refl;
+      need = lit≤ tt;
+      pre = tt;
+      steps = 3;
+      cause = zero-divisor;
+      due = loop 24 once (truth true) (neg (var 1)) (assign 1 (const (pos 1)));
+      fails = refl;
+    } in
     record {
       assignment = record { fails = at-assignment; fits = lit≤ tt; listed = refl; valid = (λ s. tt, tt) };
       if = record { fails = at-if; fits = lit≤ tt; listed = refl; valid = (λ s. tt, tt) };
@@ -165,6 +210,18 @@ facts =
         fits = lit≤ tt;
         listed = refl;
         valid = (λ s. kept (Bool.not (eqZ (s .var 1 -ℤ pos 1) (pos 0))), tt);
+      };
+      arrival = record {
+        fails = at-second-test;
+        fits = lit≤ tt;
+        listed = refl;
+        valid = (
+          λ s. either-way (Bool.not (eqZ (s .var 1) (pos 0))),
+          (
+            λ s. floor-once (s .var 1),
+            (λ s. step-once (s .var 1) (s .mark 24), (λ s. kept (Bool.not (eqZ (s .var 1 -ℤ pos 1) (pos 0))), tt)),
+          ),
+        );
       };
     }
 
@@ -199,3 +256,7 @@ guard-behind-itself-by-3 = by-3 (conditions-by guard-behind-itself) in-while (fa
 -- D not under the assignments before it
 pub later-divisors-kept-by-3 : (f : Body) → Demanded f → Lists-conditions (conditions-by later-divisors-kept) f → ⊥
 later-divisors-kept-by-3 = by-3 (conditions-by later-divisors-kept) after-assignment (facts .later)
+
+-- D of a while's guard where it is arrived at, and not after a pass
+pub asked-on-arrival-by-3 : (f : Body) → Demanded f → Lists-conditions (conditions-by asked-on-arrival) f → ⊥
+asked-on-arrival-by-3 = by-3 (conditions-by asked-on-arrival) after-pass (facts .arrival)

@@ -1,6 +1,6 @@
 -- Wrong turns of 02, P5, each a change of one field of the rules (`WrongItems.Items` for D, `WrongRules.Weakest` for W,
--- `WrongRules.Listed` for the walk), and told from the right rule at one table of `DivisionFigures` (`other-words`).
--- Assumes nothing.
+-- `WrongRules.Listed` for the walk; `asked-on-arrival` of two), and told from the right rule at one table of `DivisionFigures`
+-- (`other-words`). Assumes nothing.
 use Prim.Native.Nat.{ℕ}
 use mathlib.Core.Option.{Option, none, some}
 use mathlib.Core.List.{List, [], _∷_, _++_}
@@ -139,7 +139,12 @@ abbrev with-weakest : Weakest → Rules
 with-weakest w = record { items = right-items; weakest = w; listed = right-listed }
 
 abbrev with-assigned : (Option Formula → ℕ → Expr → Formula → Formula) → Rules
-with-assigned a = with-weakest (record { assigned = a; tested = right-weakest .tested; asserted = right-weakest .asserted })
+with-assigned a = with-weakest (record {
+  assigned = a;
+  tested = right-weakest .tested;
+  asserted = right-weakest .asserted;
+  arrived = right-weakest .arrived;
+})
 
 -- an assignment without D(E)
 abbrev pub assigned-alone : Rules
@@ -168,6 +173,7 @@ tested-alone = with-weakest (record {
   assigned = right-weakest .assigned;
   tested = λ d f. f;
   asserted = right-weakest .asserted;
+  arrived = right-weakest .arrived;
 })
 
 -- "in annotations 01's totals stay"
@@ -176,6 +182,7 @@ assertion-divided = with-weakest (record {
   assigned = right-weakest .assigned;
   tested = right-weakest .tested;
   asserted = λ d a q. d and join And a q;
+  arrived = right-weakest .arrived;
 })
 
 -- ---- wrong conditions of kind 5: "a loop whose guard divides lists first a condition of kind 5, guard: I implies D(B)"
@@ -197,6 +204,19 @@ with-guard g l = record {
 
 abbrev pub guard-lost : Rules
 guard-lost = with-guard (λ m b i d. []) (right-listed .looped)
+
+-- no condition of kind 5, and D(B) in W: asked for where the loop is arrived at, and at no later test of its guard
+abbrev pub asked-on-arrival : Rules
+asked-on-arrival = record {
+  items = right-items;
+  weakest = record {
+    assigned = right-weakest .assigned;
+    tested = right-weakest .tested;
+    asserted = right-weakest .asserted;
+    arrived = λ d i. d and i;
+  };
+  listed = guard-lost .listed;
+}
 
 -- (I and B) implies D(B)
 abbrev pub guard-behind-itself : Rules
@@ -226,6 +246,7 @@ wrongs =
     ∷ wrong tested-alone division-in-if
     ∷ wrong assertion-divided division-in-annotations
     ∷ wrong guard-lost division-in-while
+    ∷ wrong asked-on-arrival division-in-while
     ∷ wrong guard-behind-itself division-in-while
     ∷ wrong guard-last division-in-while
     ∷ []

@@ -1,7 +1,7 @@
 -- The rules of 01 and of 02, P5, with what a wrong turn changes as fields (`Rules`: of D, of W, of the walk and its words); with
 -- the right fields it is the list defined (`right-list`). A wrong turn is a change of one field of one of these three
--- (`WrongTurns`, `WrongDivisors`), and is told from the list defined by giving other words for one table (`Other-words`).
--- Assumes nothing.
+-- (`WrongTurns`, `WrongDivisors`; of two fields, where D is asked for at another place), and is told from the list defined by
+-- giving other words for one table (`Other-words`). Assumes nothing.
 use Prim.Native.Nat.{ℕ}
 use mathlib.Core.Path.{_≡_, refl, sym, ap, _∙_, subst}
 use mathlib.Core.Logic.{_≢_}
@@ -34,6 +34,8 @@ pub record Weakest : Type 0 where
   pub tested : Option Formula → Formula → Formula
   -- of an assertion, from D(A), A and Q
   pub asserted : Option Formula → Formula → Formula → Formula
+  -- of a while, from D(B) and I
+  pub arrived : Option Formula → Formula → Formula
 
 -- of the walk and of the words
 pub record Listed : Type 0 where
@@ -61,7 +63,7 @@ module _ (R : Rules) where
   wp-by (seq a b) q = wp-by a (wp-by b q)
   wp-by (branch b x y) q =
       R .weakest .tested (divisors-byᶠ (R .items) b) (join And (join Implies b (wp-by x q)) (join Implies (not b) (wp-by y q)))
-  wp-by (loop m b i v x) q = i
+  wp-by (loop m b i v x) q = R .weakest .arrived (divisors-byᶠ (R .items) b) i
   wp-by (assert a) q = R .weakest .asserted (divisors-byᶠ (R .items) a) a q
 
   abbrev step-by : ℕ → Formula → Formula → Expr → Stmt → Formula
@@ -92,6 +94,7 @@ right-weakest = record {
   assigned = λ d v e q. d and subst-formula v e q;
   tested = λ d f. d and f;
   asserted = λ d a q. join And a q;
+  arrived = λ d i. i;
 }
 
 abbrev pub right-listed : Listed

@@ -83,6 +83,7 @@ replaced-twice = record {
     assigned = λ d v e q. d and subst-formula v e (subst-formula v e q);
     tested = right-weakest .tested;
     asserted = right-weakest .asserted;
+    arrived = right-weakest .arrived;
   };
   listed = right-listed;
 }
