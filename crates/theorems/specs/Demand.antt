@@ -1,23 +1,29 @@
--- Demand 3 of what the generator answers and leaves, for every table, list and scratch: `demand-3`.
--- Argument: the number is 0 only where the table is accepted and the list was written (`Outcomes`). Its words are those of the conditions, a well-formed list, which is read as it was written
--- (`read-written`); the tree of an accepted table is well-scoped, and the rules are sound. Assumes nothing.
+-- Demand 3 of what the generator answers and leaves, for every table, list and scratch: `demand-3`. The same for any arithmetic,
+-- in which the conditions are true and the script runs: `keeps`.
+-- Argument: the number is 0 only where the table is accepted and the list was written (`Outcomes`). Its words are those of the
+-- conditions, a well-formed list, which is read as it was written (`planned-list`); the tree of an accepted table is well-scoped,
+-- and the rules are sound. Assumes nothing.
 use Prim.Native.Nat.{ℕ, _≤_, _<_}
 use mathlib.Core.Path.{_≡_, refl}
 use mathlib.Core.Logic.{_≢_}
+use mathlib.Core.Option.{some}
 use mathlib.Core.List.{List}
 use native.Mathlib.Omega.{arith as linear}
+use lib.Dec.{T}
 use lib.IntN.{ℤ}
-use lib.ListN.{length, length-append}
+use lib.ListN.{length, length-append, take}
 use lib.Seq.{take-append-seam}
 use Rattle.script.specs.Syntax.{Tree}
-use Rattle.script.specs.Meaning.{whole}
+use Rattle.script.specs.Meaning.{Arithmetic, State, whole, holds}
+use Rattle.script.specs.Run.{Total-correctness}
 use Rattle.script.specs.Conditions.{walk, conditions}
 use Rattle.script.specs.Words.{list-words}
 use Rattle.script.specs.Trees.{tree}
 use Rattle.script.specs.WellFormed.{Well-formed}
+use Rattle.script.specs.Listing.{read-list}
 use Rattle.script.specs.Refusals.{accepted, verdict}
 use Rattle.script.specs.Generated.{Outcome, refuse, plan, room, outcome}
-use Rattle.script.specs.Promise.{Demand-3}
+use Rattle.script.specs.Promise.{List-valid, Demand-3}
 use Rattle.theorems.specs.Outcomes.{outcome-cases}
 use Rattle.theorems.specs.Sound.{sound}
 use Rattle.theorems.specs.ReadBack.{read-written}
@@ -35,23 +41,44 @@ pub well-formed : (t : List ℤ) (list : ℕ) → verdict t ≡ accepted → len
 well-formed t list h fits =
     record { spells = refl; short = omega linear; counted = some-conditions (tree t); ranges = in-range-conditions t h }
 
--- ---- demand 3
+-- ---- what is left where the number is 0
+
+-- the check accepts the table, the words left are read as its conditions, and the answer tells how many these are
+pub record Planned-list (table : List ℤ) (o : Outcome) : Type 0 where
+  pub accepts : verdict table ≡ accepted
+  pub reads : read-list (take (o .answer .words) (o .list)) ≡ some (conditions (tree table))
+  pub counts : o .answer .conditions ≡ length (conditions (tree table))
 
 module _ (table : List ℤ) (list scratch : ℕ) where
-  abbrev Demand : Outcome → Type 0
-  Demand o = Demand-3 table (o .answer) (o .list)
+  abbrev If-planned : Outcome → Type 0
+  If-planned o = o .answer .number ≡ 0 → Planned-list table o
 
-  refused-demand : (n r : ℕ) → n ≢ 0 → Demand (refuse n r list scratch)
-  unfolding Demand-3
-  refused-demand n r h e = absurd (h e)
+  refused-planned : (n r : ℕ) → n ≢ 0 → If-planned (refuse n r list scratch)
+  refused-planned n r h e = absurd (h e)
 
-  plan-demand : verdict table ≡ accepted → length (list-words (conditions (tree table))) ≤ room list
-      → Demand (plan (conditions (tree table)) list scratch)
-  unfolding Demand-3
-  plan-demand h fits e valid s pre =
+  plan-planned : verdict table ≡ accepted → length (list-words (conditions (tree table))) ≤ room list
+      → If-planned (plan (conditions (tree table)) list scratch)
+  plan-planned h fits e =
       let cs = conditions (tree table) in
-      let read = read-written (list-words cs) cs (well-formed table list h fits) in
-      sound whole (tree table) (scoped table h) (valid cs (rw take-append-seam read)) s pre
+      record {
+        accepts = h;
+        reads = rw take-append-seam (read-written (list-words cs) cs (well-formed table list h fits));
+        counts = refl;
+      }
+
+  pub planned-list : outcome table list scratch .answer .number ≡ 0 → Planned-list table (outcome table list scratch)
+  planned-list = outcome-cases If-planned table list scratch refused-planned plan-planned
+
+  -- ---- demand 3
+
+  -- where the conditions are true in all states of an arithmetic, runs in this arithmetic keep the promise
+  pub keeps : (𝔸 : Arithmetic) → let o = outcome table list scratch in
+      o .answer .number ≡ 0 → List-valid 𝔸 (take (o .answer .words) (o .list))
+      → (s : State) → T (holds 𝔸 s (tree table .pre)) → Total-correctness 𝔸 (tree table) s
+  keeps 𝔸 e valid =
+      let p = planned-list e in
+      sound 𝔸 (tree table) (scoped table (p .accepts)) (valid (conditions (tree table)) (p .reads))
 
   pub demand-3 : Demand-3 table (outcome table list scratch .answer) (outcome table list scratch .list)
-  demand-3 = outcome-cases Demand table list scratch refused-demand plan-demand
+  unfolding Demand-3
+  demand-3 = keeps whole
