@@ -1,6 +1,6 @@
 -- The names that a script declares are exactly those that occur in its assertion (`declared-iff`), each once
--- (`declared-once`), variables before marks (`declared-are`), each in rising number (`Occurring`). A name tells its letter
--- and its number, so two references never have the same name (`name-tells`). Assumes nothing.
+-- (`declared-once`), variables before marks, each in rising number (`declared-in-order`). A name tells its letter and its
+-- number, so two references never have the same name (`name-tells`). Assumes nothing.
 use Prim.Native.Nat.{ℕ, _<_}
 use mathlib.Core.Path.{_≡_, refl, sym, ap, _∙_}
 use mathlib.Core.Logic.{_↔_}
@@ -17,7 +17,7 @@ use Rattle.smt.specs.Smt.{Symbol, assert, check-sat, Script, declared, c
 use Rattle.text.specs.Decimal.{decimal, decimal-tells}
 use Rattle.smt.specs.Translate.{Reference, variable, mark, name, assertion, expr-references, references, occurring, declared-references, declarations, script, script-within}
 use Rattle.smt.specs.Symbols.{Named-in, either, claim-within, claim-named}
-use Rattle.smt.specs.Once.{Once, once-append, in-map, map-in, once-map, rising-once}
+use Rattle.smt.specs.Once.{Once, Rising, once-append, in-map, map-in, once-map, rising-once}
 use Rattle.smt.specs.Occurring.{refers-in, in-refers, occurring-in, in-occurring, occurring-rising}
 
 -- ---- the references of a condition are in range
@@ -115,10 +115,28 @@ declared-after : (rs : List Reference) (cs : Script) → declared (declarations 
 declared-after [] cs = refl
 declared-after (r ∷ rs) cs = ap (λ (l : List Symbol). name r ∷ l) (declared-after rs cs)
 
--- variables, then marks
-pub declared-are : (f : Formula) → declared (script f) ≡ map name (declared-references (references f))
+declared-are : (f : Formula) → declared (script f) ≡ map name (declared-references (references f))
 unfolding script-within
 declared-are f = declared-after (declared-references (references f)) (assert (assertion f) ∷ check-sat ∷ []) ∙ append-nil _
+
+-- "for each variable, then each mark, that occurs, in rising number"
+pub record In-order (ws : List Symbol) : Type 0 where
+  pub variable-numbers : List ℕ
+  pub mark-numbers : List ℕ
+  pub variables-rise : Rising variable-numbers
+  pub marks-rise : Rising mark-numbers
+  pub are : ws ≡ map name (map variable variable-numbers ++ map mark mark-numbers)
+
+pub declared-in-order : (f : Formula) → In-order (declared (script f))
+declared-in-order f =
+    let rs = references f in
+    record {
+      variable-numbers = occurring variable variables rs;
+      mark-numbers = occurring mark row-limit rs;
+      variables-rise = occurring-rising variable rs variables;
+      marks-rise = occurring-rising mark rs row-limit;
+      are = declared-are f;
+    }
 
 pub declared-once : (f : Formula) → Once (declared (script f))
 declared-once f = rw (declared-are f) (once-map name name-tells (declared-references (references f)) (references-once (references f)))

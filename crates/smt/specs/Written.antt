@@ -20,7 +20,7 @@ use Rattle.theorems.specs.Options.{none-is-not}
 use Rattle.theorems.specs.ReadBack.{conditions-of, written-read as well-formed}
 use Rattle.theorems.specs.Lookup.{condition-of, range-at}
 use Rattle.smt.specs.Smt.{Symbol, declared, claim-symbols}
-use Rattle.smt.specs.Declared.{declared-iff, declared-once}
+use Rattle.smt.specs.Declared.{In-order, declared-in-order, declared-iff, declared-once}
 use Rattle.smt.specs.Once.{Once}
 use Rattle.smt.specs.Translate.{assertion, script, script-within}
 use Rattle.smt.specs.Reader.{read-script}
@@ -144,10 +144,12 @@ written-read ws i room e = of-lines (lines ws) refl e
     of-lines none p e = refused 20 (λ z. omega linear) e
     of-lines (some fs) p e = of-found fs p (found-at fs i) refl e
 
--- a text that was written declares exactly the names in its assertion, each once
+-- a text that was written declares exactly the names in its assertion, each once, variables before marks, in rising number
 pub written-declares : (ws : List ℤ) (i : ℤ) (room : ℕ) (e : written ws i room .number ≡ 0)
     → let f = written-read ws i room e .found .condition .claim in
-    ((w : Symbol) → List·Memᴰ w (claim-symbols (assertion f)) ↔ List·Memᴰ w (declared (script f))) × Once (declared (script f))
+    ((w : Symbol) → List·Memᴰ w (claim-symbols (assertion f)) ↔ List·Memᴰ w (declared (script f)))
+    × Once (declared (script f)) × In-order (declared (script f))
 written-declares ws i room e =
     let t = written-read ws i room e in
-    (declared-iff (t .found .condition .claim) (t .range), declared-once (t .found .condition .claim))
+    let f = t .found .condition .claim in
+    (declared-iff f (t .range), declared-once f, declared-in-order f)
