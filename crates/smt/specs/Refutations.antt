@@ -1,34 +1,34 @@
 -- From a solver's verdicts on what the writer left to runs (`verdicts-to-runs`): if a table is planned, and for every index
 -- below the count a text was written whose script has no model (what a solver's `unsat` says, if it is right), then every run
 -- from a start that meets the precondition fails no assertion, divides by no zero, ends, meets the postcondition, and begins
--- loops' bodies no more often than their variants say. Assumes nothing.
-use Prim.Native.Nat.{ℕ, zero, suc, _≤_, _<_}
-use mathlib.Core.Path.{_≡_, refl, sym, ap, _∙_}
-use mathlib.Core.Logic.{_≢_}
+-- loops' bodies no more often than their variants say. These verdicts ask no more than demand 3 does: of a list that is read,
+-- they stand at every index exactly where every condition is true in all states (`refuted-iff`). Assumes nothing.
+use Prim.Native.Nat.{ℕ, zero, suc, _<_}
+use mathlib.Core.Path.{_≡_, refl, sym, ap, _∙_, subst}
+use mathlib.Core.Logic.{_↔_}
 use mathlib.Core.Option.{some}
 use mathlib.Core.List.{List, [], _∷_}
 use native.Mathlib.Omega.{arith as linear}
+use borrow.Author.Tests.{le-ltb}
 use lib.Dec.{T}
 use lib.IntN.{ℤ, pos}
 use lib.ListN.{length, getElem?, take}
-use lib.Seq.{take-append-seam}
 use Rattle.script.specs.Meaning.{State, whole, holds}
 use Rattle.script.specs.Run.{Total-correctness}
-use Rattle.script.specs.Conditions.{Condition, conditions}
-use Rattle.script.specs.Words.{list-words}
+use Rattle.script.specs.Conditions.{Condition}
 use Rattle.script.specs.Trees.{tree}
-use Rattle.script.specs.Refusals.{verdict, accepted}
-use Rattle.script.specs.Listing.{read-list}
-use Rattle.script.specs.Generated.{Outcome, refuse, plan, room, outcome}
-use Rattle.theorems.specs.Options.{none-is-not, some-inj}
-use Rattle.theorems.specs.ReadBack.{conditions-of, read-written}
+use Rattle.script.specs.Listing.{Found, lines, read-list}
+use Rattle.script.specs.Generated.{outcome}
+use Rattle.script.specs.Promise.{Valid, All-valid}
+use Rattle.theorems.specs.Options.{none-is-not, some-inj, went-on}
+use Rattle.theorems.specs.ReadBack.{conditions-of}
 use Rattle.theorems.specs.Lookup.{condition-of}
-use Rattle.theorems.specs.Outcomes.{outcome-cases}
-use Rattle.theorems.specs.Demand.{well-formed}
-use Rattle.smt.specs.Smt.{Satisfiable}
+use Rattle.theorems.specs.Demand.{planned-list}
+use Rattle.smt.specs.Smt.{Script, Satisfiable}
+use Rattle.smt.specs.Agreement.{no-model-iff}
 use Rattle.smt.specs.Translate.{script}
-use Rattle.smt.specs.Written.{written, written-read}
-use Rattle.smt.specs.Verdicts.{All-unsatisfiable, Solved, Unsatisfiable-text, unsatisfiable-correct}
+use Rattle.smt.specs.Written.{Text-of, condition-text, written, written-within, written-read}
+use Rattle.smt.specs.Verdicts.{All-unsatisfiable, all-valid, Solved, Unsatisfiable-text, unsatisfiable-correct}
 
 -- for the index i, in some room, a text was written, and its script has no model
 pub record Refuted (ws : List ℤ) (i : ℕ) : Type 0 where
@@ -36,50 +36,88 @@ pub record Refuted (ws : List ℤ) (i : ℕ) : Type 0 where
   pub fits : written ws (pos i) room .number ≡ 0
   pub no-model : Unsatisfiable-text (take (written ws (pos i) room .used) (written ws (pos i) room .buffer))
 
--- ---- so the condition there has no model of its negation
+-- ---- what was written for an index is the text of the condition there
+
+-- the condition at the index, of which the text was written
+condition-there : (ws : List ℤ) (cs : List Condition) → read-list ws ≡ some cs → (i room : ℕ) (t : Text-of ws (pos i) (written ws (pos i) room))
+    → getElem? cs i ≡ some (t .found .condition)
+unfolding read-list
+condition-there ws cs r i room t =
+    let same : conditions-of (t .all) ≡ cs = some-inj (rw (t .listed, read-list) at r) in
+    subst (λ (l : List Condition). getElem? l i ≡ some (t .found .condition)) same (condition-of (t .all) i (t .at))
+
+-- ---- so it has no model of its negation
 
 refuted-at : (ws : List ℤ) (cs : List Condition) → read-list ws ≡ some cs → (i : ℕ) (c : Condition) → getElem? cs i ≡ some c → Refuted ws i
     → ¬ Satisfiable (script (c .claim))
-unfolding read-list
 refuted-at ws cs r i c q v =
     let t = written-read ws (pos i) (v .room) (v .fits) in
-    let same : conditions-of (t .all) ≡ cs = some-inj (rw (t .listed, read-list) at r) in
-    let there : c ≡ t .found .condition =
-    some-inj (sym q ∙ ap (λ (l : List Condition). getElem? l i) (sym same) ∙ condition-of (t .all) i (t .at)) in
+    let there : c ≡ t .found .condition = some-inj (sym q ∙ condition-there ws cs r i (v .room) t) in
     rw there (v .no-model (script (t .found .condition .claim)) (t .read))
 
 by-index : (cs : List Condition) → ((i : ℕ) (c : Condition) → getElem? cs i ≡ some c → ¬ Satisfiable (script (c .claim))) → All-unsatisfiable cs
 by-index [] h = tt
 by-index (c ∷ cs) h = (h 0 c refl, by-index cs (λ i d q. h (suc i) d q))
 
--- ---- the answer counts the conditions of the list
-
 below : (cs : List Condition) (i : ℕ) (c : Condition) → getElem? cs i ≡ some c → i < length cs
 below [] i c q = none-is-not q
 below (d ∷ cs) zero c q = omega linear
 below (d ∷ cs) (suc i) c q = let l = below cs i c q in omega linear
 
-module _ (table : List ℤ) (list scratch : ℕ) where
-  abbrev Counted : Outcome → Type 0
-  Counted o = o .answer .number ≡ 0 → (cs : List Condition) → read-list (take (o .answer .words) (o .list)) ≡ some cs
-      → length cs ≡ o .answer .conditions
+all-refuted : (ws : List ℤ) (cs : List Condition) → read-list ws ≡ some cs → ((i : ℕ) → i < length cs → Refuted ws i) → All-unsatisfiable cs
+all-refuted ws cs r h = by-index cs (λ i c q. refuted-at ws cs r i c q (h i (below cs i c q)))
 
-  refused-counted : (n r : ℕ) → n ≢ 0 → Counted (refuse n r list scratch)
-  refused-counted n r h e = absurd (h e)
+-- ---- and the other way round: a condition that is true in all states is refuted, in a room of its text's length
 
-  plan-counted : verdict table ≡ accepted → length (list-words (conditions (tree table))) ≤ room list
-      → Counted (plan (conditions (tree table)) list scratch)
-  plan-counted h fits e cs r =
-      let ds = conditions (tree table) in
-      let read = read-written (list-words ds) ds (well-formed table list h fits) in
-      ap length (some-inj (sym (rw take-append-seam at r) ∙ read))
+valid-at : (cs : List Condition) (i : ℕ) {c : Condition} → All-valid whole cs → getElem? cs i ≡ some c → Valid whole (c .claim)
+valid-at [] i h q = none-is-not q
+valid-at (d ∷ cs) zero h q = subst (λ (c : Condition). Valid whole (c .claim)) (some-inj q) (h .0)
+valid-at (d ∷ cs) (suc i) h q = valid-at cs i (h .1) q
 
-  pub verdicts-to-runs : let o = outcome table list scratch in
-      o .answer .number ≡ 0
-      → ((i : ℕ) → i < o .answer .conditions → Refuted (take (o .answer .words) (o .list)) i)
-      → (s : State) → T (holds whole s (tree table .pre)) → Total-correctness whole (tree table) s
-  unfolding Solved
-  verdicts-to-runs e refuted =
-      unsatisfiable-correct table list scratch e λ cs r.
-      let count = outcome-cases Counted table list scratch refused-counted plan-counted e cs r in
-      by-index cs (λ i c q. refuted-at _ cs r i c q (refuted i (let l = below cs i c q in omega linear)))
+found-at-index : (fs : List Found) (i : ℕ) → i < length (conditions-of fs) → (f : Found) × (getElem? fs i ≡ some f)
+found-at-index [] i h = absurd (omega linear)
+found-at-index (f ∷ fs) zero h = (f, refl)
+found-at-index (f ∷ fs) (suc i) h = found-at-index fs i (omega linear)
+
+-- a room of its length holds the text of what was found
+holds-text : (ws : List ℤ) (fs : List Found) (i : ℕ) (f : Found) → lines ws ≡ some fs → getElem? fs i ≡ some f
+    → written ws (pos i) (length (condition-text f)) .number ≡ 0
+unfolding written-within
+holds-text ws fs i f p q = let n = length (condition-text f) in rw (p, q, le-ltb n n (omega linear))
+
+some-room : (ws : List ℤ) (cs : List Condition) → read-list ws ≡ some cs → (i : ℕ) → i < length cs
+    → (room : ℕ) × (written ws (pos i) room .number ≡ 0)
+unfolding read-list
+some-room ws cs r i l =
+    let fs = went-on (lines ws) _ r in
+    let f = found-at-index (fs .0) i (subst (λ (ds : List Condition). i < length ds) (sym (some-inj (fs .2))) l) in
+    (length (condition-text (f .0)), holds-text ws (fs .0) i (f .0) (fs .1) (f .1))
+
+valid-refuted : (ws : List ℤ) (cs : List Condition) → read-list ws ≡ some cs → All-valid whole cs → (i : ℕ) → i < length cs → Refuted ws i
+valid-refuted ws cs r valid i l =
+    let n = some-room ws cs r i l in
+    let t = written-read ws (pos i) (n .0) (n .1) in
+    let no-model = no-model-iff (t .found .condition .claim) .1 (valid-at cs i valid (condition-there ws cs r i (n .0) t)) in
+    record {
+      room = n .0;
+      fits = n .1;
+      no-model = λ ss e. subst (λ (s : Script). ¬ Satisfiable s) (some-inj (sym (t .read) ∙ e)) no-model;
+    }
+
+pub refuted-iff : (ws : List ℤ) (cs : List Condition) → read-list ws ≡ some cs
+    → ((i : ℕ) → i < length cs → Refuted ws i) ↔ All-valid whole cs
+refuted-iff ws cs r = (λ h. all-valid cs (all-refuted ws cs r h), valid-refuted ws cs r)
+
+-- ---- from verdicts to runs; the answer counts the conditions of the list
+
+pub verdicts-to-runs : (table : List ℤ) (list scratch : ℕ) → let o = outcome table list scratch in
+    o .answer .number ≡ 0
+    → ((i : ℕ) → i < o .answer .conditions → Refuted (take (o .answer .words) (o .list)) i)
+    → (s : State) → T (holds whole s (tree table .pre)) → Total-correctness whole (tree table) s
+unfolding Solved
+verdicts-to-runs table list scratch e refuted =
+    unsatisfiable-correct table list scratch e λ cs r.
+    let p = planned-list table list scratch e in
+    let count : length cs ≡ outcome table list scratch .answer .conditions =
+    ap length (some-inj (sym r ∙ p .reads)) ∙ sym (p .counts) in
+    all-refuted _ cs r (λ i l. refuted i (subst (λ n. i < n) count l))

@@ -42,7 +42,7 @@ All-unsatisfiable (c ∷ cs) = (¬ Satisfiable (script (c .claim))) × All-unsat
 abbrev pub List-unsatisfiable : List ℤ → Type 0
 List-unsatisfiable ws = (cs : List Condition) → read-list ws ≡ some cs → All-unsatisfiable cs
 
-all-valid : (cs : List Condition) → All-unsatisfiable cs → All-valid whole cs
+pub all-valid : (cs : List Condition) → All-unsatisfiable cs → All-valid whole cs
 all-valid [] h = tt
 all-valid (c ∷ cs) h = (no-model-iff (c .claim) .0 (h .0), all-valid cs (h .1))
 
