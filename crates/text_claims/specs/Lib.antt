@@ -2,7 +2,6 @@
 -- text gets (`Occasions`, proved in `Exactly`), what a text's table means for runs of its script (`Runs`), and the
 -- sentences of 02, P4 on texts (`Figures`, `Refused`, `Recorded`, `Witness`; with P5 `DividedWitness`). Assumes nothing.
 pub mod Reading
-pub mod Runs
 pub mod FirstOut
 pub mod Ranges
 pub mod Stuck
@@ -12,6 +11,7 @@ pub mod Numbers
 pub mod OpenBodies
 pub mod Bounds
 pub mod LeadingZero
+pub mod Runs
 pub mod Figures
 pub mod Refused
 pub mod Recorded
