@@ -1,6 +1,7 @@
--- The hypotheses of `text-runs` can hold for a script that divides, in an assigned expression and in the guard of a loop whose body
--- is begun: its five conditions, one of kind 5 among them, are true in all states; so every run from a start with 0 < v1 keeps the
--- promise, and divides by no zero (`promised`); there is a start, from which the body is begun (`run`). Assumes nothing.
+-- The hypotheses of `text-runs` and of `refuted-text-runs` can hold for a script that divides, in an assigned expression and in the
+-- guard of a loop whose body is begun: its five conditions, one of kind 5 among them, are true in all states; so every run from a
+-- start with 0 < v1 keeps the promise, and divides by no zero (`promised`, `refuted-promised`); there is a start, from which the body
+-- is begun (`run`). Assumes nothing.
 use Prim.Native.Nat.{ℕ, zero, suc, _+_, _-_, _*_, _/_, _%_, _≤_, _<_}
 use native.Mathlib.Nat.{div-add-mod, mod-lt}
 use native.Mathlib.Omega.{arith as linear}
@@ -33,6 +34,8 @@ use Rattle.script.specs.Promise.{All-valid, List-valid}
 use Rattle.theorems.specs.Options.{some-inj}
 use Rattle.theorems.specs.Truths.{is-true, both, pair}
 use Rattle.theorems.specs.Tests.{equal-numbers}
+use Rattle.smt.specs.Refutations.{Refuted, refuted-iff}
+use Rattle.smt.specs.Witness.{ones}
 use Rattle.grammar.specs.Scanning.{bytes, token-at, scan-from, scan}
 use Rattle.grammar.specs.Grammar.{Phrase}
 use Rattle.grammar.specs.Counts.{size, roots}
@@ -43,7 +46,7 @@ use Rattle.grammar.specs.Reader.{read}
 use Rattle.grammar.specs.Ranges.{depth}
 use Rattle.grammar.specs.Outcome.{given, out-of-range, outcome, stuck}
 use Rattle.text_claims.specs.Reading.{Reading}
-use Rattle.text_claims.specs.Runs.{Keeps-promise, generated, Planned, list-left, has-reading, same-script, text-runs}
+use Rattle.text_claims.specs.Runs.{Keeps-promise, generated, Planned, list-left, has-reading, same-script, text-runs, refuted-text-runs}
 
 -- ---- the text, its rows and its conditions
 
@@ -83,9 +86,10 @@ claims =
     ∷ condition Step 21 (step 21 guard positive (var 0) body)
     ∷ condition Main 26 (join Implies positive (wp (assign 0 (arith Div (var 2) (var 1))) positive)) ∷ []
 
-is-planned : Planned (generated rows 512 1536) × (read-list (list-left (generated rows 512 1536)) ≡ some claims)
+is-planned : Planned (generated rows 512 1536) × (generated rows 512 1536 .answer .conditions ≡ 5)
+    × (read-list (list-left (generated rows 512 1536)) ≡ some claims)
 unfolding rows _⨾_ outcome-within outcome-for verdict-within length-test row-test-within script-test unlinked-test target-test reading-test nesting-test lowest row-fault-within linked misread misreads nesting row row-of expr formula stmt expr-at formula-at stmt-at tree conditions walk wp divisors divisorsᶠ subst-expr subst-formula list-words all-lines line-words expr-words formula-words read-expr-within read-formula-within spelled-within found-within line-before-within lines-before-within lines-within read-list
-is-planned = (refl, refl)
+is-planned = (refl, refl, refl)
 
 -- ---- they are true in all states; x, d and m are the values of v0, v1 and the mark
 
@@ -172,16 +176,19 @@ valid = (
 )
 
 list-valid : List-valid whole (list-left (generated rows 512 1536))
-list-valid cs r = subst (All-valid whole) (some-inj (sym (is-planned .1) ∙ r)) valid
+list-valid cs r = subst (All-valid whole) (some-inj (sym (is-planned .2) ∙ r)) valid
+
+-- so for each a text is written whose script has no model
+refuted : (i : ℕ) → i < generated rows 512 1536 .answer .conditions → Refuted (list-left (generated rows 512 1536)) i
+refuted i l = refuted-iff _ claims (is-planned .2) .1 valid i (rw (is-planned .1) at l)
 
 -- ---- so the promise is kept
 
 pub promised : (x : Phrase) → Reading text x → Keeps-promise whole (text-tree x)
 promised = text-runs 128 text rows is-read 512 1536 (is-planned .0) whole list-valid
 
--- every variable is 1
-pub ones : State
-ones = record { var = λ v. pos 1; mark = λ m. pos 0 }
+pub refuted-promised : (x : Phrase) → Reading text x → Keeps-promise whole (text-tree x)
+refuted-promised = refuted-text-runs 128 text rows is-read 512 1536 (is-planned .0) refuted
 
 begins : T (holds whole ones (tree rows .pre))
 unfolding rows ones _⨾_ row row-of expr formula stmt expr-at formula-at stmt-at tree holds value
