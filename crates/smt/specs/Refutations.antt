@@ -28,7 +28,7 @@ use Rattle.smt.specs.Smt.{Script, Satisfiable}
 use Rattle.smt.specs.Agreement.{no-model-iff}
 use Rattle.smt.specs.Translate.{script}
 use Rattle.smt.specs.Written.{Text-of, condition-text, written, written-within, written-read}
-use Rattle.smt.specs.Verdicts.{All-unsatisfiable, all-valid, Solved, Unsatisfiable-text, unsatisfiable-correct}
+use Rattle.smt.specs.Verdicts.{All-unsatisfiable, unsatisfiable-iff, Solved, Unsatisfiable-text, unsatisfiable-correct}
 
 -- for the index i, in some room, a text was written, and its script has no model
 pub record Refuted (ws : List ℤ) (i : ℕ) : Type 0 where
@@ -106,7 +106,7 @@ valid-refuted ws cs r valid i l =
 
 pub refuted-iff : (ws : List ℤ) (cs : List Condition) → read-list ws ≡ some cs
     → ((i : ℕ) → i < length cs → Refuted ws i) ↔ All-valid whole cs
-refuted-iff ws cs r = (λ h. all-valid cs (all-refuted ws cs r h), valid-refuted ws cs r)
+refuted-iff ws cs r = (λ h. unsatisfiable-iff cs .0 (all-refuted ws cs r h), valid-refuted ws cs r)
 
 -- ---- from verdicts to runs; the answer counts the conditions of the list
 

@@ -42,9 +42,13 @@ All-unsatisfiable (c ∷ cs) = (¬ Satisfiable (script (c .claim))) × All-unsat
 abbrev pub List-unsatisfiable : List ℤ → Type 0
 List-unsatisfiable ws = (cs : List Condition) → read-list ws ≡ some cs → All-unsatisfiable cs
 
-pub all-valid : (cs : List Condition) → All-unsatisfiable cs → All-valid whole cs
-all-valid [] h = tt
-all-valid (c ∷ cs) h = (no-model-iff (c .claim) .0 (h .0), all-valid cs (h .1))
+-- that is so exactly where they are true in all states
+pub unsatisfiable-iff : (cs : List Condition) → All-unsatisfiable cs ↔ All-valid whole cs
+unsatisfiable-iff [] = (λ h. tt, λ v. tt)
+unsatisfiable-iff (c ∷ cs) =
+    let one = no-model-iff (c .claim) in
+    let rest = unsatisfiable-iff cs in
+    (λ h. (one .0 (h .0), rest .0 (h .1)), λ v. (one .1 (v .0), rest .1 (v .1)))
 
 -- the promise of a table, an answer and the list left with it
 unfoldable pub Solved : List ℤ → Answer → List ℤ → Type 0
@@ -55,7 +59,7 @@ Solved table answer list =
 
 pub demand-solved : (table : List ℤ) (answer : Answer) (list : List ℤ) → Demand-3 table answer list → Solved table answer list
 unfolding Solved Demand-3
-demand-solved table answer list d e h = d e (λ cs r. all-valid cs (h cs r))
+demand-solved table answer list d e h = d e (λ cs r. unsatisfiable-iff cs .0 (h cs r))
 
 pub unsatisfiable-correct : (table : List ℤ) (list scratch : ℕ)
     → Solved table (outcome table list scratch .answer) (outcome table list scratch .list)
