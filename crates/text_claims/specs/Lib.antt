@@ -11,6 +11,8 @@ pub mod Numbers
 pub mod OpenBodies
 pub mod Bounds
 pub mod LeadingZero
+pub mod TokenSpelling
+pub mod TokenTexts
 pub mod Runs
 pub mod Figures
 pub mod Refused
