@@ -1,5 +1,5 @@
 -- 02, P5, by computation: D of each kind of node; lists of tables that divide, as the rows of `Computed`: in assigned expressions,
--- in guards, under an assignment, under an if, and in annotations only. Runs are in `DivisionRuns`. Assumes nothing.
+-- in guards, under an assignment, under an if, in the guards of two loops, and in annotations only. Runs are in `DivisionRuns`. Assumes nothing.
 use Prim.Native.Nat.{ℕ}
 use mathlib.Core.Path.{_≡_, refl}
 use mathlib.Core.Bool.{true, false}
@@ -146,6 +146,15 @@ division-in-inner-while =
     ⨾ (1, 1, 0, 0) ⨾ (20, 7, 8, 0) ⨾ (16, 0, 0, 0) ⨾ (1, 0, 0, 0) ⨾ (37, 10, 11, 0) ⨾ (32, 0, 0, 0) ⨾ (36, 9, 12, 13)
     ⨾ (35, 3, 4, 14) ⨾ (16, 0, 0, 0) ⨾ (48, 0, 15, 16) ⨾ []
 
+-- while 1 div v0 = 1 (true, 0) do while 1 mod v1 = 1 (true, 1) do skip: each loop lists its guard first of its own conditions
+division-in-both-whiles : List ℤ
+division-in-both-whiles =
+    (16, 0, 0, 0) ⨾ (1, 1, 0, 0) ⨾ (2, 0, 0, 0) ⨾ (6, 1, 2, 0) ⨾ (1, 1, 0, 0) ⨾ (20, 3, 4, 0)
+    ⨾ (16, 0, 0, 0) ⨾ (1, 0, 0, 0) ⨾ (37, 6, 7, 0)
+    ⨾ (1, 1, 0, 0) ⨾ (2, 1, 0, 0) ⨾ (7, 9, 10, 0) ⨾ (1, 1, 0, 0) ⨾ (20, 11, 12, 0)
+    ⨾ (16, 0, 0, 0) ⨾ (1, 1, 0, 0) ⨾ (37, 14, 15, 0) ⨾ (32, 0, 0, 0) ⨾ (36, 13, 16, 17)
+    ⨾ (36, 5, 8, 18) ⨾ (16, 0, 0, 0) ⨾ (48, 0, 19, 20) ⨾ []
+
 -- with 1 div v0 = 0 for its precondition, invariant, assertion and postcondition, and 1 div v0 for its variant:
 -- while false do assert 1 div v0 = 0
 unfoldable pub division-in-annotations : List ℤ
@@ -191,6 +200,16 @@ trials =
     ∷ 25 ∷ 23 ∷ 16 ∷ 20 ∷ 6 ∷ 1 ∷ 1 ∷ 2 ∷ 1 ∷ 1 ∷ 1 ∷ 19 ∷ 1 ∷ 0 ∷ 1 ∷ 0 ∷ 2 ∷ 14 ∷ 16
     ∷ 25 ∷ 23 ∷ 23 ∷ 16 ∷ 20 ∷ 6 ∷ 1 ∷ 1 ∷ 2 ∷ 1 ∷ 1 ∷ 1 ∷ 20 ∷ 1 ∷ 0 ∷ 9 ∷ 14 ∷ 23 ∷ 16 ∷ 18 ∷ 1 ∷ 0 ∷ 9 ∷ 14 ∷ 3 ∷ 14 ∷ 24
     ∷ 25 ∷ 16 ∷ 23 ∷ 25 ∷ 20 ∷ 2 ∷ 1 ∷ 1 ∷ 0 ∷ 16 ∷ 25 ∷ 22 ∷ 20 ∷ 2 ∷ 1 ∷ 1 ∷ 0 ∷ 16 ∷ 4 ∷ 17 ∷ 18 ∷ 5 ∷ [])
+    ∷ lists division-in-both-whiles
+    (25 ∷ 16 ∷ 21 ∷ 2 ∷ 0 ∷ 1 ∷ 0 ∷ 5 ∷ 19 ∷ 7
+    ∷ 25 ∷ 23 ∷ 16 ∷ 22 ∷ 20 ∷ 6 ∷ 1 ∷ 1 ∷ 2 ∷ 0 ∷ 1 ∷ 1 ∷ 16 ∷ 1 ∷ 19 ∷ 13
+    ∷ 25 ∷ 23 ∷ 16 ∷ 20 ∷ 6 ∷ 1 ∷ 1 ∷ 2 ∷ 0 ∷ 1 ∷ 1 ∷ 19 ∷ 1 ∷ 0 ∷ 1 ∷ 0 ∷ 2 ∷ 19 ∷ 16
+    ∷ 25 ∷ 16 ∷ 21 ∷ 2 ∷ 1 ∷ 1 ∷ 0 ∷ 5 ∷ 18 ∷ 7
+    ∷ 25 ∷ 23 ∷ 16 ∷ 22 ∷ 20 ∷ 7 ∷ 1 ∷ 1 ∷ 2 ∷ 1 ∷ 1 ∷ 1 ∷ 23 ∷ 16 ∷ 18 ∷ 1 ∷ 0 ∷ 9 ∷ 19 ∷ 1 ∷ 18 ∷ 19
+    ∷ 25 ∷ 23 ∷ 16 ∷ 20 ∷ 7 ∷ 1 ∷ 1 ∷ 2 ∷ 1 ∷ 1 ∷ 1 ∷ 19 ∷ 1 ∷ 0 ∷ 1 ∷ 1 ∷ 2 ∷ 18 ∷ 16
+    ∷ 25 ∷ 23 ∷ 23 ∷ 16 ∷ 20 ∷ 7 ∷ 1 ∷ 1 ∷ 2 ∷ 1 ∷ 1 ∷ 1 ∷ 20 ∷ 1 ∷ 1 ∷ 9 ∷ 18 ∷ 23 ∷ 16 ∷ 18 ∷ 1 ∷ 1 ∷ 9 ∷ 18 ∷ 3 ∷ 18 ∷ 24
+    ∷ 25 ∷ 23 ∷ 23 ∷ 16 ∷ 20 ∷ 6 ∷ 1 ∷ 1 ∷ 2 ∷ 0 ∷ 1 ∷ 1 ∷ 20 ∷ 1 ∷ 0 ∷ 9 ∷ 19 ∷ 16 ∷ 3 ∷ 19 ∷ 18
+    ∷ 25 ∷ 16 ∷ 16 ∷ 4 ∷ 21 ∷ 3 ∷ 9 ∷ [])
     -- "in annotations 01's totals stay": no D, and no condition of kind 5
     ∷ lists division-in-annotations
     (25 ∷ 23 ∷ 20 ∷ 6 ∷ 1 ∷ 1 ∷ 2 ∷ 0 ∷ 1 ∷ 0 ∷ 22 ∷ 17 ∷ 20 ∷ 6 ∷ 1 ∷ 1 ∷ 2 ∷ 0 ∷ 1 ∷ 0 ∷ 1 ∷ 21 ∷ 20
@@ -203,5 +222,5 @@ trials =
     ∷ []
 
 trials-hold : map observed trials ≡ map expected trials
-unfolding trials observed expected numbers three-divisors nested-divisors division-in-choose division-in-if division-in-while division-after-assignment division-in-inner-while division-in-annotations _⨾_ outcome-within outcome-for verdict-within length-test row-test-within script-test unlinked-test target-test reading-test nesting-test lowest row-fault-within linked misread misreads row row-of expr formula stmt expr-at formula-at stmt-at tree nesting conditions walk wp divisors divisorsᶠ subst-expr subst-formula list-words all-lines line-words expr-words formula-words read-expr-within read-formula-within spelled-within found-within line-before-within lines-before-within lines-within line-at-within
+unfolding trials observed expected numbers three-divisors nested-divisors division-in-choose division-in-if division-in-while division-after-assignment division-in-inner-while division-in-both-whiles division-in-annotations _⨾_ outcome-within outcome-for verdict-within length-test row-test-within script-test unlinked-test target-test reading-test nesting-test lowest row-fault-within linked misread misreads row row-of expr formula stmt expr-at formula-at stmt-at tree nesting conditions walk wp divisors divisorsᶠ subst-expr subst-formula list-words all-lines line-words expr-words formula-words read-expr-within read-formula-within spelled-within found-within line-before-within lines-before-within lines-within line-at-within
 trials-hold = refl
