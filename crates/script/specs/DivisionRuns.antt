@@ -1,5 +1,7 @@
 -- 02, P5, by computation: runs that divide by zero, and runs that have such a division where they do not work it out or where
--- it stands in an annotation. Each is one step from the state of zeros. Assumes nothing.
+-- it stands in an annotation. Each is one step from the state of zeros, but for a loop whose second test divides by zero.
+-- Assumes nothing.
+use Prim.Native.Nat.{ℕ}
 use mathlib.Core.Path.{_≡_, refl}
 use mathlib.Core.Bool.{true, false}
 use mathlib.Core.Option.{Option, none, some}
@@ -8,7 +10,7 @@ use lib.IntN.{pos}
 use Rattle.script.specs.declared.Operator.the-variants.{Div, Mod}
 use Rattle.script.specs.declared.Relation.the-variants.{Equal, Unequal}
 use Rattle.script.specs.declared.Connective.the-variants.{And, Or, Implies}
-use Rattle.script.specs.Syntax.{Expr, const, var, arith, choose, Formula, truth, cmp, not, join, Stmt, skip, assign, branch, loop, assert}
+use Rattle.script.specs.Syntax.{Expr, const, var, arith, choose, Formula, truth, cmp, not, join, Stmt, skip, assign, seq, branch, loop, assert}
 use Rattle.script.specs.Meaning.{State, whole, value, holds, defined, definedᶠ}
 use Rattle.script.specs.Run.{begin, again, Cause, false-assertion, zero-divisor, Config, at, failed, test, first-step, step-of, step, after, start}
 use Rattle.script.specs.Computed.{zero-state}
@@ -20,8 +22,11 @@ zero-division = arith Div (const (pos 1)) (var 1)
 is-zero : Expr → Formula
 is-zero e = cmp Equal e (const (pos 0))
 
+steps-of : ℕ → Stmt → Config
+steps-of n x = after whole n (start (record { pre = truth true; body = x; post = truth true; row = 0 }) zero-state)
+
 run-of : Stmt → Config
-run-of x = after whole 1 (start (record { pre = truth true; body = x; post = truth true; row = 0 }) zero-state)
+run-of = steps-of 1
 
 -- why it failed, if it did
 cause : Config → Option Cause
@@ -49,8 +54,17 @@ divided =
     ∷ []
 
 all-fail : map (λ x. cause (run-of x)) divided ≡ map (λ x. some zero-divisor) divided
-unfolding divided if is-zero cause run-of zero-division zero-state after step step-of first-step test value holds defined definedᶠ
+unfolding divided if is-zero cause run-of steps-of zero-division zero-state after step step-of first-step test value holds defined definedᶠ
 all-fail = refl
+
+-- v1 := 1; while 1 div v1 = 1 do v1 := 0: the first test divides by 1, the second, after the body, by 0
+tested-twice : Stmt
+tested-twice =
+    seq (assign 1 (const (pos 1))) (loop 0 (cmp Equal zero-division (const (pos 1))) (truth true) (var 0) (assign 1 (const (pos 0))))
+
+second-fails : (cause (steps-of 3 tested-twice) ≡ none) × (cause (steps-of 4 tested-twice) ≡ some zero-divisor)
+unfolding tested-twice cause steps-of zero-division zero-state after step step-of first-step test value holds defined definedᶠ
+second-fails = (refl, refl)
 
 -- ---- not worked out, or "in annotations 01's totals stay"
 
@@ -62,17 +76,17 @@ undivided =
     ∷ []
 
 none-fails : map (λ x. cause (run-of x)) undivided ≡ map (λ x. none) undivided
-unfolding undivided is-zero cause run-of zero-division zero-state after step step-of first-step test value holds defined definedᶠ
+unfolding undivided is-zero cause run-of steps-of zero-division zero-state after step step-of first-step test value holds defined definedᶠ
 none-fails = refl
 
 -- the invariant and the variant of a loop whose body is begun: the arrival is with variant 0
 annotated : (s : State)
     × (run-of (loop 0 (is-zero (var 1)) (is-zero zero-division) zero-division skip)
     ≡ at (begin skip ∷ again 0 (is-zero (var 1)) (is-zero zero-division) zero-division skip (pos 0) 1 ∷ []) s)
-unfolding is-zero run-of zero-division zero-state after step step-of first-step test value holds defined definedᶠ
+unfolding is-zero run-of steps-of zero-division zero-state after step step-of first-step test value holds defined definedᶠ
 annotated = (_, refl)
 
 -- where an assertion is false by 01's totals, it is for that
 asserted : cause (run-of (assert (not (is-zero zero-division)))) ≡ some false-assertion
-unfolding is-zero cause run-of zero-division zero-state after step step-of first-step test value holds
+unfolding is-zero cause run-of steps-of zero-division zero-state after step step-of first-step test value holds
 asserted = refl
