@@ -1,5 +1,6 @@
--- The figures of 02, P1 and P2, as rows of a single statement that the prover settles by computing the definitions: example A's four
--- scripts; constants, operators, names; 20, 21 and 30 in their order. Then answers of a writer that these rule out. Assumes nothing.
+-- The figures of 02, P1, P2 and P5 (kind 5), as rows of a single statement that the prover settles by computing the definitions:
+-- example A's four scripts; constants, operators, names; 20, 21 and 30 in their order. Then answers of a writer that these rule out.
+-- Assumes nothing.
 use Prim.Native.Nat.{ℕ}
 use Prim.Native.String.{String}
 use mathlib.Core.Path.{_≡_, refl, sym, ap, _∙_}
@@ -33,9 +34,13 @@ text s zeros = record { number = 0; used = length (bytes s); buffer = bytes s ++
 list-a : List ℤ
 list-a = list-words (conditions (tree example-a))
 
--- a list of one condition: main, with row 0
+-- a list of one condition, of a kind and with row 0
+of-kind : ℕ → List ℤ → List ℤ
+of-kind k ws = ws ++ (pos k ∷ pos 0 ∷ pos (length ws) ∷ pos 1 ∷ [])
+
+-- main
 one : List ℤ → List ℤ
-one ws = ws ++ (pos 4 ∷ pos 0 ∷ pos (length ws) ∷ pos 1 ∷ [])
+one = of-kind 4
 
 -- (- 1) < (- 5), and -2147483648 <= 2147483647
 constants : List ℤ
@@ -57,9 +62,20 @@ sums = one (pos 24 ∷ pos 18 ∷ pos 3 ∷ pos 2 ∷ pos 0 ∷ pos 2 ∷ pos 0 
 ends : List ℤ
 ends = one (pos 20 ∷ pos 3 ∷ pos 2 ∷ pos 1023 ∷ pos 2 ∷ pos 256 ∷ pos 3 ∷ pos 2 ∷ pos 255 ∷ pos 3 ∷ pos 2 ∷ pos 128 ∷ pos 2 ∷ pos 127 ∷ [])
 
--- v1024 = 0, where there is no such variable
+-- v1024 = 0 and m2048 = 0, where there is no such variable and no such mark
 past-ends : List ℤ
 past-ends = one (pos 20 ∷ pos 2 ∷ pos 1024 ∷ pos 1 ∷ pos 0 ∷ [])
+
+past-marks : List ℤ
+past-marks = one (pos 20 ∷ pos 9 ∷ pos 2048 ∷ pos 1 ∷ pos 0 ∷ [])
+
+-- -7 mod (v0 div -2) = 0: negative constants, and a divisor that is itself a division; of a mod both sides stand there twice
+division-in-divisor : List ℤ
+division-in-divisor = one (pos 20 ∷ pos 7 ∷ pos 1 ∷ negsuc 6 ∷ pos 6 ∷ pos 2 ∷ pos 0 ∷ pos 1 ∷ negsuc 1 ∷ pos 1 ∷ pos 0 ∷ [])
+
+-- true implies v0 is unequal to 0: what P5 lists of a guard that divides by v0
+nonzero : List ℤ
+nonzero = pos 25 ∷ pos 16 ∷ pos 21 ∷ pos 2 ∷ pos 0 ∷ pos 1 ∷ pos 0 ∷ []
 
 -- ---- figures
 
@@ -104,13 +120,25 @@ figures =
           0,
     )
     ∷ ((past-ends, pos 0, 9), refuse 20 9)
+    ∷ ((past-marks, pos 0, 9), refuse 20 9)
+    ∷ (
+      (division-in-divisor, pos 0, 175),
+      text
+          "(set-logic QF_NIA)\n(declare-const v0 Int)\n(assert (not (= (ite (= (ite (= (- 2) 0) 0 (div v0 (- 2))) 0) (- 7) (mod (- 7) (ite (= (- 2) 0) 0 (div v0 (- 2))))) 0)))\n(check-sat)\n"
+          0,
+    )
+    ∷ (
+      (of-kind 5 nonzero, pos 0, 95),
+      text "(set-logic QF_NIA)\n(declare-const v0 Int)\n(assert (not (=> true (distinct v0 0))))\n(check-sat)\n" 0,
+    )
+    ∷ ((of-kind 6 nonzero, pos 0, 95), refuse 20 95)
     ∷ ((sums, pos 2147483647, 1), refuse 21 1)
     ∷ ((sums, negsuc 2147483647, 1), refuse 21 1)
     ∷ (([], negsuc 0, 3), refuse 20 3)
     ∷ []
 
 figures-hold : map (λ (f : Call × Written). written (f .0 .0) (f .0 .1) (f .0 .2)) figures ≡ map (λ (f : Call × Written). f .1) figures
-unfolding figures list-a one constants divisions choice sums ends past-ends text example-a example _⨾_ row row-of expr formula stmt expr-at formula-at stmt-at tree conditions walk wp divisors divisorsᶠ subst-expr subst-formula list-words all-lines line-words expr-words formula-words read-expr-within read-formula-within spelled-within found-within line-before-within lines-before-within lines-within decimal digits term claim references occurring script-within sexp-text term-sexp command-sexp script-text written-within
+unfolding figures list-a of-kind one constants divisions choice sums ends past-ends past-marks division-in-divisor nonzero text example-a example _⨾_ row row-of expr formula stmt expr-at formula-at stmt-at tree conditions walk wp divisors divisorsᶠ subst-expr subst-formula list-words all-lines line-words expr-words formula-words read-expr-within read-formula-within spelled-within found-within line-before-within lines-before-within lines-within decimal digits term claim references occurring script-within sexp-text term-sexp command-sexp script-text written-within
 figures-hold = refl
 
 -- ---- what a writer cannot do
