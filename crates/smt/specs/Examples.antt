@@ -19,7 +19,7 @@ use Rattle.smt.specs.Reader.{read-term, read-assertion, read-commands, r
 abbrev quotient : Formula
 quotient = cmp Less (arith Div (var 128) (const (negsuc 4))) (mark 3)
 
--- a negative divisor, a frozen name, a mark; "(assert (not F)) also where F is a not"
+-- a negative divisor, a frozen name, a mark; "the negated condition asserted", also where the condition is itself a not
 quotient-text : script-text (script (not quotient)) ≡ bytes
     "(set-logic QF_NIA)\n(declare-const f128 Int)\n(declare-const m3 Int)\n(assert (not (not (< (ite (= (- 5) 0) 0 (div f128 (- 5))) m3))))\n(check-sat)\n"
 unfolding script-text script-within references occurring term claim command-sexp term-sexp sexp-text decimal digits
