@@ -28,7 +28,8 @@ pub data Reference : Type 0 where
   variable : ℕ → Reference
   mark : ℕ → Reference
 
--- "Names are v, f (frozen) or m with the number."
+-- "Names are v, f (frozen) or m with the number." In ASCII v is 118, f 102 and m 109. The number is the variable's own, frozen or
+-- not, so the first frozen name is f128.
 abbrev pub letter : Reference → ℕ
 letter (variable v) = cond (frozen v) 102 118
 letter (mark m) = 109
