@@ -73,7 +73,7 @@ module _ (a b : ℕ) (rises : a ≤ b) (small : b ≤ 4294967295) (ws : List ℤ
   same-written =
       ap (λ (o : Option (List Found)). fit-lines-within a o i room) (same-answers a b rises small ws old .lines) ∙ of-lines (lines-within b ws) refl
 
--- ---- from 01 to P2
+-- ---- from 01's 256 variables to as many as there are now; of P5, both take kind 5
 
 pub stored-script : (f : Formula) → In-rangeᶠ-within variables-before f → script-within variables-before f ≡ script f
 stored-script f old = same-script variables-before variables (omega linear) f old
