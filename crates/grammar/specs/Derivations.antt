@@ -1,5 +1,6 @@
--- The productions derive exactly the texts that have a good phrase (`derives-exactly`).
--- Argument: a derivation is a good phrase by `DerivedPhrases`; a good phrase is derived from the nonterminal of its sort
+-- The productions derive exactly the texts that have a good phrase (`derives-exactly`), and each derivation of a text has
+-- the text's one phrase (`derivation-phrase`): what it groups, the reading groups.
+-- Argument: the phrase of a derivation is good by `DerivedPhrases`; a good phrase is derived from the nonterminal of its sort
 -- and level, by induction (`derives`), its parts being raised to the nonterminals that their places ask for. Assumes
 -- nothing.
 use mathlib.Core.Path.{_≡_, refl, sym, ap, _∙_, subst}
@@ -16,6 +17,8 @@ use Rattle.grammar.specs.Productions.{script, statement, operand, bracke
 use Rattle.grammar.specs.Grammar.{Phrase, leaf, before, between, closed, Chain, begun, more, place, opening-words, words, chain-words, sort, level, Good, Good-chain}
 use Rattle.grammar.specs.Text.{text, Spells}
 use Rattle.grammar.specs.TextSound.{text-append}
+use Rattle.grammar.specs.TextRead.{text-unique}
+use Rattle.grammar.specs.PhraseOf.{phrase}
 use Rattle.grammar.specs.Shapes.{at-first, at-third, at-fourth}
 use Rattle.grammar.specs.FormTexts.{three-text, four-text, prefix-text, leaf-text}
 use Rattle.grammar.specs.DerivedPhrases.{derived}
@@ -126,12 +129,15 @@ mutual
 
 -- ---- a text
 
-pub derives-exactly : (ts : List Token) → Derives script ts ↔ ((x : Phrase) × Spells x ts)
-derives-exactly ts = (there, back)
-  where
-    there : Derives script ts → (x : Phrase) × Spells x ts
-    there d = let p = derived d in (p .of, record { good = p .good; whole = p .fits; spelt = p .spelt })
+pub derivation-spells : {ts : List Token} (d : Derives script ts) → Spells (phrase d) ts
+derivation-spells d = let p = derived d in record { good = p .good; whole = p .fits; spelt = p .spelt }
 
+pub derivation-phrase : {ts : List Token} (d : Derives script ts) (x : Phrase) → Spells x ts → phrase d ≡ x
+derivation-phrase {ts} d x h = text-unique (phrase d) x ts (derivation-spells d) h
+
+pub derives-exactly : (ts : List Token) → Derives script ts ↔ ((x : Phrase) × Spells x ts)
+derives-exactly ts = (λ d. (phrase d, derivation-spells d), back)
+  where
     back : (x : Phrase) × Spells x ts → Derives script ts
     back s =
         let x = s .0 in

@@ -1,5 +1,5 @@
--- What a derivation from a nonterminal comes to: a good phrase of its sort, of at least its level (`Part`); and how the
--- productions that raise, begin and join make one. Assumes nothing.
+-- What the phrase of a derivation from a nonterminal is: good, of its sort, of at least its level, and spelled by the same
+-- tokens (`Part`); and how the productions that raise, begin and join make one. Assumes nothing.
 use Prim.Native.Nat.{ℕ, suc, _≤_, _<_}
 use mathlib.Core.Path.{_≡_, sym, ap, _∙_}
 use mathlib.Core.List.{List, [], _∷_, _++_}
@@ -59,56 +59,54 @@ binds-of product = 8
 binds-of negative = 10
 binds-of operand = 11
 
-pub record Part (n : Nonterminal) (ts : List Token) : Type 0 where
-  pub of : Phrase
-  pub good : Good of
-  pub fits : sort of ≡ sort-of n
-  pub high : level-of n ≤ level of
-  pub bound : binds-of n ≤ binds of
-  pub spelt : text (words of) ≡ ts
+pub record Part (n : Nonterminal) (x : Phrase) (ts : List Token) : Type 0 where
+  pub good : Good x
+  pub fits : sort x ≡ sort-of n
+  pub high : level-of n ≤ level x
+  pub bound : binds-of n ≤ binds x
+  pub spelt : text (words x) ≡ ts
 
 -- ---- productions of every kind
 
-pub raised : {ts : List Token} (n m : Nonterminal) → sort-of m ≡ sort-of n → (level-of n ≤ level-of m) × (binds-of n ≤ binds-of m) → Part m ts → Part n ts
-raised n m e l x = record {
-  of = x .of;
-  good = x .good;
-  fits = x .fits ∙ e;
-  high = omega (linear, x .high);
-  bound = omega (linear, x .bound);
-  spelt = x .spelt;
+pub raised : {x : Phrase} {ts : List Token} (n m : Nonterminal) → sort-of m ≡ sort-of n → (level-of n ≤ level-of m) × (binds-of n ≤ binds-of m)
+    → Part m x ts → Part n x ts
+raised n m e l p = record {
+  good = p .good;
+  fits = p .fits ∙ e;
+  high = omega (linear, p .high);
+  bound = omega (linear, p .bound);
+  spelt = p .spelt;
 }
 
-pub a-leaf : (n : Nonterminal) (l : Leaf) → leaf-makes l ≡ sort-of n → (level-of n ≤ 10) × (binds-of n ≤ 11) → Part n (leaf-word l ∷ [])
+pub a-leaf : (n : Nonterminal) (l : Leaf) → leaf-makes l ≡ sort-of n → (level-of n ≤ 10) × (binds-of n ≤ 11) → Part n (leaf l) (leaf-word l ∷ [])
 unfolding Good words
-a-leaf n l e h = record { of = leaf l; good = tt; fits = e; high = h .0; bound = h .1; spelt = leaf-text l }
+a-leaf n l e h = record { good = tt; fits = e; high = h .0; bound = h .1; spelt = leaf-text l }
 
-pub prefixed : {ts : List Token} (n m : Nonterminal) (p : Prefix) → sort-of m ≡ prefix-takes p → prefix-makes p ≡ sort-of n
-    → (prefix-level p < binds-of m) × (level-of n ≤ prefix-level p) × (binds-of n ≤ suc (prefix-level p)) → Part m ts
-    → Part n (opening-words (prefix-opening p) ++ ts)
+pub prefixed : {x : Phrase} {ts : List Token} (n m : Nonterminal) (p : Prefix) → sort-of m ≡ prefix-takes p → prefix-makes p ≡ sort-of n
+    → (prefix-level p < binds-of m) × (level-of n ≤ prefix-level p) × (binds-of n ≤ suc (prefix-level p)) → Part m x ts
+    → Part n (before p x) (opening-words (prefix-opening p) ++ ts)
 unfolding Good words
-prefixed {ts} n m p e f l x = record {
-  of = before p (x .of);
-  good = (x .good, x .fits ∙ e, omega (linear, x .bound));
+prefixed {x} {ts} n m p e f l h = record {
+  good = (h .good, h .fits ∙ e, omega (linear, h .bound));
   fits = f;
   high = l .1;
   bound = l .2;
-  spelt = text-append (opening-words (prefix-opening p)) (words (x .of)) ∙ ap (λ k. k ++ text (words (x .of))) (prefix-text p)
-      ∙ ap (λ k. opening-words (prefix-opening p) ++ k) (x .spelt);
+  spelt = text-append (opening-words (prefix-opening p)) (words x) ∙ ap (λ k. k ++ text (words x)) (prefix-text p)
+      ∙ ap (λ k. opening-words (prefix-opening p) ++ k) (h .spelt);
 }
 
-pub joined : {us vs : List Token} (n a b : Nonterminal) (o : Infix) → sort-of a ≡ infix-takes o → sort-of b ≡ infix-takes o → infix-makes o ≡ sort-of n
+pub joined : {x y : Phrase} {us vs : List Token} (n a b : Nonterminal) (o : Infix) → sort-of a ≡ infix-takes o → sort-of b ≡ infix-takes o
+    → infix-makes o ≡ sort-of n
     → (infix-binds o ≤ level-of a) × (infix-level o < binds-of b) × (level-of n ≤ infix-level o) × (binds-of n ≤ infix-binds o)
-    → Part a us → Part b vs → Part n (us ++ (infix-word o ∷ vs))
+    → Part a x us → Part b y vs → Part n (between o x y) (us ++ (infix-word o ∷ vs))
 unfolding Good words text
-joined {us} {vs} n a b o e f g l x y = record {
-  of = between o (x .of) (y .of);
-  good = (x .good, y .good, x .fits ∙ e, y .fits ∙ f, omega (linear, x .high), omega (linear, y .bound));
+joined {x} {y} {us} {vs} n a b o e f g l h k = record {
+  good = (h .good, k .good, h .fits ∙ e, k .fits ∙ f, omega (linear, h .high), omega (linear, k .bound));
   fits = g;
   high = l .2;
   bound = l .3;
-  spelt = text-append (words (x .of)) (infix-word o ∷ words (y .of)) ∙ ap (λ k. k ++ (infix-word o ∷ text (words (y .of)))) (x .spelt)
-      ∙ ap (λ k. us ++ (infix-word o ∷ k)) (y .spelt);
+  spelt = text-append (words x) (infix-word o ∷ words y) ∙ ap (λ i. i ++ (infix-word o ∷ text (words y))) (h .spelt)
+      ∙ ap (λ i. us ++ (infix-word o ∷ i)) (k .spelt);
 }
 
 -- a part stands at a place of its sort

@@ -1,4 +1,4 @@
--- A derivation by productions is a good phrase (`derived`), by induction on the derivation, a clause to a production.
+-- The phrase of a derivation by productions is good (`derived`), by induction on the derivation, a clause to a production.
 -- Assumes nothing.
 use Prim.Native.Nat.{ℕ}
 use mathlib.Core.Path.{refl}
@@ -12,40 +12,38 @@ use Rattle.grammar.specs.Operators.{semicolon, connective, relation, ope
 use Rattle.grammar.specs.Forms.{group-form, mark-form, when-form, if-form, while-form, script-form, when-second, when-third, if-then, if-else, while-keep, while-fall, while-body, script-body, script-post}
 use Rattle.grammar.specs.Tokens.{comma-closer, then-closer, else-closer, end-closer, keep-closer, fall-closer, do-closer, post-closer, end-of-text, Token, numeral, infix-word, form-word, closer-word, constant-leaf, number-leaf, variable-leaf, truth-leaf, skip-leaf}
 use Rattle.grammar.specs.Productions.{Nonterminal, script, statements, statement, implication, disjunction, conjunction, negation, comparison, sum, product, negative, operand, bracket, closing, Derives, whole, last-statement, in-order, skips, assigns, asserts, chooses, loops, to-implication, implies, to-disjunction, or, to-conjunction, and, to-negation, not, compares, a-true, a-false, formula-group, to-sum, plus, minus, to-product, times, divides, remains, to-negative, negates, a-numeral, a-variable, a-mark, a-when, expression-group}
-use Rattle.grammar.specs.Grammar.{leaf, closed, begun, more, words, chain-words, Good, Good-chain}
+use Rattle.grammar.specs.Grammar.{Phrase, leaf, closed, begun, more, words, chain-words, Good, Good-chain}
+use Rattle.grammar.specs.PhraseOf.{phrase}
 use Rattle.grammar.specs.Text.{text}
 use Rattle.grammar.specs.FormTexts.{one-text, three-text, four-text}
 use Rattle.grammar.specs.DerivedParts.{Part, raised, a-leaf, prefixed, joined, own}
 
 -- ---- forms
 
-module _ {ts : List Token} where
-  formula-grouped : Part implication ts → Part comparison (bracket ∷ ts ++ closing ∷ [])
+module _ {x : Phrase} {ts : List Token} where
+  formula-grouped : Part implication x ts → Part comparison (closed (begun group-form) x) (bracket ∷ ts ++ closing ∷ [])
   unfolding Good Good-chain words chain-words text
-  formula-grouped x = record {
-    of = closed (begun group-form) (x .of);
-    good = (tt, x .good, rw (x .fits), refl);
-    fits = x .fits;
+  formula-grouped p = record {
+    good = (tt, p .good, rw (p .fits), refl);
+    fits = p .fits;
     high = omega linear;
     bound = omega linear;
-    spelt = one-text (bracket ∷ []) (words (x .of)) (closing ∷ []) (x .spelt);
+    spelt = one-text (bracket ∷ []) (words x) (closing ∷ []) (p .spelt);
   }
 
-  expression-grouped : Part sum ts → Part operand (bracket ∷ ts ++ closing ∷ [])
+  expression-grouped : Part sum x ts → Part operand (closed (begun group-form) x) (bracket ∷ ts ++ closing ∷ [])
   unfolding Good Good-chain words chain-words text
-  expression-grouped x = record {
-    of = closed (begun group-form) (x .of);
-    good = (tt, x .good, rw (x .fits), refl);
-    fits = x .fits;
+  expression-grouped p = record {
+    good = (tt, p .good, rw (p .fits), refl);
+    fits = p .fits;
     high = omega linear;
     bound = omega linear;
-    spelt = one-text (bracket ∷ []) (words (x .of)) (closing ∷ []) (x .spelt);
+    spelt = one-text (bracket ∷ []) (words x) (closing ∷ []) (p .spelt);
   }
 
-marked : (k : ℕ) → Part operand (form-word mark-form ∷ bracket ∷ numeral k ∷ closing ∷ [])
+marked : (k : ℕ) → Part operand (closed (begun mark-form) (leaf (number-leaf k))) (form-word mark-form ∷ bracket ∷ numeral k ∷ closing ∷ [])
 unfolding Good Good-chain words chain-words text
 marked k = record {
-  of = closed (begun mark-form) (leaf (number-leaf k));
   good = (tt, tt, refl, refl);
   fits = refl;
   high = omega linear;
@@ -53,67 +51,68 @@ marked k = record {
   spelt = refl;
 }
 
-module _ {us vs ws : List Token} where
-  chosen : Part implication us → Part sum vs → Part sum ws
-      → Part operand (form-word when-form ∷ bracket ∷ us ++ closer-word comma-closer ∷ vs ++ closer-word comma-closer ∷ ws ++ closing ∷ [])
+module _ {x y z : Phrase} {us vs ws : List Token} where
+  chosen : Part implication x us → Part sum y vs → Part sum z ws
+      → Part operand (closed (more (more (begun when-form) x when-second) y when-third) z)
+      (form-word when-form ∷ bracket ∷ us ++ closer-word comma-closer ∷ vs ++ closer-word comma-closer ∷ ws ++ closing ∷ [])
   unfolding Good Good-chain words chain-words text
-  chosen x y z = record {
-    of = closed (more (more (begun when-form) (x .of) when-second) (y .of) when-third) (z .of);
-    good = (((tt, x .good, own formula (x .of) (x .fits), refl), y .good, own expression (y .of) (y .fits), refl), z .good, own expression (z .of) (z .fits), refl);
+  chosen p q r = record {
+    good = (((tt, p .good, own formula x (p .fits), refl), q .good, own expression y (q .fits), refl), r .good, own expression z (r .fits), refl);
     fits = refl;
     high = omega linear;
     bound = omega linear;
-    spelt = three-text (form-word when-form ∷ bracket ∷ []) (words (x .of)) (words (y .of)) (words (z .of))
-        (closer-word comma-closer ∷ []) (closer-word comma-closer ∷ []) (closing ∷ []) (x .spelt) (y .spelt) (z .spelt);
+    spelt = three-text (form-word when-form ∷ bracket ∷ []) (words x) (words y) (words z)
+        (closer-word comma-closer ∷ []) (closer-word comma-closer ∷ []) (closing ∷ []) (p .spelt) (q .spelt) (r .spelt);
   }
 
-  branched : Part implication us → Part statements vs → Part statements ws
-      → Part statement (form-word if-form ∷ us ++ closer-word then-closer ∷ vs ++ closer-word else-closer ∷ ws ++ closer-word end-closer ∷ [])
+  branched : Part implication x us → Part statements y vs → Part statements z ws
+      → Part statement (closed (more (more (begun if-form) x if-then) y if-else) z)
+      (form-word if-form ∷ us ++ closer-word then-closer ∷ vs ++ closer-word else-closer ∷ ws ++ closer-word end-closer ∷ [])
   unfolding Good Good-chain words chain-words text
-  branched x y z = record {
-    of = closed (more (more (begun if-form) (x .of) if-then) (y .of) if-else) (z .of);
-    good = (((tt, x .good, own formula (x .of) (x .fits), refl), y .good, own statement-sort (y .of) (y .fits), refl), z .good, own statement-sort (z .of) (z .fits), refl);
+  branched p q r = record {
+    good = (((tt, p .good, own formula x (p .fits), refl), q .good, own statement-sort y (q .fits), refl), r .good, own statement-sort z (r .fits), refl);
     fits = refl;
     high = omega linear;
     bound = omega linear;
-    spelt = three-text (form-word if-form ∷ []) (words (x .of)) (words (y .of)) (words (z .of))
-        (closer-word then-closer ∷ []) (closer-word else-closer ∷ []) (closer-word end-closer ∷ []) (x .spelt) (y .spelt) (z .spelt);
+    spelt = three-text (form-word if-form ∷ []) (words x) (words y) (words z)
+        (closer-word then-closer ∷ []) (closer-word else-closer ∷ []) (closer-word end-closer ∷ []) (p .spelt) (q .spelt) (r .spelt);
   }
 
-  all-read : Part implication us → Part statements vs → Part implication ws
-      → Part script (form-word script-form ∷ us ++ infix-word semicolon ∷ vs ++ infix-word semicolon ∷ closer-word post-closer ∷ ws ++ closer-word end-of-text ∷ [])
+  all-read : Part implication x us → Part statements y vs → Part implication z ws
+      → Part script (closed (more (more (begun script-form) x script-body) y script-post) z)
+      (form-word script-form ∷ us ++ infix-word semicolon ∷ vs ++ infix-word semicolon ∷ closer-word post-closer ∷ ws ++ closer-word end-of-text ∷ [])
   unfolding Good Good-chain words chain-words text
-  all-read x y z = record {
-    of = closed (more (more (begun script-form) (x .of) script-body) (y .of) script-post) (z .of);
-    good = (((tt, x .good, own formula (x .of) (x .fits), refl), y .good, own statement-sort (y .of) (y .fits), refl), z .good, own formula (z .of) (z .fits), refl);
+  all-read p q r = record {
+    good = (((tt, p .good, own formula x (p .fits), refl), q .good, own statement-sort y (q .fits), refl), r .good, own formula z (r .fits), refl);
     fits = refl;
     high = omega linear;
     bound = omega linear;
-    spelt = three-text (form-word script-form ∷ []) (words (x .of)) (words (y .of)) (words (z .of))
-        (infix-word semicolon ∷ []) (closer-word post-closer ∷ []) (closer-word end-of-text ∷ []) (x .spelt) (y .spelt) (z .spelt);
+    spelt = three-text (form-word script-form ∷ []) (words x) (words y) (words z)
+        (infix-word semicolon ∷ []) (closer-word post-closer ∷ []) (closer-word end-of-text ∷ []) (p .spelt) (q .spelt) (r .spelt);
   }
 
-looped : {us vs ws zs : List Token} → Part implication us → Part implication vs → Part sum ws → Part statements zs
-    → Part statement (form-word while-form ∷ us ++ closer-word keep-closer ∷ vs ++ closer-word fall-closer ∷ ws ++ closer-word do-closer ∷ zs ++ closer-word end-closer ∷ [])
+looped : {w x y z : Phrase} {us vs ws zs : List Token} → Part implication w us → Part implication x vs → Part sum y ws → Part statements z zs
+    → Part statement (closed (more (more (more (begun while-form) w while-keep) x while-fall) y while-body) z)
+    (form-word while-form ∷ us ++ closer-word keep-closer ∷ vs ++ closer-word fall-closer ∷ ws ++ closer-word do-closer ∷ zs ++ closer-word end-closer ∷ [])
 unfolding Good Good-chain words chain-words text
-looped x y z b = record {
-  of = closed (more (more (more (begun while-form) (x .of) while-keep) (y .of) while-fall) (z .of) while-body) (b .of);
+looped {w} {x} {y} {z} p q r s = record {
   good = (
-    (((tt, x .good, own formula (x .of) (x .fits), refl), y .good, own formula (y .of) (y .fits), refl), z .good, own expression (z .of) (z .fits), refl),
-    b .good,
-    own statement-sort (b .of) (b .fits),
+    (((tt, p .good, own formula w (p .fits), refl), q .good, own formula x (q .fits), refl), r .good, own expression y (r .fits), refl),
+    s .good,
+    own statement-sort z (s .fits),
     refl,
   );
   fits = refl;
   high = omega linear;
   bound = omega linear;
-  spelt = four-text (form-word while-form ∷ []) (words (x .of)) (words (y .of)) (words (z .of)) (words (b .of))
-      (closer-word keep-closer ∷ []) (closer-word fall-closer ∷ []) (closer-word do-closer ∷ []) (closer-word end-closer ∷ []) (x .spelt) (y .spelt) (z .spelt) (b .spelt);
+  spelt = four-text (form-word while-form ∷ []) (words w) (words x) (words y) (words z)
+      (closer-word keep-closer ∷ []) (closer-word fall-closer ∷ []) (closer-word do-closer ∷ []) (closer-word end-closer ∷ []) (p .spelt) (q .spelt) (r .spelt) (s .spelt);
 }
 
 -- ---- every production
 
-pub derived : {n : Nonterminal} {ts : List Token} → Derives n ts → Part n ts
+pub derived : {n : Nonterminal} {ts : List Token} (d : Derives n ts) → Part n (phrase d) ts
+unfolding phrase
 derived (whole d e f) = all-read (derived d) (derived e) (derived f)
 derived (last-statement d) = raised statements statement refl (omega linear) (derived d)
 derived (in-order d e) = joined statements statement statements semicolon refl refl refl (omega linear) (derived d) (derived e)

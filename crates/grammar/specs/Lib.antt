@@ -1,6 +1,6 @@
 -- Scripts as text (P4). First what is to be believed, in the order of the request: what a script is made of and how it
 -- is spelled; the rows and the tree that it stands for; the reader and the answer. Then the theorems: each text has one
--- reading and exactly those texts are read; the productions derive exactly those texts; the places of 40, 41 and 42; the
+-- reading and exactly those texts are read; the productions derive exactly those texts, grouped as they are read; the places of 40, 41 and 42; the
 -- rows that are written are those of the text, and have its tree; a table is given exactly where it should be. Texts
 -- tried by computation stand in `text_claims`. Assumes nothing.
 
@@ -14,6 +14,7 @@ pub mod Scanning
 pub mod Pieces
 pub mod Productions
 pub mod Grammar
+pub mod PhraseOf
 pub mod Text
 -- ---- what it stands for
 

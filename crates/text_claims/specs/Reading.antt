@@ -2,7 +2,8 @@
 -- (`In-range`), that its rows have room (`Fits`), and a text that is read into a table (`Read`). The tokens are said of
 -- the bytes alone, by what covers them; the scan gives just these (`scan-of`). A text has one derivation at most
 -- (`one-reading`), so what is said of any derivation of a text is said of its script, `text-tree`; and a text has one
--- exactly where the productions of the grammar derive its tokens (`reading-derives`). Assumes nothing.
+-- exactly where the productions of the grammar derive its tokens (`reading-derives`), the phrase of the derivation
+-- (`derivation-read`): what the productions group is what is grouped in the script. Assumes nothing.
 use Prim.Native.Nat.{ℕ, _*_, _≤_}
 use mathlib.Core.Path.{_≡_, subst}
 use mathlib.Core.Logic.{_↔_}
@@ -14,7 +15,8 @@ use Rattle.grammar.specs.Productions.{script, Derives}
 use Rattle.grammar.specs.Grammar.{Phrase}
 use Rattle.grammar.specs.Text.{Spells}
 use Rattle.grammar.specs.TextRead.{text-unique}
-use Rattle.grammar.specs.Derivations.{derives-exactly}
+use Rattle.grammar.specs.PhraseOf.{phrase}
+use Rattle.grammar.specs.Derivations.{derivation-spells, derives-exactly}
 use Rattle.grammar.specs.Counts.{size}
 use Rattle.grammar.specs.Meaning.{text-table}
 use Rattle.grammar.specs.Scanning.{Lexeme, tokens-of, lexemes, scan}
@@ -77,3 +79,10 @@ reading-derives bytes = (there, back)
     back d =
         let s = derives-exactly (tokens-of (d .0)) .0 (d .2) in
         (s .0, record { found = d .0; covered = d .1; spells = s .1 })
+
+module _ (bytes : List ℕ) (ls : List Lexeme) (covered : Scanned-as bytes ls) (d : Derives script (tokens-of ls)) where
+  pub derivation-reading : Reading bytes (phrase d)
+  derivation-reading = record { found = ls; covered = covered; spells = derivation-spells d }
+
+  pub derivation-read : (x : Phrase) → Reading bytes x → x ≡ phrase d
+  derivation-read x r = one-reading bytes x (phrase d) r derivation-reading
