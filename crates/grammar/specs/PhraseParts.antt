@@ -66,7 +66,8 @@ infix-derives (operator Mod) x y e f l m c d = remains (to expression 8 x e l c)
 pub part : (s : Sort) (x : Phrase) → takes (only s) (sort x) ≡ true → Derived x → Derives (at s 0) (text (words x))
 part s x t d = any s x (sym (same-is sort-discrete s (sort x) t)) d
 
-no-number : (p : Place) (s : Sort) → takes (place-takes p) s ≡ true → same-sort number (place-makes p s) ≡ true → ⊥
+-- only a mark's numeral is a number
+pub no-number : (p : Place) (s : Sort) → takes (place-takes p) s ≡ true → same-sort number (place-makes p s) ≡ true → ⊥
 no-number in-group number t e = false-is-not t
 no-number in-group expression t e = false-is-not e
 no-number in-group formula t e = false-is-not e

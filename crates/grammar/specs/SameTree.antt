@@ -5,38 +5,25 @@ use Prim.Native.Nat.{ℕ, zero, suc, _+_, _-_, _≤_}
 use mathlib.Core.Path.{_≡_, refl}
 use mathlib.Core.Option.{Option, none, some}
 use mathlib.Core.List.{List, [], _∷_, _++_}
-use mathlib.Core.Bool.{false}
 use native.Mathlib.Omega.{arith as linear}
 use lib.IntN.{ℤ}
 use Rattle.script.specs.Rows.{row-of, row, rows}
 use Rattle.script.specs.Trees.{expr as expr-in, expr-at, formula-at, stmt-at, tree}
 use Rattle.theorems.specs.Options.{none-is-not}
-use Rattle.grammar.specs.Sorts.{number, script, same-sort}
-use Rattle.grammar.specs.Operators.{Infix, semicolon, connective, relation, operator, infix-takes, infix-makes, Prefix, not-prefix, minus-prefix, assert-prefix, assign-prefix, prefix-takes, prefix-makes}
+use Rattle.grammar.specs.Sorts.{script}
+use Rattle.grammar.specs.Operators.{Infix, infix-takes, infix-makes, Prefix, not-prefix, minus-prefix, assert-prefix, assign-prefix, prefix-takes, prefix-makes}
 use Rattle.grammar.specs.Tokens.{Leaf, constant-leaf, number-leaf, variable-leaf, truth-leaf, skip-leaf, leaf-makes}
 use Rattle.grammar.specs.Grammar.{Phrase, leaf, before, between, closed, Chain, begun, more, place, sort, Good, Good-chain}
 use Rattle.grammar.specs.Counts.{negated, minus, size, chain-size, leaf-size, prefix-size, form-size, begins-body, last, roots}
 use Rattle.grammar.specs.Rows.{quad, constant, leaf-rows, prefix-row, prefix-rows, infix-kind, nth-loop, counts, form-rows, note-rows, inside, table, chain-table, by-row}
 use Rattle.grammar.specs.Trees.{Value, leaf-value, prefix-value, infix-value, value}
 use Rattle.grammar.specs.Meaning.{text-rows, text-tree}
-use Rattle.grammar.specs.Sizes.{table-length, chain-length, sized}
+use Rattle.grammar.specs.Sizes.{table-length, chain-length, sized, prefix-not-number, infix-not-number}
 use Rattle.grammar.specs.SameRows.{quad-row, Stands, stands-at, stands-parts, Means, leaf-means, prefix-means, infix-means}
 use Rattle.grammar.specs.SameForms.{Chain-means, form-means}
 
 module _ (ws : List ℤ) where
   -- ---- a prefix, or a constant with its minus
-
-  prefix-not-number : (p : Prefix) → same-sort (prefix-takes p) number ≡ false
-  prefix-not-number not-prefix = refl
-  prefix-not-number minus-prefix = refl
-  prefix-not-number assert-prefix = refl
-  prefix-not-number (assign-prefix v) = refl
-
-  infix-not-number : (o : Infix) → same-sort (infix-takes o) number ≡ false
-  infix-not-number semicolon = refl
-  infix-not-number (connective c) = refl
-  infix-not-number (relation r) = refl
-  infix-not-number (operator o) = refl
 
   minus-means : (p : Prefix) (x : Phrase) (z n r : ℕ) (v : Value) → negated p x ≡ some z → row ws r ≡ quad-row (constant (minus z))
       → Means ws (prefix-makes p) (suc n) r (prefix-value p (some z) v)

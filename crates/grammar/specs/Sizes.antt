@@ -8,7 +8,7 @@ use mathlib.Core.Bool.{Bool, true, false}
 use native.Mathlib.Omega.{arith as linear}
 use lib.ListN.{length, length-append}
 use Rattle.grammar.specs.Sorts.{Sort, number, same-sort}
-use Rattle.grammar.specs.Operators.{Prefix}
+use Rattle.grammar.specs.Operators.{Infix, semicolon, connective, relation, operator, infix-takes, Prefix, not-prefix, minus-prefix, assert-prefix, assign-prefix, prefix-takes}
 use Rattle.grammar.specs.Forms.{Place, place-makes, in-group, in-mark, when-first, when-second, when-third, if-guard, if-then, if-else, while-guard, while-keep, while-fall, while-body, script-pre, script-body, script-post}
 use Rattle.grammar.specs.Tokens.{Leaf, constant-leaf, number-leaf, variable-leaf, truth-leaf, skip-leaf}
 use Rattle.grammar.specs.Grammar.{Phrase, leaf, before, between, closed, Chain, begun, more, place, sort}
@@ -107,3 +107,17 @@ sized (leaf skip-leaf) e = omega linear
 sized (before p x) e = sized-prefix (negated p x) (size x)
 sized (between o x y) e = omega linear
 sized (closed c x) e = sized-form (place c) (size x) (chain-size c) (sort x) (λ h. sized x h) e
+
+-- ---- what an operator takes is no mark's number
+
+pub prefix-not-number : (p : Prefix) → same-sort (prefix-takes p) number ≡ false
+prefix-not-number not-prefix = refl
+prefix-not-number minus-prefix = refl
+prefix-not-number assert-prefix = refl
+prefix-not-number (assign-prefix v) = refl
+
+pub infix-not-number : (o : Infix) → same-sort (infix-takes o) number ≡ false
+infix-not-number semicolon = refl
+infix-not-number (connective c) = refl
+infix-not-number (relation r) = refl
+infix-not-number (operator o) = refl

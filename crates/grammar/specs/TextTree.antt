@@ -27,7 +27,7 @@ flat-length [] = refl
 flat-length (q ∷ qs) = omega (linear, flat-length qs)
 
 -- the word at place f of the row after ps
-word-after : (ps : List Quad) (ws : List ℤ) (f : ℕ) → word (flat ps ++ ws) (length ps) f ≡ getD ws f (pos 0)
+pub word-after : (ps : List Quad) (ws : List ℤ) (f : ℕ) → word (flat ps ++ ws) (length ps) f ≡ getD ws f (pos 0)
 word-after ps ws f =
     ap (λ (n : ℕ). getD (flat ps ++ ws) (n + f) (pos 0)) (sym (flat-length ps)) ∙ getD-append-add (flat ps) ws f (pos 0)
 
@@ -38,7 +38,7 @@ kind-after (pos n) ps q vs =
     rw (word-after ps ws 1, word-after ps ws 2, word-after ps ws 3)
 kind-after (negsuc n) ps q vs = refl
 
-row-after : (ps qs : List Quad) (q : Quad) → row (flat ps ++ flat (q ∷ qs)) (length ps) ≡ quad-row q
+pub row-after : (ps qs : List Quad) (q : Quad) → row (flat ps ++ flat (q ∷ qs)) (length ps) ≡ quad-row q
 unfolding row flat
 row-after ps qs q =
     let ws = q .kind ∷ q .first ∷ q .second ∷ q .third ∷ flat qs in

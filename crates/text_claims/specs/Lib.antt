@@ -1,6 +1,7 @@
 -- What is promised of a text, without the reader: which texts are read and which number with which place every other
--- text gets (`Occasions`, proved in `Exactly`), what a text's table means for runs of its script (`Runs`), and the
--- sentences of 02, P4 on texts (`Figures`, `Refused`, `Recorded`, `Witness`; with P5 `DividedWitness`). Assumes nothing.
+-- text gets (`Occasions`, proved in `Exactly`), that 41 speaks of texts in bytes (`TokenTexts`), what the check can still say of a
+-- text's table (`Checked`), what the table means for runs of its script (`Runs`), and the sentences of 02, P4 on texts (`Figures`,
+-- `Refused`, `Recorded`, `Witness`; with P5 `DividedWitness`). Assumes nothing.
 pub mod Reading
 pub mod FirstOut
 pub mod Ranges
@@ -14,6 +15,11 @@ pub mod LeadingZero
 pub mod TokenSpelling
 pub mod TokenTexts
 pub mod Runs
+pub mod Spans
+pub mod RowShapes
+pub mod Growing
+pub mod GrowingForms
+pub mod Checked
 pub mod Figures
 pub mod Refused
 pub mod Recorded
