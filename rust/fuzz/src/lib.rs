@@ -9,6 +9,7 @@ pub mod arena;
 pub mod claims;
 pub mod compare;
 pub mod divisions;
+pub mod edge_texts;
 pub mod guarded;
 pub mod inputs;
 pub mod lent;

@@ -111,7 +111,7 @@ pub fn split(text: &str) -> Vec<&str> {
 }
 
 /// Whether the two would be read otherwise without a blank between.
-fn would_merge(left: &str, right: &str) -> bool {
+pub fn would_merge(left: &str, right: &str) -> bool {
     let last = left.bytes().last().unwrap_or(b' ');
     let first = right.bytes().next().unwrap_or(b' ');
     let is_numeral = left.bytes().all(|byte| byte.is_ascii_digit());

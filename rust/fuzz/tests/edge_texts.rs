@@ -1,0 +1,102 @@
+//! The proved reader of scripts' texts beside the reference, on texts at the edges
+//! of what may be written, in buffers with memory beside them that may not be
+//! touched.
+
+mod common;
+
+use std::collections::BTreeMap;
+
+use common::Proved;
+use fuzz::edge_texts::edge_script;
+use fuzz::guarded::{Edge, Guarded, EDGES};
+use fuzz::script_texts::{LARGEST_TABLE, LONGEST_SCRIPT};
+use fuzz::{compare_counting, seed_from_environment, tell, Tally, CHECKS_OF_TEXTS};
+use fuzz::{Answer, ReadAnswer, Subject};
+use reference::{Line, Verdict};
+
+/// For a million, set this to 1_000_000, or run other seeds (`VCGEN_SEED=clock`).
+const CASES: u64 = 100_000;
+
+/// The proved reader with the text and the words between guards, before the first
+/// cell and after the last in turn; what the words hold before a call is another
+/// word each time.
+struct BetweenGuards {
+    text: Guarded<u8>,
+    words: Guarded<i32>,
+    calls: usize,
+    /// How often a text had so many bytes, and a table so many words.
+    lengths: BTreeMap<usize, usize>,
+    tables: BTreeMap<usize, usize>,
+}
+
+impl BetweenGuards {
+    fn new() -> BetweenGuards {
+        BetweenGuards {
+            text: Guarded::new(&[], Edge::End),
+            words: Guarded::new(&[], Edge::End),
+            calls: 0,
+            lengths: BTreeMap::new(),
+            tables: BTreeMap::new(),
+        }
+    }
+}
+
+const JUNK: [i32; 5] = [0, -1, i32::MIN, i32::MAX, 9];
+
+impl Subject for BetweenGuards {
+    fn read_text(&mut self, text: &[u8], words: &mut [i32]) -> Option<ReadAnswer> {
+        let edges = [EDGES[self.calls % 2], EDGES[self.calls / 2 % 2]];
+        words.fill(JUNK[self.calls % JUNK.len()]);
+        self.calls += 1;
+        self.text.hold(text, edges[0]);
+        self.words.hold(words, edges[1]);
+        let answer = Proved.read_text(self.text.as_slice(), self.words.as_mut_slice());
+        assert!(self.text.as_slice() == text, "the text has changed");
+        assert!(self.text.margin_is_kept() && self.words.margin_is_kept());
+        words.copy_from_slice(self.words.as_slice());
+        let used = answer.expect("an answer").used;
+        *self.lengths.entry(text.len()).or_default() += 1;
+        *self.tables.entry(used).or_default() += 1;
+        answer
+    }
+
+    fn check(&mut self, _: &[i32]) -> Verdict {
+        unreachable!("texts alone are tried")
+    }
+
+    fn generate(&mut self, _: &[i32], _: &mut [i32], _: &mut [i32]) -> Answer {
+        unreachable!("texts alone are tried")
+    }
+
+    fn line_at(&mut self, _: &[i32], _: i64) -> Line {
+        unreachable!("texts alone are tried")
+    }
+
+    fn walk(&mut self, _: &[i32], _: usize) -> Vec<Line> {
+        unreachable!("texts alone are tried")
+    }
+}
+
+#[test]
+fn not_one_difference_at_the_edges() {
+    let seed = seed_from_environment();
+    let mut tally = Tally::default();
+    let mut subject = BetweenGuards::new();
+    let result = compare_counting(&mut subject, edge_script, seed, CASES, &mut tally);
+    tell(format!(
+        "{CASES} texts: {:?}; read ones by the check: {:?}",
+        tally.read_text, tally.check
+    ));
+    assert!(result.is_ok(), "{}", result.unwrap_err());
+    assert!(tally.read_text.keys().copied().eq([0, 40, 41, 42, 43, 44]));
+    for number in [0, 40, 41, 42, 43] {
+        assert!(tally.read_text[&number] * 40 >= CASES, "{number} is rare");
+    }
+    assert!(tally.check.keys().copied().eq(CHECKS_OF_TEXTS));
+    for bytes in LONGEST_SCRIPT - 1..=LONGEST_SCRIPT + 1 {
+        assert!(subject.lengths[&bytes] >= 20, "{bytes} bytes are rare");
+    }
+    for words in [LARGEST_TABLE - 4, LARGEST_TABLE] {
+        assert!(subject.tables[&words] >= 20, "{words} words are rare");
+    }
+}
