@@ -22,8 +22,7 @@ use Rattle.grammar.specs.Tests.{false-is-not}
 use Rattle.grammar.specs.Scanning.{Lexeme, tokens-of}
 use Rattle.grammar.specs.Longest.{begins-some}
 use Rattle.grammar.specs.Covers.{Covers, nothing, blank, token, Scanned-as}
-use Rattle.grammar.specs.Ranges.{limit, mark-fits, depth, after-minus, operand-flag, flag, onward, read-flags}
-use Rattle.grammar.specs.Ranges.{All}
+use Rattle.grammar.specs.Ranges.{limit, mark-fits, depth, after-minus, operand-flag, flag, onward, read-flags, All}
 use Rattle.grammar.specs.AllLaws.{all-parts}
 use Rattle.grammar.specs.InRange.{text-flags}
 use Rattle.text_claims.specs.Reading.{Reading, Short, In-range}

@@ -13,7 +13,6 @@ use native.Mathlib.Omega.{arith as linear}
 use lib.ListN.{length, drop, getElem?}
 use lib.Seq.{drop-length}
 use Rattle.theorems.specs.Options.{none-is-not, some-inj, went-on}
-use Rattle.grammar.specs.Tests.{false-is-not}
 use Rattle.grammar.specs.Grammar.{Phrase}
 use Rattle.grammar.specs.Tokens.{Token, numeral, variable}
 use Rattle.grammar.specs.States.{after, State, at, start}
@@ -23,10 +22,9 @@ use Rattle.grammar.specs.Scanning.{Lexeme, tokens-of}
 use Rattle.grammar.specs.Covers.{Scanned-as}
 use Rattle.grammar.specs.LexemePlaces.{Stands, Rising, placed, rising-at, places-rise}
 use Rattle.grammar.specs.ZeroLed.{Zero-led, zero-led-some, zero-led-token}
-use Rattle.grammar.specs.Ranges.{flag}
-use Rattle.grammar.specs.Ranges.{All}
+use Rattle.grammar.specs.Ranges.{flag, all-of}
+use Rattle.grammar.specs.AllLaws.{all-true}
 use Rattle.grammar.specs.Outcome.{refused, out-of-range, outcome}
-use Rattle.grammar.specs.Ranges.{all-of}
 use Rattle.text_claims.specs.Reading.{Reading, Short, In-range}
 use Rattle.text_claims.specs.Ranges.{out-exactly, none-out}
 use Rattle.text_claims.specs.OpenBodies.{open-bodies, opens-one}
@@ -54,11 +52,6 @@ zero-led-out bytes ls h i l e z =
     at-end y = omega (linear, zero-led-some y, ap length (drop-length bytes))
 
 -- ---- the place that is told
-
-all-true : (bs : List Bool) → all-of bs ≡ true → All bs
-all-true [] e = tt
-all-true (true ∷ bs) e = (refl, all-true bs e)
-all-true (false ∷ bs) e = false-is-not e
 
 -- at l or before it a place is told
 abbrev Told-by : Option ℕ → Lexeme → Type 0

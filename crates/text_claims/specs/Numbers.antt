@@ -13,8 +13,7 @@ use Rattle.grammar.specs.Grammar.{Phrase}
 use Rattle.grammar.specs.States.{start}
 use Rattle.grammar.specs.Scanning.{Lexeme}
 use Rattle.grammar.specs.CoversOnce.{one-scan}
-use Rattle.grammar.specs.Ranges.{flags}
-use Rattle.grammar.specs.Ranges.{All}
+use Rattle.grammar.specs.Ranges.{flags, All}
 use Rattle.grammar.specs.Outcome.{refused, out-of-range, outcome}
 use Rattle.text_claims.specs.Reading.{Reading, Short, In-range, one-reading}
 use Rattle.text_claims.specs.FirstOut.{number-places, First-out}

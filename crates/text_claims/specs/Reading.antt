@@ -22,8 +22,7 @@ use Rattle.grammar.specs.Meaning.{text-table}
 use Rattle.grammar.specs.Scanning.{Lexeme, tokens-of, lexemes, scan}
 use Rattle.grammar.specs.Covers.{Scanned-as}
 use Rattle.grammar.specs.CoversOnce.{one-scan, reads-exactly}
-use Rattle.grammar.specs.Ranges.{flags}
-use Rattle.grammar.specs.Ranges.{All}
+use Rattle.grammar.specs.Ranges.{flags, All}
 
 -- x is a derivation of the text: its tokens are those which, with blanks between them, cover the bytes
 pub record Reading (bytes : List ℕ) (x : Phrase) : Type 0 where
