@@ -89,7 +89,7 @@ module _ (𝔸 : Arithmetic) (s : State) where
     divisors-sayᶠ (not f) = divisors-sayᶠ f
     divisors-sayᶠ (join c f g) = two-say (divisorsᶠ f) (divisorsᶠ g) (divisors-sayᶠ f) (divisors-sayᶠ g)
 
-  -- "D and the old formula" is true exactly where both are
+  -- D and the old formula is true exactly where both are
   pub and-says : (x : Option Formula) (q : Formula) → holds 𝔸 s (x and q) ≡ (says x && holds 𝔸 s q)
   unfolding holds
   and-says none q = refl
