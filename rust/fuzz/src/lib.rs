@@ -10,6 +10,7 @@ pub mod claims;
 pub mod compare;
 pub mod divisions;
 pub mod edge_texts;
+mod faults;
 pub mod guarded;
 pub mod inputs;
 pub mod lent;

@@ -8,11 +8,11 @@ mod misspelt;
 use fuzz::mutate::{list_with_length, made_up_list};
 use fuzz::scripts::{script_words, Shape};
 use fuzz::texts::dividing_list;
-use fuzz::{compare, compare_counting, limits, seed_from_environment};
+use fuzz::{compare, compare_counting, faults, limits, seed_from_environment};
 use fuzz::{Answer, Input, Making, Prng, Reference, Subject, Tally};
-use misdivided::{DivisionFault, Misdivided, DIVISION_FAULTS};
-use misread::{Misread, ReadFault, READ_FAULTS};
-use misspelt::{Misspelt, TextFault, TEXT_FAULTS};
+use misdivided::{division_faults, DivisionFault, Misdivided};
+use misread::{Misread, ReadFault};
+use misspelt::{Misspelt, TextFault};
 use reference::{check, lines, need, Line, Variable, Verdict};
 
 const CASES: u64 = 30_000;
@@ -91,65 +91,37 @@ fn made_up_lists_are_well_formed() {
     }
 }
 
-/// One way in which a subject may be broken.
-#[derive(Clone, Copy, Debug, PartialEq)]
-enum Fault {
-    NumberOneForgotten,
-    RowOfPart,
-    FrozenBeforeLoose,
-    HighestPeekingRow,
-    MarkInPreconditionAllowed,
-    NestingNine,
-    RowOfTooDeep,
-    RoomNotCapped,
-    ScratchOneShort,
-    ScratchLeftDirty,
-    ListEndLeftDirty,
-    ListLeftAfterRefusal,
-    CountsAfterRefusal,
-    FloorBeforeExit,
-    ElseBeforeThen,
-    WordTooMany,
-    IndexBeforeTorn,
-    FrontLeftOver,
-    LongListRead,
-    KindAfterRefusal,
-    ExpressionAsFormula,
-    WalksForward,
-    WalkEndsWithTwenty,
-    RecordsCutShort,
-    LineFeedMissing,
-    OddBytesDropped,
+faults! {
+    /// One way in which a subject may be broken.
+    enum Fault {
+        NumberOneForgotten,
+        RowOfPart,
+        FrozenBeforeLoose,
+        HighestPeekingRow,
+        MarkInPreconditionAllowed,
+        NestingNine,
+        RowOfTooDeep,
+        RoomNotCapped,
+        ScratchOneShort,
+        ScratchLeftDirty,
+        ListEndLeftDirty,
+        ListLeftAfterRefusal,
+        CountsAfterRefusal,
+        FloorBeforeExit,
+        ElseBeforeThen,
+        WordTooMany,
+        IndexBeforeTorn,
+        FrontLeftOver,
+        LongListRead,
+        KindAfterRefusal,
+        ExpressionAsFormula,
+        WalksForward,
+        WalkEndsWithTwenty,
+        RecordsCutShort,
+        LineFeedMissing,
+        OddBytesDropped,
+    }
 }
-
-const FAULTS: [Fault; 26] = [
-    Fault::NumberOneForgotten,
-    Fault::RowOfPart,
-    Fault::FrozenBeforeLoose,
-    Fault::HighestPeekingRow,
-    Fault::MarkInPreconditionAllowed,
-    Fault::NestingNine,
-    Fault::RowOfTooDeep,
-    Fault::RoomNotCapped,
-    Fault::ScratchOneShort,
-    Fault::ScratchLeftDirty,
-    Fault::ListEndLeftDirty,
-    Fault::ListLeftAfterRefusal,
-    Fault::CountsAfterRefusal,
-    Fault::FloorBeforeExit,
-    Fault::ElseBeforeThen,
-    Fault::WordTooMany,
-    Fault::IndexBeforeTorn,
-    Fault::FrontLeftOver,
-    Fault::LongListRead,
-    Fault::KindAfterRefusal,
-    Fault::ExpressionAsFormula,
-    Fault::WalksForward,
-    Fault::WalkEndsWithTwenty,
-    Fault::RecordsCutShort,
-    Fault::LineFeedMissing,
-    Fault::OddBytesDropped,
-];
 
 /// The reference with one fault.
 struct Broken(Fault);
@@ -333,77 +305,54 @@ fn assert_found(fault: String, subject: &mut dyn Subject, making: Making, seed: 
     std::fs::remove_file(&difference.file).expect("the file can be removed");
 }
 
+/// The subject without a fault agrees, and each with one is found. Each test adds
+/// another number to the seed, since two are not to write the same files.
+fn assert_all_found<S: Subject>(
+    mut faultless: S,
+    faulty: impl Iterator<Item = (String, S)>,
+    making: Making,
+    added: u64,
+) {
+    let seed = seed_from_environment().wrapping_add(added);
+    let agreement = compare(&mut faultless, making, seed, MOST_CASES);
+    assert!(agreement.is_ok(), "{}", agreement.unwrap_err());
+    for (fault, mut subject) in faulty {
+        assert_found(fault, &mut subject, making, seed);
+    }
+}
+
 #[test]
 fn every_broken_subject_is_found() {
     let seed = seed_from_environment();
-    for fault in FAULTS {
+    for &fault in Fault::ALL {
         assert_found(format!("{fault:?}"), &mut Broken(fault), Input::any, seed);
     }
 }
 
 #[test]
-fn every_mistake_about_numbers_is_found() {
-    // Another seed: two tests are not to write the same files.
-    let seed = seed_from_environment().wrapping_add(2);
-    let faultless = compare(
-        &mut { misnumbered::FAULTLESS },
-        Input::any,
-        seed,
-        MOST_CASES,
-    );
-    assert!(faultless.is_ok(), "{}", faultless.unwrap_err());
-    for mut misnumbered in misnumbered::all() {
-        assert_found(misnumbered.to_string(), &mut misnumbered, Input::any, seed);
-    }
-}
-
-#[test]
-fn every_mistake_about_divisions_is_found() {
-    // Another seed: two tests are not to write the same files.
-    let seed = seed_from_environment().wrapping_add(4);
-    let faultless = compare(
-        &mut Misdivided(DivisionFault::Nothing),
-        Input::any_dividing,
-        seed,
-        MOST_CASES,
-    );
-    assert!(faultless.is_ok(), "{}", faultless.unwrap_err());
-    for fault in DIVISION_FAULTS {
-        let mut misdivided = Misdivided(fault);
-        let fault = format!("{fault:?}");
-        assert_found(fault, &mut misdivided, Input::any_dividing, seed);
-    }
-}
-
-#[test]
 fn every_misspelt_text_is_found() {
-    // Another seed: two tests are not to write the same files.
-    let seed = seed_from_environment().wrapping_add(1);
-    let faultless = compare(
-        &mut Misspelt(TextFault::Nothing),
-        Input::any,
-        seed,
-        MOST_CASES,
-    );
-    assert!(faultless.is_ok(), "{}", faultless.unwrap_err());
-    for fault in TEXT_FAULTS {
-        assert_found(format!("{fault:?}"), &mut Misspelt(fault), Input::any, seed);
-    }
+    let misspelt = |&fault| (format!("{fault:?}"), Misspelt(fault));
+    let faulty = TextFault::ALL.iter().map(misspelt);
+    assert_all_found(Misspelt(TextFault::Nothing), faulty, Input::any, 1);
+}
+
+#[test]
+fn every_mistake_about_numbers_is_found() {
+    let faulty = misnumbered::all().map(|misnumbered| (misnumbered.to_string(), misnumbered));
+    assert_all_found(misnumbered::FAULTLESS, faulty, Input::any, 2);
 }
 
 #[test]
 fn every_misread_text_is_found() {
-    // Another seed: two tests are not to write the same files.
-    let seed = seed_from_environment().wrapping_add(3);
-    let faultless = compare(
-        &mut Misread(ReadFault::Nothing),
-        Input::any_script,
-        seed,
-        MOST_CASES,
-    );
-    assert!(faultless.is_ok(), "{}", faultless.unwrap_err());
-    for fault in READ_FAULTS {
-        let mut misread = Misread(fault);
-        assert_found(format!("{fault:?}"), &mut misread, Input::any_script, seed);
-    }
+    let misread = |&fault| (format!("{fault:?}"), Misread(fault));
+    let faulty = ReadFault::ALL.iter().map(misread);
+    assert_all_found(Misread(ReadFault::Nothing), faulty, Input::any_script, 3);
+}
+
+#[test]
+fn every_mistake_about_divisions_is_found() {
+    let misdivided = |fault| (format!("{fault:?}"), Misdivided(fault));
+    let faulty = division_faults().map(misdivided);
+    let faultless = Misdivided(DivisionFault::Nothing);
+    assert_all_found(faultless, faulty, Input::any_dividing, 4);
 }

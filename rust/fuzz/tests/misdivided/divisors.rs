@@ -2,27 +2,28 @@
 
 use reference::{Arithmetic, Comparison, Connective, Expression, Formula};
 
-#[derive(Clone, Copy, Debug, PartialEq)]
-pub enum D {
-    Right,
-    DivForgotten,
-    ModForgotten,
-    GroupedFromTheRight,
-    PartsTakenApart,
-    DivisorBeforeParts,
-    SecondPartFirst,
-    FirstPartForgotten,
-    SecondPartForgotten,
-    DivisorsOwnForgotten,
-    EqualForUnequal,
-    ZeroFirst,
-    DividendForDivisor,
-    ChooseBranchesBare,
-    ChooseSecondWithoutNot,
-    ChooseFormulaForgotten,
-    ChooseFormulaLast,
-    ConnectivesShortCircuit,
-    TrueForNothing,
+fuzz::faults! {
+    /// One way in which D may be wrong.
+    pub enum D beside Right {
+        DivForgotten,
+        ModForgotten,
+        GroupedFromTheRight,
+        PartsTakenApart,
+        DivisorBeforeParts,
+        SecondPartFirst,
+        FirstPartForgotten,
+        SecondPartForgotten,
+        DivisorsOwnForgotten,
+        EqualForUnequal,
+        ZeroFirst,
+        DividendForDivisor,
+        ChooseBranchesBare,
+        ChooseSecondWithoutNot,
+        ChooseFormulaForgotten,
+        ChooseFormulaLast,
+        ConnectivesShortCircuit,
+        TrueForNothing,
+    }
 }
 
 pub fn not(part: Formula) -> Formula {

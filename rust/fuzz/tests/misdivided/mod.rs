@@ -11,89 +11,47 @@ use reference::{list_words, script_of, Condition, Line, Verdict};
 pub use divisors::D;
 pub use weakest::faulty_conditions;
 
-#[derive(Clone, Copy, Debug, PartialEq)]
-pub enum DivisionFault {
-    Nothing,
-    /// In what D is.
-    OfD(D),
-    NoneAtAssignments,
-    NoneAtBranches,
-    AfterTheOldFormula,
-    UnderTheAssignment,
-    InsideTheBranches,
-    AtAssertions,
-    AtInvariants,
-    AtVariants,
-    AtPostconditions,
-    NoGuard,
-    GuardAfterExit,
-    GuardAfterFloor,
-    GuardAfterStep,
-    GuardOfEveryLoop,
-    GuardWithTheScriptsRow,
-    GuardWithTheRowBelow,
-    GuardWithNumberFour,
-    GuardWithoutInvariant,
-    GuardUnderTheGuard,
-    GuardInTheExit,
-    GuardAtTheLoop,
-    ReaderRefusesGuard,
-    ReaderTakesSix,
-    WalkRefusesGuard,
-    WalkTakesSix,
-    TextRefusesGuard,
-    ProgramNamesGuardMain,
+fuzz::faults! {
+    /// One way in which what is made of divisions may be wrong: in what D is, or in
+    /// where it goes.
+    pub enum DivisionFault beside Nothing, OfD(D) {
+        NoneAtAssignments,
+        NoneAtBranches,
+        AfterTheOldFormula,
+        UnderTheAssignment,
+        InsideTheBranches,
+        AtAssertions,
+        AtInvariants,
+        AtVariants,
+        AtPostconditions,
+        NoGuard,
+        GuardAfterExit,
+        GuardAfterFloor,
+        GuardAfterStep,
+        GuardOfEveryLoop,
+        GuardWithTheScriptsRow,
+        GuardWithTheRowBelow,
+        GuardWithNumberFour,
+        GuardWithoutInvariant,
+        GuardUnderTheGuard,
+        GuardInTheExit,
+        GuardAtTheLoop,
+        ReaderRefusesGuard,
+        ReaderTakesSix,
+        WalkRefusesGuard,
+        WalkTakesSix,
+        TextRefusesGuard,
+        ProgramNamesGuardMain,
+    }
 }
 
 use DivisionFault::*;
 
-pub const DIVISION_FAULTS: [DivisionFault; 45] = [
-    OfD(D::DivForgotten),
-    OfD(D::ModForgotten),
-    OfD(D::GroupedFromTheRight),
-    OfD(D::PartsTakenApart),
-    OfD(D::DivisorBeforeParts),
-    OfD(D::SecondPartFirst),
-    OfD(D::FirstPartForgotten),
-    OfD(D::SecondPartForgotten),
-    OfD(D::DivisorsOwnForgotten),
-    OfD(D::EqualForUnequal),
-    OfD(D::ZeroFirst),
-    OfD(D::DividendForDivisor),
-    OfD(D::ChooseBranchesBare),
-    OfD(D::ChooseSecondWithoutNot),
-    OfD(D::ChooseFormulaForgotten),
-    OfD(D::ChooseFormulaLast),
-    OfD(D::ConnectivesShortCircuit),
-    OfD(D::TrueForNothing),
-    NoneAtAssignments,
-    NoneAtBranches,
-    AfterTheOldFormula,
-    UnderTheAssignment,
-    InsideTheBranches,
-    AtAssertions,
-    AtInvariants,
-    AtVariants,
-    AtPostconditions,
-    NoGuard,
-    GuardAfterExit,
-    GuardAfterFloor,
-    GuardAfterStep,
-    GuardOfEveryLoop,
-    GuardWithTheScriptsRow,
-    GuardWithTheRowBelow,
-    GuardWithNumberFour,
-    GuardWithoutInvariant,
-    GuardUnderTheGuard,
-    GuardInTheExit,
-    GuardAtTheLoop,
-    ReaderRefusesGuard,
-    ReaderTakesSix,
-    WalkRefusesGuard,
-    WalkTakesSix,
-    TextRefusesGuard,
-    ProgramNamesGuardMain,
-];
+/// Every fault, those in what D is first.
+pub fn division_faults() -> impl Iterator<Item = DivisionFault> {
+    let of_d = D::ALL.iter().map(|&fault| OfD(fault));
+    of_d.chain(DivisionFault::ALL.iter().copied())
+}
 
 /// The reference with one fault.
 pub struct Misdivided(pub DivisionFault);

@@ -147,58 +147,58 @@ impl Walk {
         }
     }
 
-    fn while_loop(&mut self, the_loop: &Loop, after: Formula) -> Formula {
-        use DivisionFault::{AtInvariants, AtVariants, NoGuard};
-        use DivisionFault::{GuardAfterExit, GuardAfterFloor, GuardAfterStep};
-        use DivisionFault::{GuardAtTheLoop, GuardInTheExit};
-        let guard = || the_loop.guard.clone();
+    fn exit(&mut self, the_loop: &Loop, invariant: &Formula, after: Formula) {
+        let left = and(invariant.clone(), not(the_loop.guard.clone()));
+        let mut exit = implies(left, after);
+        if self.is(DivisionFault::GuardInTheExit) {
+            exit = with_divisors(self.d().of_formula(&the_loop.guard), exit);
+        }
+        self.list(ConditionKind::Exit, the_loop.row, exit);
+    }
+
+    fn floor(&mut self, the_loop: &Loop, entered: Formula) {
+        let zero = Expression::Constant(0);
+        let mut not_below = compare(Comparison::AtMost, zero, the_loop.variant.clone());
+        if self.is(DivisionFault::AtVariants) {
+            not_below = with_divisors(self.d().of_expression(&the_loop.variant), not_below);
+        }
+        let floor = implies(entered, not_below);
+        self.list(ConditionKind::Floor, the_loop.row, floor);
+    }
+
+    fn step(&mut self, the_loop: &Loop, invariant: &Formula, entered: Formula) {
         let variant = || the_loop.variant.clone();
         let mark = || Expression::Mark(the_loop.row);
+        let less = compare(Comparison::Less, variant(), mark());
+        let before = self.before(&the_loop.body, and(invariant.clone(), less));
+        let begun = compare(Comparison::Equal, variant(), mark());
+        let step = implies(and(entered, begun), before);
+        self.list(ConditionKind::Step, the_loop.row, step);
+    }
+
+    fn while_loop(&mut self, the_loop: &Loop, after: Formula) -> Formula {
+        use DivisionFault::{AtInvariants, GuardAtTheLoop, GuardInTheExit, NoGuard};
+        use DivisionFault::{GuardAfterExit, GuardAfterFloor, GuardAfterStep};
         let mut invariant = the_loop.invariant.clone();
         if self.is(AtInvariants) {
             invariant = with_divisors(self.d().of_formula(&invariant), invariant);
         }
-        let invariant = || invariant.clone();
-
-        let elsewhere = [
-            NoGuard,
-            GuardAfterExit,
-            GuardAfterFloor,
-            GuardAfterStep,
-            GuardAtTheLoop,
-            GuardInTheExit,
-        ];
-        if !elsewhere.contains(&self.fault) {
+        let after_others = [GuardAfterExit, GuardAfterFloor, GuardAfterStep];
+        let nowhere = [NoGuard, GuardAtTheLoop, GuardInTheExit];
+        if !after_others.contains(&self.fault) && !nowhere.contains(&self.fault) {
             self.guard(the_loop);
         }
-
-        let mut exit = implies(and(invariant(), not(guard())), after);
-        if self.is(GuardInTheExit) {
-            exit = with_divisors(self.d().of_formula(&the_loop.guard), exit);
-        }
-        self.list(ConditionKind::Exit, the_loop.row, exit);
+        let entered = || and(invariant.clone(), the_loop.guard.clone());
+        self.exit(the_loop, &invariant, after);
         self.guard_if(GuardAfterExit, the_loop);
-
-        let zero = Expression::Constant(0);
-        let mut not_below = compare(Comparison::AtMost, zero, variant());
-        if self.is(AtVariants) {
-            not_below = with_divisors(self.d().of_expression(&the_loop.variant), not_below);
-        }
-        let floor = implies(and(invariant(), guard()), not_below);
-        self.list(ConditionKind::Floor, the_loop.row, floor);
+        self.floor(the_loop, entered());
         self.guard_if(GuardAfterFloor, the_loop);
-
-        let less = compare(Comparison::Less, variant(), mark());
-        let before = self.before(&the_loop.body, and(invariant(), less));
-        let begun = compare(Comparison::Equal, variant(), mark());
-        let step = implies(and(and(invariant(), guard()), begun), before);
-        self.list(ConditionKind::Step, the_loop.row, step);
+        self.step(the_loop, &invariant, entered());
         self.guard_if(GuardAfterStep, the_loop);
-
         if self.is(GuardAtTheLoop) {
-            return with_divisors(self.d().of_formula(&the_loop.guard), invariant());
+            return with_divisors(self.d().of_formula(&the_loop.guard), invariant);
         }
-        invariant()
+        invariant
     }
 }
 
