@@ -6,7 +6,7 @@ use mathlib.Core.List.{List, [], _∷_}
 use native.Mathlib.Omega.{arith as linear}
 use borrow.Author.Tests.{lt-ltb, le-ltb, le-leb, lt-leb, eq-eqb, ne-eqb, eqb-true}
 use Rattle.grammar.specs.Tests.{both, false-is-not}
-use lib.Dec.{eqb, leb, ltb}
+use lib.Dec.{eqb}
 use lib.IntN.{ℤ, pos, negsuc, _-ℤ_}
 use lib.Signed.{mag}
 use mir.Facts.{toZ-ofZ}
@@ -16,7 +16,7 @@ use lib.ListN.{length, getD, set}
 use lib.Seq.{sets}
 use Rattle.grammar.specs.Counts.{minus}
 use Rattle.grammar.specs.Ranges.{limit}
-use Rattle.parser.specs.Machine.{Config, config, refused, Reduced, reduce, reduced-to, hold, maker, operator-row, begin-numeral, begin-count, begin-constant, hole, begins, constant-word, put, top-after, top-frame, row-fits, rows-after, with-words, full}
+use Rattle.parser.specs.Machine.{Config, config, refused, Reduced, reduce, reduced-to, hold, maker, operator-row, begin-numeral, begin-count, begin-constant, hole, begins, constant-word, top-frame, row-fits, rows-after, with-words, full}
 
 -- ---- frames
 

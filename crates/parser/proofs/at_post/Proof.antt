@@ -1,6 +1,6 @@
 -- `parser::at_post` meets its contract. Assumes nothing.
 use borrow.Author.Needs.{needs}
-use borrow.Author.Tests.{eq-eqb, ne-eqb, lt-ltb, le-ltb, le-leb, lt-leb}
+use borrow.Author.Tests.{eq-eqb, ne-eqb}
 use Rattle.parser.specs.Machine.{at-post}
 use Rattle.parser.proofs.at_post.Statement.{statement}
 use Rattle.parser.proofs.at_post.Tie as tie

@@ -1,6 +1,6 @@
 -- `parser::expect` meets its contract. Assumes nothing.
 use borrow.Author.Needs.{needs}
-use borrow.Author.Tests.{eq-eqb, ne-eqb, lt-ltb, le-ltb, le-leb, lt-leb}
+use borrow.Author.Tests.{eq-eqb, ne-eqb}
 use Rattle.parser.specs.Machine.{expect}
 use Rattle.parser.proofs.expect.Statement.{statement}
 use Rattle.parser.proofs.expect.Tie as tie

@@ -1,6 +1,6 @@
 -- `parser::take_after` meets its contract. Assumes nothing.
 use borrow.Author.Needs.{needs}
-use borrow.Author.Tests.{eq-eqb, ne-eqb, lt-ltb, le-ltb, le-leb, lt-leb}
+use borrow.Author.Tests.{eq-eqb, ne-eqb}
 use Rattle.parser.specs.Machine.{take-after}
 use Rattle.parser.proofs.take_after.Statement.{statement}
 use Rattle.parser.proofs.take_after.Tie as tie

@@ -1,6 +1,6 @@
 -- `parser::take_part` meets its contract. Assumes nothing.
 use borrow.Author.Needs.{needs}
-use borrow.Author.Tests.{eq-eqb, ne-eqb, lt-ltb, le-ltb, le-leb, lt-leb}
+use borrow.Author.Tests.{eq-eqb, ne-eqb}
 use Rattle.parser.specs.Machine.{take-part}
 use Rattle.parser.proofs.take_part.Statement.{statement}
 use Rattle.parser.proofs.take_part.Tie as tie

@@ -1,6 +1,6 @@
 -- `parser::after::bodies_after` meets its contract. Assumes nothing.
 use borrow.Author.Needs.{needs}
-use borrow.Author.Tests.{eq-eqb, ne-eqb, lt-ltb, le-ltb, le-leb, lt-leb}
+use borrow.Author.Tests.{eq-eqb, ne-eqb}
 use Rattle.parser.proofs.after.bodies_after.Statement.{statement}
 use Rattle.parser.proofs.after.bodies_after.Tie as tie
 

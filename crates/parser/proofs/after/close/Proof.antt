@@ -1,7 +1,7 @@
 -- `parser::after::close` meets its contract. Assumes nothing.
 use borrow.Author.Needs.{needs}
 use mathlib.Core.Path.{sym, _∙_}
-use borrow.Author.Tests.{eq-eqb, ne-eqb, lt-ltb, le-ltb, le-leb, lt-leb}
+use borrow.Author.Tests.{eq-eqb, ne-eqb}
 use Rattle.parser.specs.Machine.{close, close-mark, close-form, next-place}
 use Rattle.parser.proofs.after.close.Statement.{statement}
 use Rattle.parser.proofs.after.close.Tie as tie

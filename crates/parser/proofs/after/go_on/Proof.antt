@@ -1,7 +1,7 @@
 -- `parser::after::go_on` meets its contract. Assumes nothing.
 use borrow.Author.Needs.{needs}
 use mathlib.Core.Path.{sym, _∙_}
-use borrow.Author.Tests.{eq-eqb, ne-eqb, lt-ltb, le-ltb, le-leb, lt-leb}
+use borrow.Author.Tests.{eq-eqb, ne-eqb}
 use Rattle.parser.specs.Machine.{go-on, push-infix}
 use Rattle.parser.proofs.after.go_on.Statement.{statement}
 use Rattle.parser.proofs.after.go_on.Tie as tie

@@ -1,8 +1,7 @@
 -- `parser::after::reduce` meets its contract. Assumes nothing.
 use borrow.Author.Needs.{needs}
-use mathlib.Core.Path.{_≡_, refl, sym, _∙_}
+use mathlib.Core.Path.{_≡_, refl, _∙_}
 use lib.ListN.{length}
-use native.Mathlib.Omega.{arith as linear}
 use Rattle.parser.proofs.Laws.{reduce-none, reduce-stops, reduce-misfits, reduce-more, left-fields}
 use Rattle.parser.specs.Machine.{reduce}
 use Rattle.parser.proofs.after.reduce.Statement.{statement}

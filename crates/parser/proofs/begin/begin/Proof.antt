@@ -1,6 +1,6 @@
 -- `parser::begin::begin` meets its contract. Assumes nothing.
 use borrow.Author.Needs.{needs}
-use borrow.Author.Tests.{eq-eqb, ne-eqb, lt-ltb, le-ltb, le-leb, lt-leb}
+use borrow.Author.Tests.{ne-eqb}
 use Rattle.parser.proofs.Laws.{numeral-stack}
 use Rattle.parser.specs.Machine.{begin}
 use Rattle.parser.proofs.begin.begin.Statement.{statement}

@@ -1,7 +1,7 @@
 -- `parser::begin::begin_numeral` meets its contract. Assumes nothing.
 use borrow.Author.Needs.{needs}
 use mathlib.Core.Path.{sym, _∙_}
-use borrow.Author.Tests.{eq-eqb, ne-eqb, lt-ltb, le-ltb, le-leb, lt-leb}
+use borrow.Author.Tests.{eq-eqb, ne-eqb}
 use Rattle.parser.specs.Machine.{begin-numeral, begin-constant}
 use Rattle.parser.proofs.begin.begin_numeral.Statement.{statement}
 use Rattle.parser.proofs.begin.begin_numeral.Tie as tie

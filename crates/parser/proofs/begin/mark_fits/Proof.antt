@@ -1,5 +1,5 @@
 -- `parser::begin::mark_fits` meets its contract. Assumes nothing.
-use borrow.Author.Tests.{eq-eqb, ne-eqb, lt-ltb, le-ltb, le-leb, lt-leb}
+use borrow.Author.Tests.{le-leb, lt-leb}
 use Rattle.parser.proofs.begin.mark_fits.Statement.{statement}
 use Rattle.parser.proofs.begin.mark_fits.Tie as tie
 

@@ -1,5 +1,5 @@
 -- `parser::begin::opened` meets its contract. Assumes nothing.
-use borrow.Author.Tests.{eq-eqb, ne-eqb, lt-ltb, le-ltb, le-leb, lt-leb}
+use borrow.Author.Tests.{eq-eqb, ne-eqb}
 use Rattle.parser.proofs.begin.opened.Statement.{statement}
 use Rattle.parser.proofs.begin.opened.Tie as tie
 

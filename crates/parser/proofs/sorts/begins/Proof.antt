@@ -1,7 +1,7 @@
 -- `parser::sorts::begins` meets its contract. Assumes nothing.
 use borrow.Author.Needs.{needs}
 use mathlib.Core.Path.{sym, _∙_}
-use borrow.Author.Tests.{eq-eqb, ne-eqb, lt-ltb, le-ltb, le-leb, lt-leb}
+use borrow.Author.Tests.{eq-eqb, ne-eqb}
 use Rattle.parser.proofs.sorts.begins.Statement.{statement}
 use Rattle.parser.proofs.sorts.begins.Tie as tie
 

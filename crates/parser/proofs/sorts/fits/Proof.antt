@@ -1,6 +1,6 @@
 -- `parser::sorts::fits` meets its contract. Assumes nothing.
 use borrow.Author.Needs.{needs}
-use borrow.Author.Tests.{eq-eqb, ne-eqb, lt-ltb, le-ltb, le-leb, lt-leb}
+use borrow.Author.Tests.{eq-eqb, ne-eqb}
 use Rattle.parser.proofs.sorts.fits.Statement.{statement}
 use Rattle.parser.proofs.sorts.fits.Tie as tie
 

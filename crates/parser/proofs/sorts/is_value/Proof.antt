@@ -1,5 +1,5 @@
 -- `parser::sorts::is_value` meets its contract. Assumes nothing.
-use borrow.Author.Tests.{eq-eqb, ne-eqb, lt-ltb, le-ltb, le-leb, lt-leb}
+use borrow.Author.Tests.{eq-eqb, ne-eqb}
 use Rattle.parser.proofs.sorts.is_value.Statement.{statement}
 use Rattle.parser.proofs.sorts.is_value.Tie as tie
 
