@@ -1,15 +1,22 @@
--- What reading a row gives, computed at one input each: a wrong answer differs there. Assumes nothing.
+-- What reading a row gives, and which names are frozen, computed at one input each: a wrong answer differs there. Assumes
+-- nothing.
 use mathlib.Core.Path.{_≡_, refl}
+use mathlib.Core.Bool.{true, false}
 use lib.IntN.{pos, negsuc}
 use Rattle.script.specs.declared.ExpressionRow.the-variants.{Variable, Mark}
 use Rattle.script.specs.declared.StatementRow.the-variants.{Skip, Sequence}
 use Rattle.script.specs.declared.Row.the-variants as Row
 use Rattle.script.specs.Rows.{field-number, row-no, var-no, row-of, row, word}
+use Rattle.script.specs.Refusals.{frozen}
 use Rattle.script.specs.Computed.{_⨾_, four-rows}
 
 -- a negative field is beyond every range, and no other is
 negative-field : (field-number (negsuc 0) ≡ 4294967295) × (field-number (pos 7) ≡ 7)
 negative-field = (refl, refl)
+
+-- the first and the last frozen name, each with the ordinary one beside it
+frozen-ends : (frozen 127 ≡ false) × ((frozen 128 ≡ true) × ((frozen 255 ≡ true) × (frozen 256 ≡ false)))
+frozen-ends = (refl, (refl, (refl, refl)))
 
 -- a mark is no variable, a sequence keeps its order, and a kind that is not listed is unknown
 record Kinds-read : Type 0 where
