@@ -6,7 +6,7 @@ use Prim.Native.Nat.{ℕ, zero, suc, _+_, _-_, _<_}
 use native.Mathlib.Omega.{arith as linear}
 use mathlib.Core.Path.{_≡_, refl, sym, ap, _∙_}
 use mathlib.Core.Logic.{_≢_}
-use mathlib.Core.Option.{none, some}
+use mathlib.Core.Option.{Option, none, some}
 use mathlib.Core.Bool.{true, false}
 use mathlib.Core.List.{List, [], _∷_, _++_, map, reverse}
 use lib.IntN.{ℤ, pos}
@@ -20,7 +20,7 @@ use Rattle.script.specs.WellFormed.{Well-formed}
 use Rattle.script.specs.Rows.{row-of}
 use Rattle.script.specs.Listing.{Found, no-line, line, read-expr-within, read-formula-within, spelled-within, found-within, line-before-within, lines-before-within, lines, lines-within, read-list, line-at, line-at-within, part-at, condition-count, condition-count-within, first-place, first-place-within, step-back, step-back-within, next-place, next-place-within}
 use Rattle.script.specs.Computed.{numbers}
-use Rattle.theorems.specs.ReadBack.{written-read, lines-written, places}
+use Rattle.theorems.specs.ReadBack.{tested, written-read, lines-written, places}
 use Rattle.theorems.specs.Lookup.{line-at-index, part-at-index, walk-back, walk-back-list, walk-back-malformed}
 
 -- ---- a list of two conditions, and words that are none
@@ -165,6 +165,15 @@ module _ (n : List ℤ → ℕ) (meets : (ws : List ℤ) → n ws ≡ condition-
   counts-unread h =
       let a : n torn ≡ 1 = cc (h torn, facts .claimed) in
       omega (linear, meets torn, facts .uncounted)
+
+  -- words that are too many for a list
+  pub counts-too-long : (ws : List ℤ) → 16384 < length ws → 0 < n ws → ⊥
+  unfolding condition-count-within
+  counts-too-long ws h c = by-lines (lines ws) refl
+    where
+      by-lines : (o : Option (List Found)) → lines ws ≡ o → ⊥
+      by-lines none q = let e : condition-count ws ≡ 0 = rw (q, condition-count-within) in omega (linear, meets ws, e)
+      by-lines (some fs) q = let short = tested ws fs q .short in omega linear
 
   pub invents-count : (ws : List ℤ) (cs : List Condition) → Well-formed ws cs → n ws ≢ length cs → ⊥
   unfolding condition-count-within
