@@ -3,7 +3,7 @@
 -- part's has the entry of that part. Assumes nothing.
 use Prim.Native.Nat.{ℕ, _+_, _≤_, _<_}
 use mathlib.Core.Path.{_≡_, refl, sym, ap, _∙_}
-use mathlib.Core.Bool.{Bool, true, false, _||_, false≢true}
+use mathlib.Core.Bool.{Bool, true, false, _||_}
 use mathlib.Core.Option.{Option, none, some}
 use mathlib.Core.List.{List}
 use native.Mathlib.Omega.{arith as linear}
@@ -14,7 +14,7 @@ use Rattle.script.specs.Conditions.{_joined_, behind}
 use Rattle.script.specs.Rows.{rows}
 use Rattle.script.specs.Trees.{expr-at, formula-at}
 use Rattle.theorems.specs.Accepted.{Accepted}
-use Rattle.theorems.specs.Unchanged.{stands, joined-stands, behind-stands}
+use Rattle.theorems.specs.Unchanged.{stands, no-item, joined-stands, behind-stands}
 use Rattle.following.specs.Follow.{row-on}
 use Rattle.dividing.specs.Nodes.{Node, divisors-at}
 use Rattle.dividing.specs.Sizes.{size, joined-size, both-size, premise-size, behind-size, divisor-size}
@@ -45,10 +45,6 @@ third-of false true e = refl
 third-of false false e = e
 
 -- or one alone
-
-no-item : (x : Option Formula) → stands x ≡ false → x ≡ none
-no-item none h = refl
-no-item (some f) h = absurd (false≢true (sym h))
 
 first-alone : (x : Option Formula) {y z : Option Formula} → y ≡ none → z ≡ none → x joined y joined z ≡ x
 first-alone none hy hz = rw (hy, hz) refl

@@ -14,6 +14,7 @@ use lib.ListN.{length, getD}
 use lib.IntN.{ℤ}
 use Rattle.script.specs.Rows.{field-number, fields, rows, row, word}
 use Rattle.script.specs.Refusals.{bad-length, Verdict, accepted, refused, lowest, assigns-frozen, linked, unlinked-fault, target-fault, row-fault, row-test, row-test-within, script-test, unlinked-test, target-test}
+use Rattle.theorems.specs.Accepted.{clash}
 use Rattle.table.specs.declared.Verdict.{Verdict as Answer}
 use Rattle.table.specs.declared.Verdict.the-variants as Answer
 use Rattle.table.specs.Verdicts.{verdict-of}
@@ -75,9 +76,6 @@ pub record Rows-at (t : List ℤ) (i : ℕ) (s : List ℕ) : Type 0 where
 pub record Rows-tested (t : List ℤ) (v : Answer) (s : List ℕ) : Type 0 where
   pub is : verdict-of v ≡ row-test t
   pub shown : verdict-of v ≡ accepted → States t (rows t) (linked t (rows t)) s
-
-clash : {X : Type 0} {n r : ℕ} → refused n r ≡ accepted → X
-clash e = absurd (let z : _≡_ {A = ℕ} 0 1 = cc in omega linear)
 
 pub rows-none : {t : List ℤ} {s : List ℕ} → length s ≡ 2048 → Rows-at t 0 s
 unfolding linked

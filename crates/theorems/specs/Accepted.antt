@@ -35,7 +35,7 @@ pub record Accepted (t : List ℤ) : Type 0 where
 
 -- ---- tests that passed
 
-clash : {X : Type 0} {n r : ℕ} → refused n r ≡ accepted → X
+pub clash : {X : Type 0} {n r : ℕ} → refused n r ≡ accepted → X
 clash e = absurd (let z : _≡_ {A = ℕ} 0 1 = cc in omega linear)
 
 both-accept : (v w : Verdict) → v and-then w ≡ accepted → (v ≡ accepted) × (w ≡ accepted)

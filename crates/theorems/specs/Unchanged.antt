@@ -88,15 +88,15 @@ mutual
   divisors-standᶠ (not f) = divisors-standᶠ f
   divisors-standᶠ (join c f g) = joined-stands (divisorsᶠ f) (divisorsᶠ g) (divisors-standᶠ f) (divisors-standᶠ g)
 
-nothing : (x : Option Formula) → stands x ≡ false → x ≡ none
-nothing none h = refl
-nothing (some f) h = absurd (false≢true (sym h))
+pub no-item : (x : Option Formula) → stands x ≡ false → x ≡ none
+no-item none h = refl
+no-item (some f) h = absurd (false≢true (sym h))
 
 pub no-divisors : (e : Expr) → divides e ≡ false → divisors e ≡ none
-no-divisors e h = nothing (divisors e) (divisors-stand e ∙ h)
+no-divisors e h = no-item (divisors e) (divisors-stand e ∙ h)
 
 pub no-divisorsᶠ : (f : Formula) → dividesᶠ f ≡ false → divisorsᶠ f ≡ none
-no-divisorsᶠ f h = nothing (divisorsᶠ f) (divisors-standᶠ f ∙ h)
+no-divisorsᶠ f h = no-item (divisorsᶠ f) (divisors-standᶠ f ∙ h)
 
 module _ (𝔸 : Arithmetic) (s : State) where
   pub always-defined : (e : Expr) → divides e ≡ false → defined 𝔸 s e ≡ true
