@@ -1,6 +1,6 @@
 -- The turns of the writer, shape by shape: how the next turn goes on with the last part, or that the whole was written.
 -- Assumes nothing.
-use Prim.Native.Nat.{ℕ, _+_, _-_, _*_, _≤_, _<_}
+use Prim.Native.Nat.{ℕ, _+_, _≤_, _<_}
 use mathlib.Core.Path.{_≡_, refl, sym, ap, _∙_}
 use mathlib.Core.Bool.{Bool, true, false}
 use mathlib.Core.List.{List, [], _∷_, _++_}
@@ -16,10 +16,10 @@ use Rattle.smt_writer.specs.declared.terms.Reached.{Reached}
 use Rattle.smt_writer.specs.declared.terms.Shape.{Shape}
 use Rattle.smt_writer.specs.declared.terms.Shape.the-variants.{Leaf, Truth, Single, Pair, Division, Choice}
 use Rattle.smt_writer.specs.Standing.{Stands, stands-as, inside, word, past, front, behind}
-use Rattle.smt_writer.specs.Nodes.{Node, expression, words-of, text-of, size, Ranged, Node-at, at-place}
-use Rattle.smt_writer.specs.Openings.{opening, leaf-text, truth-name, closes, before-divisor}
+use Rattle.smt_writer.specs.Nodes.{Node, expression, words-of, text-of, size, Node-at, at-place}
+use Rattle.smt_writer.specs.Openings.{opening, leaf-text, truth-name, closes}
 use Rattle.smt_writer.specs.Shapes.{shape-of, A-leaf, A-truth, A-single, A-pair, A-division, A-choice, view, as-leaf, as-truth, as-single, as-pair, as-division, as-choice, node-inside}
-use Rattle.smt_writer.specs.Turns.{Begins, Reaches, Written, Turn, Turns, leaf, onward}
+use Rattle.smt_writer.specs.Turns.{Begins, Written, Turns, leaf, onward}
 use Rattle.smt_writer.specs.Divisions.{Division-at, Divides, Divided, divisor-at}
 
 -- ---- the parts of a node, where they stand

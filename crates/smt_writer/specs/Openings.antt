@@ -1,7 +1,7 @@
 -- The text of a node in the order of writing: what stands before its last part, the last part, and what closes it; by the
 -- number of its kind. Assumes nothing.
 use Prim.Native.Nat.{ℕ}
-use mathlib.Core.Path.{_≡_, refl, ap, _∙_}
+use mathlib.Core.Path.{_≡_, _∙_}
 use mathlib.Core.List.{List, [], _∷_, _++_, append-assoc}
 use mathlib.Core.Bool.{cond}
 use borrow.Author.Tests.{ne-eqb}
@@ -13,7 +13,7 @@ use Rattle.script.specs.Syntax.{Expr, arith, choose, Formula}
 use Rattle.script.specs.declared.Operator.the-variants.{Div, Mod}
 use Rattle.text.specs.Ascii.{bytes}
 use Rattle.smt.specs.Translate.{variable, mark, name}
-use Rattle.smt.specs.Pieces.{expr-text, formula-text, constant-text, around-two, arith-text, choose-text}
+use Rattle.smt.specs.Pieces.{expr-text, formula-text, constant-text, arith-text, choose-text}
 
 -- ---- what stands before the first part of a node
 

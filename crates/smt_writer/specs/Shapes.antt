@@ -12,11 +12,11 @@ use lib.ListN.{length, getD}
 use Rattle.script.specs.declared.Operator.the-variants.{Plus, Minus, Times, Div, Mod}
 use Rattle.script.specs.declared.Relation.the-variants.{Less, AtMost, Equal, Unequal}
 use Rattle.script.specs.declared.Connective.the-variants.{And, Or, Implies}
-use Rattle.script.specs.Syntax.{Expr, const, var, mark, arith, neg, choose, Formula, truth, cmp, not, join}
+use Rattle.script.specs.Syntax.{Expr, const, var, mark, arith, neg, choose, truth, cmp, not, join}
 use Rattle.script.specs.Rows.{field-number}
-use Rattle.script.specs.Words.{expr-words, formula-words}
+use Rattle.script.specs.Words.{expr-words}
 use Rattle.text.specs.Ascii.{bytes}
-use Rattle.smt.specs.Pieces.{expr-text, formula-text, around-two, const-text, var-text, mark-text, arith-text, neg-text, truth-text, cmp-text, not-text, join-text}
+use Rattle.smt.specs.Pieces.{expr-text, around-two, const-text, var-text, mark-text, arith-text, neg-text, truth-text, cmp-text, not-text, join-text}
 use Rattle.smt_writer.specs.declared.terms.Shape.{Shape}
 use Rattle.smt_writer.specs.declared.terms.Shape.the-variants.{Leaf, Truth, Single, Pair, Division, Choice}
 use Rattle.smt_writer.specs.Standing.{Stands, inside, word}

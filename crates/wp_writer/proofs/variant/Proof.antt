@@ -1,6 +1,4 @@
 -- `wp_writer::variant` meets its contract. Assumes nothing.
-use borrow.Author.Needs.{needs}
-use mathlib.Core.Path.{_∙_, ap}
 use native.Mathlib.Omega.{arith}
 use Rattle.wp_writer.specs.Loops.{loop-in-table, note-in-table}
 use Rattle.wp_writer.proofs.variant.Statement.{statement}

@@ -6,7 +6,6 @@ use mathlib.Core.Path.{_≡_}
 use Rattle.script.specs.declared.StatementRow.the-variants.{If}
 use Rattle.script.specs.declared.Row.the-variants as Row
 use Rattle.script.specs.Rows.{row}
-use Rattle.script.specs.Laws.{back}
 use Rattle.theorems.specs.Writing.{then}
 use Rattle.following.specs.Parts.{left-else}
 use Rattle.following.specs.Kinds.{number, if-row}

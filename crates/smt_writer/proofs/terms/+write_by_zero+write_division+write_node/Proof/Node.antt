@@ -8,7 +8,7 @@ use lib.ListN.{length, getD}
 use Rattle.script.specs.Rows.{field-number}
 use Rattle.script.specs.Laws.{back}
 use Rattle.theorems.specs.Writing.{wrote-length}
-use Rattle.smt_writer.specs.Turns.{Turns, begun, full}
+use Rattle.smt_writer.specs.Turns.{begun, full}
 use Rattle.smt_writer.specs.Arms.{within, number-inside, leaf-left, truth-left, single-turn, first-begins, pair-turn, divides, division-turn, test-begins, chosen-begins, choice-turn}
 use Rattle.smt_writer.proofs.terms.write_node.Reads as reads
 use Rattle.smt_writer.proofs.terms.+write_by_zero+write_division+write_node.Lts-write_node as lts
