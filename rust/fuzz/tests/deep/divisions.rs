@@ -2,11 +2,8 @@
 
 use leqwarti::{LARGEST_SCRATCH, LONGEST_LIST};
 
-use super::rows::Rows;
+use super::rows::{Rows, Shape, EXPRESSIONS};
 use super::tables::{Cases, LIST_TOO_LONG, PLANNED};
-
-/// A level of an expression that divides, put around what is there.
-type Wrap = fn(&mut Rows, i32) -> i32;
 
 /// The table with a deep expression in one place.
 type Place = fn(Rows, i32) -> Vec<i32>;
@@ -17,7 +14,8 @@ fn division(rows: &mut Rows) -> i32 {
     rows.add([6, dividend, divisor, 0])
 }
 
-const SHAPES: [(&str, Wrap); 15] = [
+/// Levels beside those of `EXPRESSIONS`; all but the last divide themselves.
+const DIVIDING: [Shape; 9] = [
     ("divs of divs", |rows, deep| {
         let divisor = rows.variable(2);
         rows.add([6, deep, divisor, 0])
@@ -38,15 +36,6 @@ const SHAPES: [(&str, Wrap); 15] = [
         let divisor = division(rows);
         rows.add([6, deep, divisor, 0])
     }),
-    ("negates of a div", |rows, deep| rows.add([8, deep, 0, 0])),
-    ("pluses of a div leaning left", |rows, deep| {
-        let zero = rows.zero();
-        rows.add([3, deep, zero, 0])
-    }),
-    ("pluses of a div leaning right", |rows, deep| {
-        let zero = rows.zero();
-        rows.add([3, zero, deep, 0])
-    }),
     ("pluses of divs leaning left", |rows, deep| {
         let other = division(rows);
         rows.add([3, deep, other, 0])
@@ -55,23 +44,10 @@ const SHAPES: [(&str, Wrap); 15] = [
         let other = division(rows);
         rows.add([3, other, deep, 0])
     }),
-    ("chooses by a div", |rows, deep| {
-        let formula = rows.is_zero(deep);
-        let (first, second) = (rows.zero(), rows.zero());
-        rows.add([10, formula, first, second])
-    }),
     ("chooses by and of divs", |rows, deep| {
         let formula = rows.is_zero(deep);
         let (first, second) = (division(rows), division(rows));
         rows.add([10, formula, first, second])
-    }),
-    ("chooses of the first, a div", |rows, deep| {
-        let (formula, other) = (rows.truth(), rows.zero());
-        rows.add([10, formula, deep, other])
-    }),
-    ("chooses of the second, a div", |rows, deep| {
-        let (formula, other) = (rows.truth(), rows.zero());
-        rows.add([10, formula, other, deep])
     }),
     ("nots by which a choose divides", |rows, deep| {
         let formula = rows.is_zero(deep);
@@ -119,13 +95,13 @@ const KEPT: [(&str, usize); 3] = [("", 20), (", a quarter", 1_536), (", few", 1_
 
 impl Cases {
     pub fn add_divisions(&mut self) {
-        for (shape, wrap) in SHAPES {
+        for (shape, wrap) in EXPRESSIONS.into_iter().chain(DIVIDING) {
             for (place, table) in PLACES {
                 for (how, kept) in KEPT {
                     let mut rows = Rows::new();
                     let inner = division(&mut rows);
                     let deep = rows.deep_with(inner, kept, wrap);
-                    let name = format!("{shape} {place}{how}");
+                    let name = format!("{shape} around a div {place}{how}");
                     self.add_as_long(name, table(rows, deep));
                 }
             }
@@ -158,7 +134,7 @@ impl Cases {
 
     /// Ands of comparisons that divide, and nots of one.
     fn add_guards_that_divide(&mut self) {
-        let shapes: [(&str, Wrap); 3] = [
+        let shapes: [Shape; 3] = [
             ("nots of a div", |rows, deep| rows.add([22, deep, 0, 0])),
             ("ands of divs leaning left", |rows, deep| {
                 let divided = division(rows);

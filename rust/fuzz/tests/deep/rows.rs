@@ -109,7 +109,7 @@ impl Rows {
 
 /// What a deep formula or expression is made of, and how a level of it is put
 /// around what is there.
-type Shape = (&'static str, fn(&mut Rows, i32) -> i32);
+pub type Shape = (&'static str, fn(&mut Rows, i32) -> i32);
 
 pub const FORMULAS: [Shape; 7] = [
     ("nots", |rows, deep| rows.add([22, deep, 0, 0])),
