@@ -81,21 +81,37 @@ fn assert_unbuilt(all_arguments: &[&str], expected: (Option<i32>, &str, &str)) {
     assert!(!tree.is_built());
 }
 
+/// It is said what is wrong, with the first lines of the help.
 #[test]
 fn wrong_usage_builds_nothing() {
-    let all_arguments = [
+    let without_file = [
         "prove",
         "prove --json",
         "prove --timeout 5",
         "prove --timeout a.script",
         "prove --json --timeout 5",
-        "prove a.script 5",
-        "prove a.script --timeout 5 a.script",
         "list",
         "smt",
         "",
     ];
-    assert_unbuilt(&all_arguments, (Some(2), "", cli::HELP));
+    let usage = cli::HELP.split("\n\n").next().unwrap();
+    assert_eq!(usage.lines().count(), 4);
+    for (all_arguments, told) in [
+        (&without_file[..], "no file is given"),
+        (&["prove a.script 5"], "too many arguments: a.script 5"),
+        (
+            &["prove a.script --timeout 5 a.script"],
+            "too many arguments: a.script a.script",
+        ),
+        (&["smt a.script 5 5"], "too many arguments: a.script 5 5"),
+        (
+            &["prove --jsn a.script", "--jsn a.script --words"],
+            "--jsn is no option",
+        ),
+    ] {
+        let error = format!("vcgen: {told}\n{usage}\n./vcgen --help says more\n");
+        assert_unbuilt(all_arguments, (Some(2), "", &error));
+    }
 }
 
 #[test]
