@@ -11,6 +11,8 @@ use std::fs;
 use std::os::unix::fs::symlink;
 use std::path::PathBuf;
 use std::process::{Command, Stdio};
+use std::thread;
+use std::time::Duration;
 
 use files::top;
 use pretended::folder;
@@ -67,6 +69,19 @@ impl Tree {
 
     fn is_built(&self) -> bool {
         self.folder.join("built").exists()
+    }
+
+    /// How often the library and the command were built.
+    fn builds(&self) -> (usize, usize) {
+        let built = files::text(&self.folder.join("built"));
+        let count = |what| built.lines().filter(|line| *line == what).count();
+        (count("library"), count("command"))
+    }
+
+    /// Writes a file after all that is built.
+    fn edit(&self, file: &str) {
+        thread::sleep(Duration::from_millis(20));
+        fs::write(self.folder.join(file), "").unwrap();
     }
 }
 
@@ -134,9 +149,9 @@ fn the_help_needs_no_command() {
 }
 
 /// What the script and the pretended builds run.
-const TOOLS: [&str; 12] = [
-    "bash", "cat", "chmod", "dirname", "find", "flock", "mkdir", "readlink", "rm", "sh", "tail",
-    "touch",
+const TOOLS: [&str; 13] = [
+    "bash", "cat", "chmod", "dirname", "find", "flock", "mkdir", "mv", "readlink", "rm", "sh",
+    "tail", "touch",
 ];
 
 /// A folder with these tools, and so without solvers.
@@ -189,6 +204,81 @@ fn what_is_built_gets_the_arguments_as_they_are() {
         let run = tree.vcgen(arguments);
         assert_eq!((run.status, run.out), (Some(0), passed), "{arguments}");
     }
-    let built = files::text(&tree.folder.join("built"));
-    assert_eq!(built.matches("library").count(), 1);
+    assert_eq!(tree.builds(), (1, 1));
+}
+
+#[test]
+fn what_is_edited_is_built_again() {
+    let tree = Tree::new();
+    for (edited, builds) in [
+        ("a.script", (1, 1)),
+        ("rust/cli/src/lib.rs", (1, 2)),
+        ("crates/lib.rattle", (2, 3)),
+        ("crates.txt", (3, 4)),
+        ("target/staticlib/libexports.a", (3, 5)),
+    ] {
+        tree.vcgen("a.script");
+        tree.edit(edited);
+        assert_eq!(tree.vcgen("a.script").out, "<a.script>\n");
+        assert_eq!(tree.builds(), builds, "{edited}");
+    }
+}
+
+/// It has status 3, what was built before does not run, and the next call begins
+/// again.
+#[test]
+fn a_build_that_fails_is_not_taken_for_one() {
+    for (tool, edited, builds) in [
+        ("rt", "crates.txt", (2, 2)),
+        ("cargo", "rust/cli/src/lib.rs", (1, 2)),
+    ] {
+        let tree = Tree::new();
+        tree.vcgen("a.script");
+        tree.edit(edited);
+        let place = tree.folder.join(tool);
+        let aside = tree.folder.join("aside");
+        fs::rename(&place, &aside).unwrap();
+        symlink("/bin/false", &place).unwrap();
+        for _ in 0..2 {
+            let failed = tree.vcgen("a.script");
+            assert_eq!((failed.status, &failed.out[..]), (Some(3), ""), "{tool}");
+            assert!(failed.error.contains(" failed; the whole log is "));
+        }
+        fs::rename(&aside, &place).unwrap();
+        assert_eq!(tree.vcgen("a.script").out, "<a.script>\n");
+        assert_eq!(tree.builds(), builds, "{tool}");
+    }
+}
+
+/// As where somebody else has built it, and others may only read it.
+#[test]
+fn what_is_built_runs_without_the_tools_that_built_it() {
+    let (tree, tools) = (Tree::new(), tools());
+    tree.vcgen("a.script");
+    for tool in ["rt", "cargo"] {
+        fs::remove_file(tree.folder.join(tool)).unwrap();
+    }
+    fs::remove_file(tree.folder.join("target/vcgen.lock")).unwrap();
+    let run = |arguments| tree.vcgen_beside(tools.as_os_str(), arguments);
+    let again = run("a.script");
+    let written = (&again.out[..], &again.error[..]);
+    assert_eq!(written, ("<a.script>\n", ""));
+    assert!(!tree.folder.join("target/vcgen.lock").exists());
+
+    tree.edit("crates.txt");
+    let told = "vcgen: `cargo` is not on the PATH; it comes with Rust\n";
+    let edited = run("a.script");
+    assert_eq!((edited.status, &edited.error[..]), (Some(3), told));
+}
+
+#[test]
+fn where_nothing_can_be_written_nothing_is_built() {
+    let tree = Tree::new();
+    fs::write(tree.folder.join("target"), "").unwrap();
+    let run = tree.vcgen("a.script");
+    assert_eq!((run.status, &run.out[..]), (Some(3), ""));
+    assert!(run
+        .error
+        .contains("vcgen: there is something to build, and "));
+    assert!(!tree.is_built());
 }
