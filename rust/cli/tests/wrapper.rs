@@ -8,6 +8,7 @@ mod proving;
 use std::env;
 use std::ffi::{OsStr, OsString};
 use std::fs;
+use std::io::Read;
 use std::os::unix::fs::symlink;
 use std::path::PathBuf;
 use std::process::{Command, Stdio};
@@ -281,4 +282,28 @@ fn where_nothing_can_be_written_nothing_is_built() {
         .error
         .contains("vcgen: there is something to build, and "));
     assert!(!tree.is_built());
+}
+
+#[test]
+fn who_waits_for_another_call_is_told_so() {
+    let tree = Tree::new();
+    fs::create_dir(tree.folder.join("target")).unwrap();
+    let mut other = Command::new("flock")
+        .args(["target/vcgen.lock", "sh", "-c", "echo held; sleep 1"])
+        .current_dir(&tree.folder)
+        .stdout(Stdio::piped())
+        .spawn()
+        .unwrap();
+    let mut held = [0; 5];
+    other
+        .stdout
+        .as_mut()
+        .unwrap()
+        .read_exact(&mut held)
+        .unwrap();
+    let run = tree.vcgen("a.script");
+    assert!(other.wait().unwrap().success());
+    assert_eq!(run.out, "<a.script>\n");
+    let waiting = "vcgen: waiting for the build that another call has begun\n";
+    assert!(run.error.starts_with(waiting), "{}", run.error);
 }
