@@ -7,7 +7,7 @@ mod proving;
 
 use std::env;
 use std::ffi::{OsStr, OsString};
-use std::fs;
+use std::fs::{self, File};
 use std::io::Read;
 use std::os::unix::fs::symlink;
 use std::path::PathBuf;
@@ -147,6 +147,23 @@ fn a_file_that_is_not_there_builds_nothing() {
 fn the_help_needs_no_command() {
     let all_arguments = ["--help", "prove --help", "prove a.script -h"];
     assert_unbuilt(&all_arguments, (Some(0), cli::HELP, ""));
+}
+
+/// Where the help or what is wrong cannot be written.
+#[test]
+fn a_full_device_has_status_2() {
+    let tree = Tree::new();
+    let full = || File::create("/dev/full").unwrap();
+    for arguments in [&["--help"][..], &["none"], &[]] {
+        let status = Command::new("bash")
+            .arg("vcgen")
+            .args(arguments)
+            .current_dir(&tree.folder)
+            .stdout(full())
+            .stderr(full())
+            .status();
+        assert_eq!(status.unwrap().code(), Some(2), "{arguments:?}");
+    }
 }
 
 /// What the script and the pretended builds run.
