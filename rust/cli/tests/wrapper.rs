@@ -234,6 +234,7 @@ fn what_is_edited_is_built_again() {
         ("crates/lib.rattle", (2, 3)),
         ("crates.txt", (3, 4)),
         ("target/staticlib/libexports.a", (3, 5)),
+        ("target/vcgen.built", (3, 6)),
     ] {
         tree.vcgen("a.script");
         tree.edit(edited);
