@@ -111,7 +111,7 @@ fn wrong_usage_builds_nothing() {
         "",
     ];
     let usage = cli::HELP.split("\n\n").next().unwrap();
-    assert_eq!(usage.lines().count(), 4);
+    assert!(usage.starts_with("usage: ./vcgen prove "));
     for (all_arguments, told) in [
         (&without_file[..], "no file is given"),
         (&["prove a.script 5"], "too many arguments: a.script 5"),
