@@ -1,12 +1,12 @@
 -- What is no entry of a node, at accepted tables: nothing for a div or mod, a part's row for a node with a word of its own, a row
--- for a leaf, its own row for a negation or for a sum with one part that divides. Assumes nothing.
+-- for a leaf, its own row for a negation or for a sum with one part that divides. What is not read from an entry. Assumes nothing.
 use mathlib.Core.Path.{_≡_, refl, sym, ap, subst, _∙_}
-use mathlib.Core.Bool.{false≢true}
-use mathlib.Core.List.{List, []}
+use mathlib.Core.Bool.{true, false, false≢true}
+use mathlib.Core.List.{List, [], _∷_}
 use native.Mathlib.Omega.{arith as linear}
 use Prim.Native.Nat.{ℕ, _+_}
 use lib.Dec.{lit<, lit≤}
-use lib.IntN.{ℤ}
+use lib.IntN.{ℤ, pos}
 use Rattle.script.specs.Conditions.{divisors}
 use Rattle.script.specs.Words.{expr-words, formula-words}
 use Rattle.script.specs.Rows.{row, row-of}
@@ -16,9 +16,10 @@ use Rattle.script.specs.Refusals.{length-test, row-test-within, script-test, un
 use Rattle.script.specs.Computed.{_⨾_}
 use Rattle.script.specs.DivisionFigures.{three-divisors}
 use Rattle.theorems.specs.Unchanged.{stands}
+use Rattle.following.specs.Follow.{row-on}
 use Rattle.dividing.specs.Nodes.{divisors-at}
 use Rattle.dividing.specs.Sizes.{size}
-use Rattle.dividing.specs.Divided.{Source, Entry, nothing, from}
+use Rattle.dividing.specs.Divided.{marked, Source, Entry, nothing, from}
 
 -- ---- (v1 div v2) mod (v3 div v4): row 2 is v2, row 3 its first part, row 7 the mod
 
@@ -68,3 +69,17 @@ negation-for-itself e = let h = source-of 4 refl e .own .0 in omega linear
 sum-for-itself : Entry passed-over 6 7 → ⊥
 unfolding passed-over _⨾_ divisors-at row row-of expr-at formula-at expr divisors expr-words formula-words
 sum-for-itself e = let h = source-of 6 refl e .own .0 in omega linear
+
+-- ---- two entries: row 0 divides, and is its own source; row 1 does not
+
+abbrev entries : List ℤ
+entries = pos 1 ∷ pos 0 ∷ []
+
+row-0-unmarked : marked entries 0 ≡ false → ⊥
+row-0-unmarked e = false≢true (sym e)
+
+all-marked : marked entries 1 ≡ true → ⊥
+all-marked e = false≢true e
+
+entry-for-the-source : 1 + 1 ≡ row-on entries 0 → ⊥
+entry-for-the-source e = omega linear
