@@ -1,3 +1,4 @@
 pub mod Nodes
 pub mod Ends
 pub mod Lines
+pub mod Computed
