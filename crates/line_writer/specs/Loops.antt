@@ -1,7 +1,7 @@
 -- The conditions of a loop and the main one: what their writers ask, and that the words of their parts, one run after another,
 -- are the formula of the condition. Assumes nothing.
 use Prim.Native.Nat.{ℕ, _<_}
-use mathlib.Core.Path.{_≡_, refl, ap}
+use mathlib.Core.Path.{_≡_, ap}
 use mathlib.Core.List.{List, [], _∷_}
 use native.Mathlib.Omega.{arith as linear}
 use lib.IntN.{ℤ, pos}
@@ -64,9 +64,6 @@ pub record MainReady (t : List ℤ) (r : ℕ) (follow path : List ℤ) : Type 0 
 pub record Lined (path : List ℤ) (cs : List Condition) (l : List ℤ) (p q : Progress) (l′ path′ : List ℤ) : Type 0 where
   pub lines : Listed l p cs q l′
   pub long : length path′ ≡ length path
-
-pub lined-only : {path l l′ : List ℤ} {cs : List Condition} {p q : Progress} → Listed l p cs q l′ → Lined path cs l p q l′ path
-lined-only w = record { lines = w; long = refl }
 
 -- a line whose formula ends with what was walked
 pub line-walked : (rule : Rule) (row : ℕ) (f : Formula) {t path path′ l l₁ l₂ l₃ : List ℤ} {g : Formula} {start : Progress} {p₁ past : ℕ} {q : Progress}

@@ -1,9 +1,9 @@
 -- What the words, a line, a reader and a step's answer own, as the walks of the functions over a reader use it.
 --     Words, Readers, Answers       the types over a lifetime, as a signature has them
 --     Own-words, Own-line, Own-reader, Own-answer       what each owns, at the machine value that it has
---     words-twice, line-twice, reader-twice, answer-twice       each is Copy: what it owns is had twice
+--     words-twice, line-twice, reader-twice       each is Copy: what it owns is had twice
 --     reader-made, words-of         a reader is made of words and a number, and gives its words back
---     answer-made, line-of, reader-of       the same for a step's answer, its line and its reader
+--     answer-made, line-of       the same for a step's answer and its line
 --     clause                        of what a callee ensures, the fact alone, where it changes nothing
 -- The lemmas take `Given`. The rest assumes nothing.
 use mathlib.Core.Path.{_≡_, refl}
@@ -114,9 +114,6 @@ module _ {M : Type 1} (𝓤 : URA M) (H : Heap 𝓤) (A : Atoms 𝓤) (W : Given
     pub reader-twice : (r : Reader) → ent 𝓤 (sem 𝓤 H A (Own-reader κ r)) (sep 𝓤 (sem 𝓤 H A (Own-reader κ r)) (sem 𝓤 H A (Own-reader κ r)))
     reader-twice r = LL.copy (T.the-type (α κ)) (T′.the-copy (α κ)) 𝓤 H A W .twice r (T′.lowered r ∷ [])
 
-    pub answer-twice : (t : Stepped) → ent 𝓤 (sem 𝓤 H A (Own-answer κ t)) (sep 𝓤 (sem 𝓤 H A (Own-answer κ t)) (sem 𝓤 H A (Own-answer κ t)))
-    answer-twice t = LL.copy (P.the-type (α κ)) (P′.the-copy (α κ)) 𝓤 H A W .twice t (P′.lowered t ∷ [])
-
     pub reader-made : (s : RefT (List ℤ)) (n : ℕ) → n < 2 ^ 64 → ent 𝓤 (sem 𝓤 H A (Own-words κ s)) (sem 𝓤 H A (Own-reader κ (placed s n)))
     reader-made s n fits =
         qed W (‵ (Own-words κ s) ∷ []) ∵ nothing ! $ owned ! usize (Is usize) (uint-makes 𝓤 H A W w64) n _ (refl, fits) $
@@ -133,6 +130,3 @@ module _ {M : Type 1} (𝓤 : URA M) (H : Heap 𝓤) (A : Atoms 𝓤) (W : Given
 
     pub line-of : (t : Stepped) → ent 𝓤 (sem 𝓤 H A (Own-answer κ t)) (sem 𝓤 H A (Own-line (t .line)))
     line-of t = field-of (P.the-type (α κ)) (P′.the-laws (α κ)) 0 (t .line, (t .reader, tt)) (P′.lowered t)
-
-    pub reader-of : (t : Stepped) → ent 𝓤 (sem 𝓤 H A (Own-answer κ t)) (sem 𝓤 H A (Own-reader κ (t .reader)))
-    reader-of t = field-of (P.the-type (α κ)) (P′.the-laws (α κ)) 1 (t .line, (t .reader, tt)) (P′.lowered t)

@@ -16,7 +16,7 @@ use lib.ListN.{length, getD, set}
 use lib.Seq.{sets}
 use Rattle.grammar.specs.Counts.{minus}
 use Rattle.grammar.specs.Ranges.{limit}
-use Rattle.parser.specs.Machine.{Config, config, refused, Reduced, reduce, reduced-to, hold, maker, operator-row, begin-numeral, begin-count, begin-constant, hole, begins, constant-word, top-frame, row-fits, rows-after, with-words, full}
+use Rattle.parser.specs.Machine.{Config, config, refused, Reduced, reduce, reduced-to, hold, maker, operator-row, begin-numeral, begin-count, begin-constant, hole, begins, constant-word, top-frame, row-fits, rows-after, with-words}
 
 -- ---- frames
 
@@ -47,9 +47,6 @@ no-room n rows h k = rw (lt-ltb rows 2048 h, lt-leb (4 * rows + 4) n k)
 
 pub room : (n rows : ℕ) → rows < 2048 → 4 * rows + 4 ≤ n → row-fits n rows ≡ true
 room n rows h k = rw (lt-ltb rows 2048 h, le-leb (4 * rows + 4) n k)
-
-pub left-full : (ws vs : List ℤ) (rows : ℕ) → row-fits (length ws) rows ≡ false → (full ≡ rows-after ws rows) × (ws ≡ with-words ws rows vs)
-left-full ws vs rows e = (rw e, rw e)
 
 four : (ws : List ℤ) (i : ℕ) (k a b c : ℤ) → set (set (set (set ws i k) (i + 1) a) (i + 2) b) (i + 3) c ≡ sets ws i (k ∷ a ∷ b ∷ c ∷ [])
 four ws i k a b c =

@@ -1,5 +1,5 @@
--- The machine's stack: a frame that is put on it is its top (`framed-put`), what lies below stays (`framed-below`), and
--- a frame has the parts that it was made of (`frame-number-is`, `first-is`, `second-is`). Assumes nothing.
+-- The machine's stack: a frame that is put on it is its top, on what was there (`framed-put`), and a frame has the parts that
+-- it was made of (`frame-number-is`, `first-is`, `second-is`). Assumes nothing.
 use Prim.Native.Nat.{ℕ, zero, suc, _+_, _-_, _%_, _≤_, _<_}
 use mathlib.Core.Path.{_≡_, refl, sym, ap, _∙_}
 use mathlib.Core.Bool.{Bool, true, false, cond}
@@ -33,13 +33,6 @@ set-below st (suc n) i f h =
     let apart : ¬ (n ≡ i) = omega linear in
     ap (λ (w : ℕ). w ∷ framed (set st i f) n) (getD-set-other st i n f 0 apart)
     ∙ ap (λ (l : List ℕ). getD st n 0 ∷ l) (set-below st n i f (omega linear))
-
-pub framed-below : (st : List ℕ) (n i f : ℕ) → n ≤ i → framed (put st i f) n ≡ framed st n
-framed-below st n i f h = at (ltb i (length st))
-  where
-    at : (b : Bool) → framed (cond b (set st i f) st) n ≡ framed st n
-    at true = set-below st n i f h
-    at false = refl
 
 pub put-is : (st : List ℕ) (n f : ℕ) → n < length st → put st n f ≡ set st n f
 put-is st n f h = rw (lt-ltb n (length st) h)

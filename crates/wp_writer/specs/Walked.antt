@@ -1,15 +1,13 @@
 -- What the writer of W asks and what it leaves, and what holds at each of its turns: whatever writes W from the statement at
 -- hand on, writes W from the first on. Assumes nothing.
 use Prim.Native.Nat.{ℕ, _≤_, _<_}
-use mathlib.Core.Path.{_≡_, refl, ap}
+use mathlib.Core.Path.{_≡_, refl}
 use mathlib.Core.List.{List}
 use native.Mathlib.Omega.{arith as linear}
 use lib.IntN.{ℤ}
 use lib.ListN.{length}
 use Rattle.script.specs.Syntax.{Formula}
-use Rattle.script.specs.Words.{formula-words}
-use Rattle.theorems.specs.Writing.{Wrote, stopped, wrote-as}
-use Rattle.formula_writer.specs.Paths.{none-passed}
+use Rattle.theorems.specs.Writing.{Wrote, stopped}
 use Rattle.formula_writer.specs.Nodes.{OnPath}
 use Rattle.following.specs.Course.{Course, after, left, after-end}
 use Rattle.dividing.specs.Divided.{Divided}
@@ -34,10 +32,6 @@ before-end t follow s end = after t follow s (end-formula t end)
 pub record Walked (t path : List ℤ) (j : ℕ) (f : Formula) (l : List ℤ) (p q : ℕ) (l′ path′ : List ℤ) : Type 0 where
   pub words : Wrote l p (words-under t path j f) q l′
   pub kept : Same j path path′
-
--- where no assignment was passed
-pub walked-plain : {t path l l′ path′ : List ℤ} {f : Formula} {p q : ℕ} → Walked t path 0 f l p q l′ path′ → Wrote l p (formula-words f) q l′
-walked-plain {t = t} {path = path} {f = f} w = wrote-as (ap formula-words (none-passed t path f)) (w .words)
 
 module _ (t follow : List ℤ) (end : ℕ) where
   -- ---- a turn, from a statement to another that is nearer to the end
