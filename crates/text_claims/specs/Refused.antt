@@ -63,6 +63,11 @@ no-texts =
     ∷ stops "pre 1 < 2 < 3; skip; post true" 41 10
     ∷ stops "pre (1 < 2) = 3; skip; post true" 41 12
     ∷ stops "pre not 1; skip; post true" 41 9
+    ∷ stops "pre (not v0) = 1" 41 11
+    -- the longest token, and two that a blank parts
+    ∷ stops "pre 1 < = 2" 41 8
+    ∷ stops "pre 1 <== 2" 41 8
+    ∷ stops "pre true; v0 :== 1" 41 15
     -- a sort that no text has there: at the first token that settles it
     ∷ stops "pre (v0) and true; skip; post true" 41 9
     ∷ stops "pre true; v0 := (1 < 2); post true" 41 19
@@ -72,6 +77,7 @@ no-texts =
     ∷ stops "pre -true" 41 5
     ∷ stops "pre not not -1; skip" 41 14
     ∷ stops "pre true; v0 = 1" 41 13
+    ∷ stops "pre true; (skip)" 41 10
     ∷ stops "pre true; assert 1; post true" 41 18
     ∷ stops "pre when(1, 2, 3) = 4" 41 10
     ∷ stops "pre when(true, true" 41 15
