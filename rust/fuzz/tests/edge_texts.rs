@@ -10,9 +10,9 @@ use common::Proved;
 use fuzz::edge_texts::edge_script;
 use fuzz::guarded::{Edge, Guarded, EDGES};
 use fuzz::script_texts::{LARGEST_TABLE, LONGEST_SCRIPT};
-use fuzz::{compare_counting, seed_from_environment, tell, Tally, CHECKS_OF_TEXTS};
-use fuzz::{Answer, ReadAnswer, Subject};
-use reference::{Line, Verdict};
+use fuzz::{compare_counting, compare_input, seed_from_environment, tell};
+use fuzz::{Answer, Input, ReadAnswer, Subject, Tally, CHECKS_OF_TEXTS};
+use reference::{read_text, Line, Verdict};
 
 /// For a million, set this to 1_000_000, or run other seeds (`VCGEN_SEED=clock`).
 const CASES: u64 = 100_000;
@@ -98,5 +98,69 @@ fn not_one_difference_at_the_edges() {
     }
     for words in [LARGEST_TABLE - 4, LARGEST_TABLE] {
         assert!(subject.tables[&words] >= 20, "{words} words are rare");
+    }
+}
+
+/// Two ends of a text, and the tokens of which every run is tried between them.
+struct Runs {
+    ends: [&'static str; 2],
+    tokens: &'static [&'static str],
+    /// The most tokens of a run. One more takes 4 times as long in a formula, and
+    /// twice in a statement.
+    most: usize,
+}
+
+/// One token of each sort, so that every way to group is met.
+const IN_FORMULA: Runs = Runs {
+    ends: ["pre", "; skip; post true"],
+    tokens: &[
+        "v0", "1", "-", "+", "*", "<", "not", "and", "or", "implies", "(", ")", "true",
+    ],
+    most: 7,
+};
+
+const IN_STATEMENT: Runs = Runs {
+    ends: ["pre true;", "; post true"],
+    tokens: &[
+        "skip", "v0", ":=", "1", ";", "assert", "true", "if", "then", "else", "end", "while",
+        "keep", "fall", "do",
+    ],
+    most: 13,
+};
+
+impl Runs {
+    /// Tries every run of tokens; one that is refused before its end is not gone
+    /// on with, since what follows changes nothing.
+    fn try_all(&self, subject: &mut BetweenGuards) -> Tally {
+        let mut tally = Tally::default();
+        let mut open = vec![(self.ends[0].to_string(), 0)];
+        while let Some((front, length)) = open.pop() {
+            let text = front.clone() + self.ends[1];
+            let input = Input::Script {
+                text: text.into_bytes(),
+                room: 400,
+            };
+            if let Err(what) = compare_input(subject, &input, &mut tally) {
+                panic!("{what}\n{}", input.text());
+            }
+            let answer = read_text(front.as_bytes(), 400);
+            let goes_on = answer.place == front.len() || answer.number != 41;
+            if goes_on && length < self.most {
+                let longer = self.tokens.iter().map(|token| format!("{front} {token}"));
+                open.extend(longer.map(|front| (front, length + 1)));
+            }
+        }
+        tally
+    }
+}
+
+#[test]
+fn every_short_run_of_tokens() {
+    for runs in [IN_FORMULA, IN_STATEMENT] {
+        let tally = runs.try_all(&mut BetweenGuards::new());
+        let texts: u64 = tally.read_text.values().sum();
+        tell(format!("{texts} texts: {:?}", tally.read_text));
+        assert!(tally.read_text[&0] >= 100, "too few are read");
+        assert!(texts >= 50_000, "too few are tried");
     }
 }
