@@ -1,0 +1,83 @@
+//! Odd tables and lists by chance.
+
+use fuzz::odd_lists::{any_odd_list, odd_index};
+use fuzz::odd_tables::{any_odd_table, OddTable};
+use fuzz::texts::text_need;
+use fuzz::{seed_from_environment, tell, Prng};
+
+use crate::bare::Bare;
+use crate::beside::{
+    check_table, count, generate_table, read_line, step_from, walk, write_text, Numbers,
+};
+
+/// The environment variable with the number of cases of each test by chance.
+const CASES_VARIABLE: &str = "VCGEN_CASES";
+
+fn cases(usual: u64) -> u64 {
+    std::env::var(CASES_VARIABLE).map_or(usual, |text| text.parse().expect("a number of cases"))
+}
+
+#[test]
+fn odd_tables() {
+    let (seed, cases) = (seed_from_environment(), cases(8_000));
+    let (mut bare, mut checked, mut generated) = (Bare::new(), Numbers::new(), Numbers::new());
+    for case in 0..cases {
+        let OddTable {
+            words,
+            list_len,
+            scratch_len,
+        } = any_odd_table(&mut Prng::for_case(seed, case));
+        count(&mut checked, check_table(&mut bare, &words));
+        let number = generate_table(&mut bare, &words, list_len, scratch_len);
+        count(&mut generated, number);
+    }
+    tell(format!("{cases} tables: {checked:?}, {generated:?}"));
+    assert!(checked.keys().copied().eq(0..=10));
+    assert!(generated.keys().copied().eq(0..=12));
+}
+
+fn any_place(list: &[i32], random: &mut Prng) -> usize {
+    let length = list.len();
+    let inside = random.below(length + 1);
+    let beyond = random.pick(&[length + 1, length + 2, 1 << 31, (1 << 32) + inside]);
+    let far = random.pick(&[usize::MAX, usize::MAX - 2, 1 << 62, (1 << 62) + inside]);
+    random.pick(&[inside, inside, inside, length, beyond, far])
+}
+
+#[test]
+fn odd_lists() {
+    let (seed, cases) = (seed_from_environment(), cases(60_000));
+    let (mut bare, mut read, mut walked) = (Bare::new(), Numbers::new(), Numbers::new());
+    for case in 0..cases {
+        let random = &mut Prng::for_case(seed ^ 1, case);
+        let list = any_odd_list(random);
+        let index = odd_index(&list, random);
+        count(&mut read, read_line(&mut bare, &list, index));
+        count(&mut walked, walk(&mut bare, &list));
+        let place = any_place(&list, random);
+        step_from(&mut bare, &list, place);
+    }
+    tell(format!("{cases} lists: {read:?}, {walked:?}"));
+    assert!(read.keys().copied().eq([0, 20, 21]));
+    assert!(walked.keys().copied().eq([20, 21]));
+}
+
+/// The longest room for a text here.
+const MOST_BYTES: usize = 190_000;
+
+#[test]
+fn odd_texts() {
+    let (seed, cases) = (seed_from_environment(), cases(40_000));
+    let (mut bare, mut written) = (Bare::new(), Numbers::new());
+    for case in 0..cases {
+        let random = &mut Prng::for_case(seed ^ 2, case);
+        let list = any_odd_list(random);
+        let index = odd_index(&list, random);
+        let need = text_need(&list, i64::from(index)).unwrap_or(random.below(3_000));
+        let room = random.pick(&[need, need, need.saturating_sub(1), need + 1, 0, need / 2]);
+        let number = write_text(&mut bare, &list, index, room.min(MOST_BYTES));
+        count(&mut written, number);
+    }
+    tell(format!("{cases} texts: {written:?}"));
+    assert!(written.keys().copied().eq([0, 20, 21, 30]));
+}
