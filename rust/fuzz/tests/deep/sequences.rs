@@ -68,6 +68,13 @@ impl Cases {
 
             let name = format!("eight loops among skips {how}");
             self.add(name, PLANNED, loops_among_skips(leaning));
+
+            // What is true after them takes one row alone.
+            let mut rows = Rows::new();
+            let whole = sequence(&mut rows, 3, leaning, Rows::skip);
+            let (pre, post) = (rows.truth(), rows.truth());
+            let name = format!("as many skips {how} as there may be");
+            self.add(name, PLANNED, rows.script(pre, whole, post));
         }
         self.add_sequences_before_formulas();
     }
