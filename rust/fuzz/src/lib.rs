@@ -23,6 +23,7 @@ pub mod nests;
 pub mod odd_lists;
 pub mod odd_tables;
 pub mod prng;
+pub mod repeated;
 pub mod script_texts;
 pub mod scripts;
 pub mod subject;

@@ -3,7 +3,7 @@
 use fuzz::odd_lists::{any_odd_list, odd_index};
 use fuzz::odd_tables::{any_odd_table, OddTable};
 use fuzz::texts::text_need;
-use fuzz::{seed_from_environment, tell, Prng};
+use fuzz::{seed_from_environment, tell, Input, Prng};
 
 use crate::bare::Bare;
 use crate::beside::{
@@ -80,4 +80,32 @@ fn odd_texts() {
     }
     tell(format!("{cases} texts: {written:?}"));
     assert!(written.keys().copied().eq([0, 20, 21, 30]));
+}
+
+/// The inputs of the other tests, in guarded buffers.
+#[test]
+fn usual_inputs() {
+    let (seed, cases) = (seed_from_environment(), cases(6_000));
+    let (mut bare, mut numbers) = (Bare::new(), Numbers::new());
+    for case in 0..cases {
+        let random = &mut Prng::for_case(seed ^ 4, case);
+        let making = random.pick(&[Input::any, Input::any_dividing]);
+        let number = match making(random) {
+            Input::Table {
+                words,
+                list_len,
+                scratch_len,
+            } => generate_table(&mut bare, &words, list_len, scratch_len),
+            Input::List(list) => walk(&mut bare, &list),
+            Input::Text { list, index, room } => {
+                let index = i32::try_from(index).expect("an index of 32 bits");
+                write_text(&mut bare, &list, index, room.min(MOST_BYTES))
+            }
+            Input::Bytes(_) | Input::Script { .. } => continue,
+        };
+        count(&mut numbers, number);
+    }
+    tell(format!("{cases} usual inputs: {numbers:?}"));
+    let wanted = [0, 11, 12, 20, 21, 30];
+    assert!(wanted.iter().all(|number| numbers.contains_key(number)));
 }

@@ -5,4 +5,5 @@ mod bare;
 mod beside;
 mod by_chance;
 mod changed;
+mod long;
 mod small;

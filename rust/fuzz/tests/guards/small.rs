@@ -27,7 +27,7 @@ fn for_each_run(values: &[i32], length: usize, call: &mut dyn FnMut(&[i32])) {
 const LIST_WORDS: [i32; 12] = [-1, 0, 1, 2, 3, 5, 6, 8, 10, 16, 20, 22];
 
 /// The most words of a list here; with one more there are twelve times as many.
-const SHORT: usize = 5;
+const SHORT: usize = 6;
 
 #[test]
 fn every_short_list() {
@@ -185,7 +185,7 @@ fn guarding(formula: &[i32]) -> Vec<i32> {
 }
 
 /// The most nodes of an expression or formula here.
-const NODES: usize = 7;
+const NODES: usize = 8;
 
 #[test]
 fn every_small_expression_and_guard_that_divides() {

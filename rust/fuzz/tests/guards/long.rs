@@ -1,0 +1,75 @@
+//! Tables, records and lists with lengths that 32 bits do not hold.
+
+use fuzz::repeated::Repeated;
+use leqwarti::entries::{self, Line, Verdict, Written};
+use leqwarti::Record;
+
+/// One more than 32 bits hold.
+const PAST: usize = 1 << 32;
+
+/// `pre true; skip; post true`
+const SKIP: [i32; 16] = [16, 0, 0, 0, 32, 0, 0, 0, 16, 0, 0, 0, 48, 0, 1, 2];
+
+const LIST: [i32; 7] = [25, 16, 16, 4, 3, 3, 1];
+
+const TOO_LONG: Verdict = Verdict { number: 1, row: 0 };
+
+#[test]
+fn tables() {
+    for length in [PAST, PAST + 4, PAST + SKIP.len()] {
+        let table = Repeated::new(&SKIP, 0, length);
+        assert_eq!(entries::check(table.as_slice()), TOO_LONG);
+        let (mut list, mut scratch) = ([7; 20], [7; 40]);
+        let answer = entries::generate(table.as_slice(), &mut list, &mut scratch);
+        assert_eq!((answer.number, list, scratch), (1, [0; 20], [0; 40]));
+    }
+}
+
+#[test]
+fn records() {
+    let record = |&[kind, first, second, third]: &[i32; 4]| Record {
+        kind,
+        first,
+        second,
+        third,
+    };
+    let skip: Vec<Record> = SKIP.as_chunks().0.iter().map(record).collect();
+    let records = Repeated::new(&skip, Record::default(), PAST + skip.len());
+    let (mut list, mut scratch) = ([7; 20], [7; 40]);
+    let answer = entries::generate_records(records.as_slice(), &mut list, &mut scratch);
+    assert_eq!((answer.number, list, scratch), (1, [0; 20], [0; 40]));
+}
+
+/// They are torn, being too long; a step reads the line that ends at its place all the same.
+#[test]
+fn lists() {
+    let list = Repeated::new(&LIST, 0, PAST + LIST.len());
+    let list = list.as_slice();
+    let torn = Line {
+        number: 20,
+        ..Line::default()
+    };
+    assert_eq!(entries::line_at(list, 0), torn);
+    assert_eq!(entries::first_place(list), 1);
+    let mut text = [7; 100];
+    let refused = Written {
+        number: 20,
+        used: 0,
+    };
+    assert_eq!(entries::smt(list, 0, &mut text), refused);
+    assert_eq!(text, [0; 100]);
+    let main = Line {
+        number: 0,
+        kind: 4,
+        row: 3,
+        start: PAST,
+        end: PAST + 3,
+    };
+    let steps = [(PAST + 6, main), (PAST, torn), (2 * PAST + 6, torn)];
+    for (place, expected) in steps {
+        let mut moved = place;
+        assert_eq!(entries::step(list, &mut moved), expected);
+        let next = if expected == torn { place } else { PAST };
+        assert_eq!(moved, next);
+    }
+}
