@@ -34,7 +34,7 @@ pub mod tokens;
 pub use compare::{compare, compare_case, compare_counting, compare_input};
 pub use compare::{Difference, Making, Tally, CHECKS_OF_TEXTS};
 pub use inputs::Input;
-pub use prng::{seed_from_environment, Prng};
+pub use prng::{cases_from_environment, seed_from_environment, Prng};
 pub use subject::{Answer, ReadAnswer, Reference, Subject, Written};
 
 /// Writes a line to standard error, which a test that passes shows too.

@@ -20,6 +20,15 @@ pub fn seed_from_environment() -> u64 {
     seed
 }
 
+/// The environment variable with the number of cases of the tests that go by it.
+pub const CASES_VARIABLE: &str = "VCGEN_CASES";
+
+/// The number of cases of the environment, or the usual one.
+pub fn cases_from_environment(usual: u64) -> u64 {
+    let named = std::env::var(CASES_VARIABLE);
+    named.map_or(usual, |text| text.parse().expect("VCGEN_CASES is a number"))
+}
+
 fn seed_from_clock() -> u64 {
     let since = std::time::SystemTime::now().duration_since(std::time::UNIX_EPOCH);
     since.expect("a clock after 1970").as_nanos() as u64

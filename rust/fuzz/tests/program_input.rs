@@ -11,7 +11,7 @@ use common::{Proved, PROGRAM};
 use fuzz::limits::with_rows;
 use fuzz::odd_tables::{any_odd_table, padded};
 use fuzz::scripts::{script_words, Shape, EXAMPLE_A};
-use fuzz::{seed_from_environment, tell, Prng, Subject};
+use fuzz::{cases_from_environment, seed_from_environment, tell, Prng, Subject};
 use reference::{need, program_output};
 
 fn bytes_of(words: &[i32]) -> Vec<u8> {
@@ -91,13 +91,11 @@ fn with_full_list(random: &mut Prng) -> Vec<i32> {
     }
 }
 
-const TABLES: u64 = 400;
-
 #[test]
 fn odd_tables() {
-    let seed = seed_from_environment();
+    let (seed, cases) = (seed_from_environment(), cases_from_environment(400));
     let [mut planned, mut refused] = [0, 0];
-    for case in 0..TABLES {
+    for case in 0..cases {
         let random = &mut Prng::for_case(seed ^ 3, case);
         let words = match random.below(4) {
             0 => with_full_list(random),

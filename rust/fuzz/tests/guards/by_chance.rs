@@ -3,23 +3,16 @@
 use fuzz::odd_lists::{any_odd_list, odd_index};
 use fuzz::odd_tables::{any_odd_table, OddTable};
 use fuzz::texts::text_need;
-use fuzz::{seed_from_environment, tell, Input, Prng};
+use fuzz::{cases_from_environment, seed_from_environment, tell, Input, Prng};
 
 use crate::bare::Bare;
 use crate::beside::{
     check_table, count, generate_table, read_line, step_from, walk, write_text, Numbers,
 };
 
-/// The environment variable with the number of cases of each test by chance.
-const CASES_VARIABLE: &str = "VCGEN_CASES";
-
-fn cases(usual: u64) -> u64 {
-    std::env::var(CASES_VARIABLE).map_or(usual, |text| text.parse().expect("a number of cases"))
-}
-
 #[test]
 fn odd_tables() {
-    let (seed, cases) = (seed_from_environment(), cases(8_000));
+    let (seed, cases) = (seed_from_environment(), cases_from_environment(8_000));
     let (mut bare, mut checked, mut generated) = (Bare::new(), Numbers::new(), Numbers::new());
     for case in 0..cases {
         let OddTable {
@@ -46,7 +39,7 @@ fn any_place(list: &[i32], random: &mut Prng) -> usize {
 
 #[test]
 fn odd_lists() {
-    let (seed, cases) = (seed_from_environment(), cases(60_000));
+    let (seed, cases) = (seed_from_environment(), cases_from_environment(60_000));
     let (mut bare, mut read, mut walked) = (Bare::new(), Numbers::new(), Numbers::new());
     for case in 0..cases {
         let random = &mut Prng::for_case(seed ^ 1, case);
@@ -67,7 +60,7 @@ const MOST_BYTES: usize = 190_000;
 
 #[test]
 fn odd_texts() {
-    let (seed, cases) = (seed_from_environment(), cases(40_000));
+    let (seed, cases) = (seed_from_environment(), cases_from_environment(40_000));
     let (mut bare, mut written) = (Bare::new(), Numbers::new());
     for case in 0..cases {
         let random = &mut Prng::for_case(seed ^ 2, case);
@@ -85,7 +78,7 @@ fn odd_texts() {
 /// The inputs of the other tests, in guarded buffers.
 #[test]
 fn usual_inputs() {
-    let (seed, cases) = (seed_from_environment(), cases(6_000));
+    let (seed, cases) = (seed_from_environment(), cases_from_environment(6_000));
     let (mut bare, mut numbers) = (Bare::new(), Numbers::new());
     for case in 0..cases {
         let random = &mut Prng::for_case(seed ^ 4, case);
