@@ -135,7 +135,7 @@ fn change_far(words: &mut [i32], random: &mut Prng) {
     }
 }
 
-/// Some words less or more, zeros or some of the table's own.
+/// Some words less, or some of the first ones once more.
 fn change_length(words: &mut Vec<i32>, random: &mut Prng) {
     let length = words.len();
     if random.once_in(2) {
