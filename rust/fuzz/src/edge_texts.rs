@@ -82,12 +82,18 @@ fn insert(tokens: &mut Vec<String>, token: &str, random: &mut Prng) {
     tokens.insert(place, token.to_string());
 }
 
+/// The places of numerals and variables.
+fn numbers(tokens: &[String]) -> Vec<usize> {
+    let is_number = |place: &usize| tokens[*place].ends_with(|end: char| end.is_ascii_digit());
+    (0..tokens.len()).filter(is_number).collect()
+}
+
 /// The places of numerals and variables that stand for a value.
 fn operands(tokens: &[String]) -> Vec<usize> {
-    let is_number = |token: &String| token.ends_with(|letter: char| letter.is_ascii_digit());
     let is_target = |place: usize| tokens.get(place + 1).is_some_and(|next| next == ":=");
-    let all = (0..tokens.len()).filter(|&place| is_number(&tokens[place]));
-    all.filter(|&place| !is_target(place)).collect()
+    let mut places = numbers(tokens);
+    places.retain(|&place| !is_target(place));
+    places
 }
 
 /// Where the ranges of variables and constants end, and where those of fewer bits do.
@@ -139,11 +145,7 @@ fn edge_digits(random: &mut Prng) -> String {
 /// Puts a number at an edge, with a minus before a numeral or without; every other
 /// time where a minus stands, of either kind, if there is one.
 fn change_number(tokens: &mut Vec<String>, random: &mut Prng) {
-    let ends_in_digit = |place: &usize| {
-        let token: &String = &tokens[*place];
-        token.ends_with(|letter: char| letter.is_ascii_digit())
-    };
-    let places: Vec<usize> = (0..tokens.len()).filter(ends_in_digit).collect();
+    let places = numbers(tokens);
     let after_minus = |place: &&usize| **place > 0 && tokens[**place - 1] == "-";
     let special: Vec<usize> = places.iter().filter(after_minus).copied().collect();
     let place = match random.below(2) {
