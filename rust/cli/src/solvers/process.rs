@@ -29,9 +29,8 @@ pub const MOMENT: Duration = Duration::from_millis(100);
 
 const PIPED: &str = "a pipe was asked for";
 
-/// It is killed when it is dropped.
 pub struct Process {
-    child: Child,
+    child: Killed,
     /// Nothing once its standard input is closed.
     input: Option<Sender<String>>,
     output: Receiver<Vec<u8>>,
@@ -48,14 +47,15 @@ pub enum Line {
 
 impl Process {
     pub fn start(command: &mut Command) -> io::Result<Process> {
-        let mut child = command
+        let child = command
             .stdin(Stdio::piped())
             .stdout(Stdio::piped())
             .stderr(Stdio::piped())
             .spawn()?;
-        let input = pass_in(child.stdin.take().expect(PIPED));
-        let output = pass_on(child.stdout.take().expect(PIPED));
-        let error = first_line(child.stderr.take().expect(PIPED));
+        let mut child = Killed(child);
+        let input = pass_in(child.0.stdin.take().expect(PIPED))?;
+        let output = pass_on(child.0.stdout.take().expect(PIPED))?;
+        let error = first_line(child.0.stderr.take().expect(PIPED))?;
         Ok(Process {
             child,
             input: Some(input),
@@ -113,7 +113,7 @@ impl Process {
     fn ending(&mut self) -> Option<ExitStatus> {
         let begun = Instant::now();
         while begun.elapsed() < MOMENT {
-            if let Ok(Some(status)) = self.child.try_wait() {
+            if let Ok(Some(status)) = self.child.0.try_wait() {
                 return Some(status);
             }
             thread::sleep(BLINK);
@@ -122,44 +122,52 @@ impl Process {
     }
 }
 
-impl Drop for Process {
+/// A child that is killed when it is dropped.
+struct Killed(Child);
+
+impl Drop for Killed {
     fn drop(&mut self) {
-        let _ = self.child.kill();
-        let _ = self.child.wait();
+        let _ = self.0.kill();
+        let _ = self.0.wait();
     }
 }
 
+/// Has a thread do something that nobody waits for.
+fn aside(does: impl FnOnce() + Send + 'static) -> io::Result<()> {
+    thread::Builder::new().spawn(does).map(drop)
+}
+
 /// Passes texts in until there are no more, or nobody reads them.
-fn pass_in(mut input: ChildStdin) -> Sender<String> {
+fn pass_in(mut input: ChildStdin) -> io::Result<Sender<String>> {
     let (sender, texts) = channel::<String>();
-    thread::spawn(move || {
+    aside(move || {
         let mut passed = texts.iter().map(|text| input.write_all(text.as_bytes()));
-        passed.all(|done| done.is_ok())
-    });
-    sender
+        passed.all(|done| done.is_ok());
+    })?;
+    Ok(sender)
 }
 
 /// Passes lines on until there are no more, or nobody wants them.
-fn pass_on(stream: impl Read + Send + 'static) -> Receiver<Vec<u8>> {
+fn pass_on(stream: impl Read + Send + 'static) -> io::Result<Receiver<Vec<u8>>> {
     let (sender, receiver) = sync_channel(AHEAD);
-    thread::spawn(move || {
+    aside(move || {
         let mut passed = lines(bounded(stream)).map(|line| sender.send(line));
-        passed.all(|done| done.is_ok())
-    });
-    receiver
+        passed.all(|done| done.is_ok());
+    })?;
+    Ok(receiver)
 }
 
 /// Passes on the first line that is not blank, and reads what follows for nobody.
-fn first_line(stream: impl Read + Send + 'static) -> Receiver<Vec<u8>> {
+fn first_line(stream: impl Read + Send + 'static) -> io::Result<Receiver<Vec<u8>>> {
     let (sender, receiver) = channel();
-    thread::spawn(move || {
+    aside(move || {
         let mut stream = bounded(stream);
         if let Some(line) = lines(&mut stream).find(|line| !is_blank(line)) {
             let _ = sender.send(line);
         }
-        io::copy(&mut stream, &mut io::sink())
-    });
-    receiver
+        let _ = io::copy(&mut stream, &mut io::sink());
+    })?;
+    Ok(receiver)
 }
 
 fn bounded(stream: impl Read) -> impl BufRead {
