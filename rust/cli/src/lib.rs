@@ -11,6 +11,7 @@ mod rows;
 mod smt;
 pub mod solvers;
 mod source;
+mod system;
 mod text;
 mod tokens;
 

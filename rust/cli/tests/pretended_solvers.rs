@@ -11,6 +11,7 @@ use std::fs;
 use std::io::{BufRead, BufReader};
 use std::os::unix::fs::{symlink, PermissionsExt};
 use std::path::{Path, PathBuf};
+use std::thread::sleep;
 use std::time::{Duration, Instant};
 
 use files::{expected, rows, text, texts, top};
@@ -198,6 +199,37 @@ fn nothing_is_left_of_a_slow_solver() {
     vcgen(&folder, &["prove", "--timeout", "1", "-"], TRUE);
     let process = Path::new("/proc").join(text(&folder.join("z3.number")).trim());
     assert!(!process.exists());
+}
+
+/// What is there within some seconds.
+fn awaited<T>(mut there: impl FnMut() -> Option<T>) -> T {
+    let begun = Instant::now();
+    loop {
+        if let Some(found) = there() {
+            return found;
+        }
+        assert!(begun.elapsed() < 20 * SECOND);
+        sleep(Duration::from_millis(10));
+    }
+}
+
+/// The command that is killed cannot end it.
+#[test]
+fn a_solver_ends_with_the_command() {
+    let folder = folder(&[("z3", "echo $$ > \"$0.number\"; exec /bin/sleep 60")]);
+    let file = top().join("examples/countdown.script");
+    let mut child = command(&folder, &["prove", "--timeout", "60", file.to_str().unwrap()])
+        .spawn()
+        .unwrap();
+    let is_whole = |text: &String| text.ends_with('\n');
+    let number = || fs::read_to_string(folder.join("z3.number")).ok();
+    let number = awaited(|| number().filter(is_whole));
+    child.kill().unwrap();
+    child.wait().unwrap();
+    let process = Path::new("/proc").join(number.trim());
+    // What has ended and is not waited for has no command line.
+    let line = || fs::read(process.join("cmdline")).unwrap_or_default();
+    awaited(|| line().is_empty().then_some(()));
 }
 
 #[test]

@@ -6,6 +6,7 @@ use std::env;
 use std::fs;
 use std::os::unix::fs::{symlink, PermissionsExt};
 use std::path::Path;
+use std::process::Command;
 use std::time::{Duration, Instant};
 
 use cli::solvers::{Reply, Solver};
@@ -149,6 +150,19 @@ fn a_solver_need_not_read() {
     let (replied, time) = asked("exec sleep 60", &long, SHORT);
     assert_eq!(replied.reply, Reply::Undecided);
     assert!(time < 2 * SECOND, "{time:?}");
+}
+
+/// In KiB, unless this process has less.
+#[test]
+fn a_solver_has_so_much_memory() {
+    let own = Command::new("sh").args(["-c", "ulimit -v"]).output();
+    let own = String::from_utf8(own.unwrap().stdout).unwrap();
+    let most = own.trim().parse().unwrap_or(u64::MAX).min(4_194_304);
+    assert_eq!(reply("ulimit -v"), Reply::Failed(most.to_string()));
+    let Reply::Failed(problem) = reply("ulimit -v 100000; exec tail /dev/zero") else {
+        panic!("it has answered");
+    };
+    assert!(problem.starts_with("tail: "), "{problem}");
 }
 
 #[test]

@@ -8,6 +8,12 @@ use std::path::{Path, PathBuf};
 use std::process::Command;
 use std::time::Duration;
 
+use crate::system::confine;
+
+/// The most bytes of memory that a solver has. Where they do not suffice, it says
+/// so or ends, and has not answered.
+const MEMORY: u64 = 4 << 30;
+
 /// A solver on the PATH.
 #[derive(Clone, Debug, PartialEq, Eq)]
 pub struct Solver {
@@ -30,8 +36,9 @@ impl Solver {
         self.name
     }
 
-    /// Has the solver read a script from standard input. Its own time limit is
-    /// there only so that it ends some time after a command that was killed.
+    /// Has the solver read a script from standard input. It ends with the command,
+    /// even where that is killed; what it has started itself may end by its own
+    /// time limit, if it passes that on.
     pub(super) fn command(&self, limit: Duration) -> Command {
         let seconds = own_limit(limit);
         let mut command = Command::new(&self.program);
@@ -43,6 +50,7 @@ impl Solver {
                 &format!("--tlimit={seconds}000"),
             ]),
         };
+        confine(&mut command, MEMORY);
         command
     }
 }

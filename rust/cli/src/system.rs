@@ -1,0 +1,51 @@
+//! What Rust's library has no function for: calls of the C library, on Linux.
+
+use std::ffi::{c_int, c_uint, c_ulong};
+use std::io;
+use std::os::unix::process::CommandExt;
+use std::process::Command;
+
+mod c {
+    use super::{c_int, c_uint, Limit};
+
+    extern "C" {
+        pub fn getrlimit(resource: c_uint, limit: *mut Limit) -> c_int;
+        pub fn setrlimit(resource: c_uint, limit: *const Limit) -> c_int;
+        pub fn prctl(option: c_int, ...) -> c_int;
+    }
+}
+
+/// `struct rlimit`: the limit that counts, and the one up to which it may be
+/// raised.
+#[repr(C)]
+struct Limit {
+    soft: u64,
+    hard: u64,
+}
+
+const RLIMIT_AS: c_uint = 9;
+const PR_SET_PDEATHSIG: c_int = 1;
+const SIGKILL: c_ulong = 9;
+
+/// Has a command's process end with the thread that starts it, and have no more
+/// than so many bytes of memory.
+pub fn confine(command: &mut Command, memory: u64) {
+    // SAFETY: what runs between fork and exec calls the kernel alone, and neither
+    // allocates nor locks anything.
+    unsafe { command.pre_exec(move || confine_this(memory)) };
+}
+
+fn confine_this(memory: u64) -> io::Result<()> {
+    let mut limit = Limit { soft: 0, hard: 0 };
+    // SAFETY: the limit is lent for the calls, and is laid out as theirs is.
+    let is_done = unsafe {
+        c::prctl(PR_SET_PDEATHSIG, SIGKILL) == 0 && c::getrlimit(RLIMIT_AS, &mut limit) == 0 && {
+            limit.soft = limit.soft.min(memory);
+            c::setrlimit(RLIMIT_AS, &limit) == 0
+        }
+    };
+    match is_done {
+        true => Ok(()),
+        false => Err(io::Error::last_os_error()),
+    }
+}
