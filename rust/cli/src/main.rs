@@ -116,16 +116,16 @@ fn prove(answer: &Answer, request: &Prove) -> Result<u8, Failure> {
     let solvers = solvers()?;
     let report = Report { source };
     let mut progress = ProgressLine::new(plan.conditions().len());
-    let mut printed = Ok(());
     let proof = Proof::of(plan, &solvers, request.limit, &mut |told| {
         progress.take(&told);
-        if let (Progress::Settled(finding), false, Ok(())) = (told, request.as_json, &printed) {
-            printed = print(&report.line(finding));
+        if let (Progress::Settled(finding), false) = (told, request.as_json) {
+            print(&report.line(finding))?;
         }
         progress.show();
+        Ok(())
     });
     progress.wipe();
-    printed?;
+    let proof = proof?;
     print(&if request.as_json {
         format!("{}\n", report.json(&proof))
     } else {

@@ -62,19 +62,19 @@ pub enum Asked {
 
 impl Proof {
     /// Asks about each condition, and then whether there are states for the
-    /// premises of those that are not false.
-    pub fn of(
+    /// premises of those that are not false. The first error of `watch` ends it.
+    pub fn of<E>(
         plan: &Plan,
         solvers: &[Solver],
         limit: Duration,
-        watch: &mut dyn FnMut(Progress),
-    ) -> Proof {
+        watch: &mut dyn FnMut(Progress) -> Result<(), E>,
+    ) -> Result<Proof, E> {
         let mut settle = |asked, questions: Vec<Script>| {
             let mut settled = Settled::new(asked, &questions, watch);
-            ask(&questions, solvers, limit, |event| settled.take(event));
-            settled.findings()
+            let done = ask(&questions, solvers, limit, |event| settled.take(event));
+            done.map(|()| settled.findings())
         };
-        let findings = settle(Asked::Condition, scripts(plan).collect());
+        let findings = settle(Asked::Condition, scripts(plan).collect())?;
         let opposites: Vec<Plan> = plan
             .conditions()
             .zip(&findings)
@@ -83,11 +83,11 @@ impl Proof {
             .collect();
         let in_doubt = |script: &Script| script.evaluator().find_false().is_none();
         let opposites = opposites.iter().flat_map(scripts).filter(in_doubt);
-        let opposites = settle(Asked::OppositeOfPremise, opposites.collect());
-        Proof {
+        let opposites = settle(Asked::OppositeOfPremise, opposites.collect())?;
+        Ok(Proof {
             findings,
             opposites,
-        }
+        })
     }
 
     pub fn outcome(&self) -> Outcome {
@@ -127,21 +127,21 @@ fn opposite_of_premise(condition: Condition) -> Option<Plan> {
 }
 
 /// Findings, as replies come in.
-struct Settled<'a> {
+struct Settled<'a, E> {
     asked: Asked,
     questions: &'a [Script<'a>],
-    watch: &'a mut dyn FnMut(Progress),
+    watch: &'a mut dyn FnMut(Progress) -> Result<(), E>,
     findings: Vec<Option<Finding>>,
     /// How many from the front are told.
     told: usize,
 }
 
-impl<'a> Settled<'a> {
+impl<'a, E> Settled<'a, E> {
     fn new(
         asked: Asked,
         questions: &'a [Script<'a>],
-        watch: &'a mut dyn FnMut(Progress),
-    ) -> Settled<'a> {
+        watch: &'a mut dyn FnMut(Progress) -> Result<(), E>,
+    ) -> Settled<'a, E> {
         Settled {
             asked,
             questions,
@@ -151,29 +151,30 @@ impl<'a> Settled<'a> {
         }
     }
 
-    fn take(&mut self, event: Event) {
+    fn take(&mut self, event: Event) -> Result<(), E> {
         match event {
             Event::Begun { question, .. } => {
                 let condition = self.questions[question].condition();
-                (self.watch)(Progress::Begun(self.asked, condition));
+                (self.watch)(Progress::Begun(self.asked, condition))
             }
             Event::Answered { question, replies } => {
                 let script = &self.questions[question];
-                (self.watch)(Progress::Answered(self.asked, script.condition()));
+                (self.watch)(Progress::Answered(self.asked, script.condition()))?;
                 self.findings[question] = Some(Finding::of(script, replies));
-                self.tell();
+                self.tell()
             }
         }
     }
 
     /// Tells which conditions are settled, from the front.
-    fn tell(&mut self) {
+    fn tell(&mut self) -> Result<(), E> {
         while let Some(Some(finding)) = self.findings.get(self.told) {
             if self.asked == Asked::Condition {
-                (self.watch)(Progress::Settled(finding));
+                (self.watch)(Progress::Settled(finding))?;
             }
             self.told += 1;
         }
+        Ok(())
     }
 
     /// Where nobody has answered, the evaluator alone.
@@ -213,7 +214,8 @@ mod tests {
     fn what_nobody_is_asked_is_not_proved() {
         let list = vec![16, 1, 7, 1, 18, 2, 0, 1, 5, 4, 9, 5, 2];
         let plan = Plan::read(list).unwrap();
-        let proof = Proof::of(&plan, &[], Duration::MAX, &mut |_| ());
+        let watch: &mut dyn FnMut(Progress) -> Result<(), ()> = &mut |_| Err(());
+        let proof = Proof::of(&plan, &[], Duration::MAX, watch).unwrap();
         assert_eq!(proof.outcome(), Outcome::NotProved);
         let [always, sometimes] = &proof.findings[..] else {
             panic!("{proof:?}");

@@ -29,6 +29,11 @@ impl Patience {
         Duration::from_nanos(self.allowed.load(Ordering::Relaxed))
     }
 
+    /// Nobody waits any more.
+    pub fn end(&self) {
+        self.allowed.store(0, Ordering::Relaxed);
+    }
+
     pub fn decided_after(&self, time: Duration) {
         let enough = time.saturating_mul(2).max(LEAST);
         self.allowed
@@ -60,6 +65,14 @@ mod tests {
         assert_eq!(allowed_after(10_000, &[8_000]), 10_000);
         assert_eq!(allowed_after(10_000, &[3_000, 800]), 1_600);
         assert_eq!(allowed_after(300, &[20]), 300);
+    }
+
+    #[test]
+    fn an_end_is_an_end() {
+        let patience = Patience::new(Duration::MAX);
+        patience.end();
+        patience.decided_after(Duration::MAX);
+        assert_eq!(patience.allowed(), Duration::ZERO);
     }
 
     #[test]

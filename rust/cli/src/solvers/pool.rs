@@ -15,13 +15,14 @@ use super::{Event, Question, Replied, Solver};
 /// Asks each solver about each question. Each of them has the limit; once one
 /// has decided, another one gets at most twice as long as the first took, and a
 /// second at least. Questions are begun in their order, and each is answered once,
-/// in any order. Without a solver nothing happens.
-pub fn ask<Q: Question>(
+/// in any order. Without a solver nothing happens. With the first error of
+/// `watch` all solvers are ended.
+pub fn ask<Q: Question, E>(
     questions: &[Q],
     solvers: &[Solver],
     limit: Duration,
-    mut watch: impl FnMut(Event),
-) {
+    mut watch: impl FnMut(Event) -> Result<(), E>,
+) -> Result<(), E> {
     let pool = Pool::new(questions, solvers, limit);
     let mut replies = Replies::new(questions.len(), solvers.len());
     let (sender, reports) = channel();
@@ -31,14 +32,14 @@ pub fn ask<Q: Question>(
             scope.spawn(|| pool.work(sender));
         }
         drop(sender);
-        for report in reports {
-            let event = match report {
-                Report::Begun(job) => Some(job.begun(solvers)),
-                Report::Done(job, replied) => replies.add(job, replied),
-            };
-            event.into_iter().for_each(&mut watch);
-        }
-    });
+        let events = reports.into_iter().filter_map(|report| match report {
+            Report::Begun(job) => Some(job.begun(solvers)),
+            Report::Done(job, replied) => replies.add(job, replied),
+        });
+        let watched = events.map(&mut watch).collect();
+        pool.end();
+        watched
+    })
 }
 
 /// A question and a solver, by their places.
@@ -88,6 +89,11 @@ impl<'a, Q: Question> Pool<'a, Q> {
 
     fn jobs(&self) -> usize {
         self.questions.len() * self.solvers.len()
+    }
+
+    /// Nobody wants to know more.
+    fn end(&self) {
+        self.patience.iter().for_each(Patience::end);
     }
 
     /// Does one job after another, until there are no more or nobody wants to
@@ -167,8 +173,9 @@ mod tests {
 
     #[test]
     fn without_a_solver_nothing_happens() {
-        let watch = |event| panic!("{event:?}");
-        ask(&[String::new()], &[], Duration::MAX, watch);
-        ask::<String>(&[], &[], Duration::ZERO, watch);
+        let watch = |_| Err(());
+        assert_eq!(ask(&[String::new()], &[], Duration::MAX, watch), Ok(()));
+        let questions: [String; 0] = [];
+        assert_eq!(ask(&questions, &[], Duration::ZERO, watch), Ok(()));
     }
 }

@@ -4,6 +4,7 @@
 #![allow(dead_code)]
 
 use std::collections::BTreeSet;
+use std::convert::Infallible;
 use std::fs;
 use std::io::Write;
 use std::path::{Path, PathBuf};
@@ -76,14 +77,16 @@ pub fn all_replies(scripts: &[&str], solvers: &[Solver], limit: Duration) -> Vec
     let questions: Vec<String> = scripts.iter().map(|script| script.to_string()).collect();
     let mut begun = BTreeSet::new();
     let mut answers = vec![None; scripts.len()];
-    ask(&questions, solvers, limit, |event| match event {
+    let mut watch = |event| match event {
         Event::Begun { question, solver } => assert!(begun.insert((question, solver))),
         Event::Answered { question, replies } => {
             let names = replies.iter().map(|replied| replied.solver);
             assert!(names.eq(solvers.iter().map(Solver::name)));
             assert_eq!(answers[question].replace(replies), None);
         }
-    });
+    };
+    let watch = |event| Ok::<(), Infallible>(watch(event));
+    ask(&questions, solvers, limit, watch).unwrap();
     assert_eq!(begun.len(), scripts.len() * solvers.len());
     answers.into_iter().map(Option::unwrap).collect()
 }
