@@ -155,14 +155,17 @@ impl Replies {
 
 #[cfg(test)]
 mod tests {
+    use std::path::PathBuf;
+
+    use super::super::solver::Make;
     use super::*;
 
     #[test]
     fn all_solvers_are_asked_before_the_next_question() {
         let questions = vec![String::new(); 3];
-        let solvers = ["z3", "cvc5"].map(|name| Solver {
-            name,
-            program: name.into(),
+        let solvers = Make::ALL.map(|make| Solver {
+            make,
+            program: PathBuf::new(),
         });
         let pool = Pool::new(&questions, &solvers, Duration::ZERO);
         let jobs = std::iter::from_fn(|| pool.next());

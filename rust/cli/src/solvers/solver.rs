@@ -17,39 +17,60 @@ const MEMORY: u64 = 4 << 30;
 /// A solver on the PATH.
 #[derive(Clone, Debug, PartialEq, Eq)]
 pub struct Solver {
-    pub(super) name: &'static str,
+    pub(super) make: Make,
     pub(super) program: PathBuf,
+}
+
+/// The solvers that are known.
+#[derive(Clone, Copy, Debug, PartialEq, Eq)]
+pub(super) enum Make {
+    Z3,
+    Cvc5,
+}
+
+impl Make {
+    pub(super) const ALL: [Make; 2] = [Make::Z3, Make::Cvc5];
+
+    fn name(self) -> &'static str {
+        match self {
+            Make::Z3 => "z3",
+            Make::Cvc5 => "cvc5",
+        }
+    }
+
+    /// Has it read a script from standard input, and end after some seconds.
+    fn arguments(self, seconds: u64) -> Vec<String> {
+        match self {
+            Make::Z3 => vec!["-in".into(), "-smt2".into(), format!("-T:{seconds}")],
+            Make::Cvc5 => vec![
+                "--lang=smt2".into(),
+                "--produce-models".into(),
+                format!("--tlimit={seconds}000"),
+            ],
+        }
+    }
 }
 
 impl Solver {
     /// z3 and then cvc5, each where one of the folders has it.
     pub fn on_path(path: Option<&OsStr>) -> Vec<Solver> {
         let folders: Vec<PathBuf> = path.map(env::split_paths).into_iter().flatten().collect();
-        let found = |name| {
-            let program = program(name, &folders)?;
-            Some(Solver { name, program })
+        let found = |make: Make| {
+            let program = program(make.name(), &folders)?;
+            Some(Solver { make, program })
         };
-        ["z3", "cvc5"].into_iter().filter_map(found).collect()
+        Make::ALL.into_iter().filter_map(found).collect()
     }
 
     pub fn name(&self) -> &'static str {
-        self.name
+        self.make.name()
     }
 
-    /// Has the solver read a script from standard input. It ends with the command,
-    /// even where that is killed; what it has started itself may end by its own
-    /// time limit, if it passes that on.
+    /// It ends with the command, even where that is killed; what it has started
+    /// itself may end by its own time limit, if it passes that on.
     pub(super) fn command(&self, limit: Duration) -> Command {
-        let seconds = own_limit(limit);
         let mut command = Command::new(&self.program);
-        match self.name {
-            "z3" => command.args(["-in", "-smt2", &format!("-T:{seconds}")]),
-            _ => command.args([
-                "--lang=smt2",
-                "--produce-models",
-                &format!("--tlimit={seconds}000"),
-            ]),
-        };
+        command.args(self.make.arguments(own_limit(limit)));
         confine(&mut command, MEMORY);
         command
     }
