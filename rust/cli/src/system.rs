@@ -1,14 +1,17 @@
 //! What Rust's library has no function for: calls of the C library, on Linux.
 
-use std::ffi::{c_int, c_uint, c_ulong};
+use std::ffi::{c_char, c_int, c_uint, c_ulong, CString};
 use std::io;
+use std::os::unix::ffi::OsStrExt;
 use std::os::unix::process::CommandExt;
+use std::path::Path;
 use std::process::Command;
 
 mod c {
-    use super::{c_int, c_uint, Limit};
+    use super::{c_char, c_int, c_uint, Limit};
 
     extern "C" {
+        pub fn access(path: *const c_char, mode: c_int) -> c_int;
         pub fn getrlimit(resource: c_uint, limit: *mut Limit) -> c_int;
         pub fn setrlimit(resource: c_uint, limit: *const Limit) -> c_int;
         pub fn prctl(option: c_int, ...) -> c_int;
@@ -23,6 +26,7 @@ struct Limit {
     hard: u64,
 }
 
+const X_OK: c_int = 1;
 const RLIMIT_AS: c_uint = 9;
 const PR_SET_PDEATHSIG: c_int = 1;
 const SIGKILL: c_ulong = 9;
@@ -48,4 +52,11 @@ fn confine_this(memory: u64) -> io::Result<()> {
         true => Ok(()),
         false => Err(io::Error::last_os_error()),
     }
+}
+
+/// Whether this process may execute a file.
+pub fn may_execute(file: &Path) -> bool {
+    let path = CString::new(file.as_os_str().as_bytes());
+    // SAFETY: the path is lent for the call, and ends with a zero.
+    path.is_ok_and(|path| unsafe { c::access(path.as_ptr(), X_OK) } == 0)
 }

@@ -2,13 +2,11 @@
 
 use std::env;
 use std::ffi::OsStr;
-use std::fs;
-use std::os::unix::fs::PermissionsExt;
 use std::path::{Path, PathBuf};
 use std::process::Command;
 use std::time::Duration;
 
-use crate::system::confine;
+use crate::system::{confine, may_execute};
 
 /// The most bytes of memory that a solver has. Where they do not suffice, it says
 /// so or ends, and has not answered.
@@ -83,11 +81,7 @@ fn program(name: &str, folders: &[PathBuf]) -> Option<PathBuf> {
     folders
         .iter()
         .map(in_folder)
-        .find(|file| is_executable(file))
-}
-
-fn is_executable(file: &Path) -> bool {
-    fs::metadata(file).is_ok_and(|found| found.is_file() && found.permissions().mode() & 0o111 != 0)
+        .find(|file| file.is_file() && may_execute(file))
 }
 
 /// In seconds, and late enough for the values after a verdict in the last moment.
