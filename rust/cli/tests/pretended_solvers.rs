@@ -153,6 +153,17 @@ fn what_cannot_be_executed_is_no_solver() {
     assert_true(&vcgen(path, &["prove", "-"], TRUE), "z3 TIME");
 }
 
+/// Its program is named with the folder, or it would be looked for on the PATH.
+#[test]
+fn a_folder_without_a_name_is_the_current_one() {
+    let folder = folder(&[("z3", "echo unsat")]);
+    for path in ["", ":", "/no/such/folder:", ":/no/such/folder"] {
+        let mut here = command(path, &["prove", "-"]);
+        here.current_dir(&folder);
+        assert_true(&run(here, TRUE), "z3 TIME");
+    }
+}
+
 #[test]
 fn what_cannot_be_started_has_failed() {
     let folder = folder(&[]);

@@ -106,15 +106,4 @@ mod tests {
     fn without_a_path_there_is_no_solver() {
         assert_eq!(Solver::on_path(None), []);
     }
-
-    #[test]
-    fn a_folder_without_a_name_is_the_current_one() {
-        let folders = [PathBuf::new()];
-        assert_eq!(program("no such solver", &folders), None);
-        // A program without a folder would be looked for on the PATH.
-        assert_eq!(
-            Path::new(".").join(&folders[0]).join("z3"),
-            Path::new("./z3")
-        );
-    }
 }
