@@ -27,6 +27,19 @@ fn values_have_a_second_after_the_limit() {
     assert_eq!(replied.reply, sat(&[("v0", "1"), ("m15", "2")]));
 }
 
+/// What follows a verdict is read, though the time is over.
+#[test]
+fn a_verdict_in_the_last_moment_is_heard_to_its_end() {
+    let does = |behind: &str| format!("{READS}sleep 0.7; echo unsat; sleep 0.4; {behind}");
+    for (behind, expected) in [
+        ("echo sat", "unsat, then sat"),
+        ("exit 7", "unsat, then exit status: 7"),
+    ] {
+        let (replied, _) = asked(&does(behind), SCRIPT, SECOND);
+        assert_eq!(replied.reply, Reply::Failed(expected.to_string()));
+    }
+}
+
 #[test]
 fn a_solver_that_takes_too_long_is_ended() {
     for does in ["exec sleep 60", "sleep 60", "sleep 60 & sleep 60"] {

@@ -96,10 +96,11 @@ impl Conversation<'_> {
         }
     }
 
-    /// What soon follows a verdict behind which there is nothing to say.
+    /// What soon follows a verdict behind which there is nothing to say, be it the
+    /// end. A verdict in the last moment of the limit has that time too.
     fn line_behind(&mut self) -> Line {
         self.process.tell_no_more();
-        let until = (self.begun.elapsed() + MOMENT).min(self.patience.limit());
+        let until = self.begun.elapsed() + MOMENT;
         self.said(|| self.left_of(until))
     }
 

@@ -24,8 +24,8 @@ const BLINK: Duration = Duration::from_millis(1);
 /// How often the time that is left is looked at.
 const GLANCE: Duration = Duration::from_millis(15);
 
-/// The time for what should be there already.
-pub const MOMENT: Duration = Duration::from_millis(100);
+/// The time for what should be there already, on a machine with much to do.
+pub const MOMENT: Duration = Duration::from_secs(1);
 
 const PIPED: &str = "a pipe was asked for";
 
