@@ -15,12 +15,12 @@ const SHORT: Duration = Duration::from_millis(500);
 const SECOND: Duration = Duration::from_secs(1);
 
 #[test]
-fn values_have_a_second_after_the_limit() {
+fn values_have_two_seconds_after_the_limit() {
     let silent = format!("{READS}echo sat; exec sleep 60");
     let (replied, time) = asked(&silent, SCRIPT, SHORT);
     assert_eq!(replied.reply, Reply::Sat(None));
-    assert!(replied.time < SECOND, "{replied:?}");
-    assert!(time > SECOND && time < 3 * SECOND, "{time:?}");
+    assert!(replied.time < SHORT, "{replied:?}");
+    assert!(time > 2 * SECOND && time < 20 * SECOND, "{time:?}");
 
     let slow = format!("{READS}echo sat; sleep 0.8; echo '((v0 1) (m15 2))'");
     let (replied, _) = asked(&slow, SCRIPT, SHORT);

@@ -8,8 +8,8 @@ use super::process::{is_blank, Line, Process, MOMENT};
 use super::values::values;
 use super::{names, Replied, Reply, Solver, Values};
 
-/// The least time for values after `sat`.
-const FOR_VALUES: Duration = Duration::from_secs(1);
+/// The least time for values after `sat`. A solver's own time limit is later.
+const FOR_VALUES: Duration = Duration::from_secs(2);
 
 /// The most characters of a problem.
 const PROBLEM: usize = 60;
