@@ -180,10 +180,10 @@ fn what_cannot_be_started_has_failed() {
 
 #[test]
 fn a_slow_solver_is_ended() {
-    for slow in ["exec /bin/sleep 60", "/bin/sleep 3", "while :; do :; done"] {
+    for slow in ["exec /bin/sleep 60", "/bin/sleep 60", "while :; do :; done"] {
         let run = in_half_a_second(&[("z3", slow)], TRUE);
         assert_open(&run, "z3 undecided after TIME");
-        assert!(run.took < 3 * SECOND, "{slow}: {:?}", run.took);
+        assert!(run.took < 20 * SECOND, "{slow}: {:?}", run.took);
     }
     let run = in_half_a_second(
         &[("z3", "exec /bin/sleep 60"), ("cvc5", "exec /bin/sleep 60")],
@@ -201,13 +201,13 @@ fn a_slow_solver_is_ended() {
     let sentence =
         "not proved: exit 15 is open, floor 15 is open, step 15 is open, main 19 is open\n";
     assert_eq!((run.status, run.sentence()), (Some(4), sentence));
-    assert!(run.took < 10 * SECOND, "{:?}", run.took);
+    assert!(run.took < 40 * SECOND, "{:?}", run.took);
 }
 
 #[test]
 fn nothing_is_left_of_a_slow_solver() {
     let folder = folder(&[("z3", "echo $$ > \"$0.number\"; exec /bin/sleep 60")]);
-    vcgen(&folder, &["prove", "--timeout", "1", "-"], TRUE);
+    vcgen(&folder, &["prove", "--timeout", "3", "-"], TRUE);
     let process = Path::new("/proc").join(text(&folder.join("z3.number")).trim());
     assert!(!process.exists());
 }
@@ -253,7 +253,7 @@ fn a_quick_solver_need_not_wait_for_a_slow_one() {
             _ => "z3 undecided after TIME, cvc5 TIME",
         };
         assert_true(&run, authors);
-        assert!(run.took < 5 * SECOND, "{:?}", run.took);
+        assert!(run.took < 20 * SECOND, "{:?}", run.took);
     }
     let solvers = [
         ("z3", "exec /bin/sleep 60"),
@@ -277,7 +277,7 @@ fn a_solver_need_not_read_a_long_text() {
     assert!(text.len() > 200_000);
     let run = vcgen(&folder, &["prove", "-"], &divisors(14));
     assert_true(&run, "z3 TIME");
-    assert!(run.took < 3 * SECOND, "{:?}", run.took);
+    assert!(run.took < 20 * SECOND, "{:?}", run.took);
 }
 
 #[test]
@@ -366,7 +366,7 @@ fn values_that_cannot_be_read_are_a_contradiction() {
         &silent,
         "z3 says false, and gave no values in time that can be read (z3 TIME)",
     );
-    assert!(silent.took < 4 * SECOND, "{:?}", silent.took);
+    assert!(silent.took < 20 * SECOND, "{:?}", silent.took);
     let invalid = by_z3("echo sat; printf '((v0 \\377))\\n'", FALSE_FAR_AWAY);
     assert_contradiction(
         &invalid,
@@ -494,7 +494,7 @@ fn what_is_no_answer_leaves_a_condition_open() {
         let found = without_core(&found(&run));
         assert_eq!(found, format!("open (z3 failed: {problem})"), "{does}");
         assert_eq!(run.status, Some(4), "{does}");
-        assert!(run.took < 5 * SECOND, "{does}: {:?}", run.took);
+        assert!(run.took < 9 * SECOND, "{does}: {:?}", run.took);
     }
 }
 
@@ -517,7 +517,7 @@ fn a_line_without_end_is_shortened() {
     let run = by_z3("exec /usr/bin/tr '\\0' x < /dev/zero", TRUE);
     let shown = format!("z3 failed: {}..", "x".repeat(60));
     assert_open(&run, &shown);
-    assert!(run.took < 5 * SECOND, "{:?}", run.took);
+    assert!(run.took < 9 * SECOND, "{:?}", run.took);
 }
 
 #[test]
@@ -747,7 +747,7 @@ fn lines_stand_in_the_order_of_the_list() {
 #[test]
 fn a_line_is_written_as_soon_as_it_can_be() {
     let slow_main = "while read -r line && [ \"$line\" != '(check-sat)' ]; do\n\
-        case $line in *'(=> (<= 0 v0) (<= 0 v0))'*) slow=1.5 ;; esac\n\
+        case $line in *'(=> (<= 0 v0) (<= 0 v0))'*) slow=4 ;; esac\n\
         done\n\
         /bin/sleep ${slow-0}; echo unsat";
     let file = top().join("examples/countdown.script");
@@ -771,7 +771,7 @@ fn the_time_that_is_told_is_that_of_the_solver() {
     let run = by_z3("/bin/sleep 0.25; echo unsat", TRUE);
     let line = &run.lines()[0];
     let seconds: f64 = line.authors.split(' ').nth(1).unwrap().parse().unwrap();
-    assert!((0.25..2.0).contains(&seconds), "{line:?}");
+    assert!((0.25..10.0).contains(&seconds), "{line:?}");
 }
 
 #[test]
@@ -931,7 +931,7 @@ fn a_reader_that_has_seen_enough_changes_no_verdict() {
 fn solvers_see_nothing_of_standard_input() {
     let reads_all = "/bin/cat > \"$0.told\"; echo unsat";
     let folder: PathBuf = folder(&[("z3", reads_all)]);
-    let run = vcgen(&folder, &["prove", "--timeout", "1", "-"], TRUE);
+    let run = vcgen(&folder, &["prove", "--timeout", "3", "-"], TRUE);
     assert_open(&run, "z3 undecided after TIME");
     let script = vcgen(&folder, &["smt", "-", "0"], TRUE).out;
     assert_eq!(text(&folder.join("z3.told")), script);

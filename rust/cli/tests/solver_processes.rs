@@ -76,7 +76,7 @@ fn nothing_is_asked_for_where_nothing_is_declared() {
     ] {
         let (replied, time) = asked(&format!("{READS}{does}"), script, ENOUGH);
         assert_eq!(replied.reply, expected, "{does}");
-        assert!(time < 5 * SECOND, "{time:?}");
+        assert!(time < 15 * SECOND, "{time:?}");
     }
 }
 
@@ -110,7 +110,7 @@ fn what_is_no_answer_is_told() {
     ] {
         let begun = Instant::now();
         assert_eq!(reply(does), Reply::Failed(problem.to_string()), "{does}");
-        assert!(begun.elapsed() < 5 * SECOND, "{does}");
+        assert!(begun.elapsed() < 15 * SECOND, "{does}");
     }
 }
 
@@ -130,7 +130,7 @@ fn a_solver_may_write_without_end() {
     ] {
         let (replied, time) = asked(does, SCRIPT, limit);
         assert_eq!(replied.reply, expected, "{does}");
-        assert!(time < 5 * SECOND, "{does}: {time:?}");
+        assert!(time < 15 * SECOND, "{does}: {time:?}");
     }
 }
 
@@ -145,11 +145,11 @@ fn a_solver_need_not_read() {
     ] {
         let (replied, time) = asked(does, &long, ENOUGH);
         assert_eq!(replied.reply, expected, "{does}");
-        assert!(time < 5 * SECOND, "{does}: {time:?}");
+        assert!(time < 15 * SECOND, "{does}: {time:?}");
     }
     let (replied, time) = asked("exec sleep 60", &long, SHORT);
     assert_eq!(replied.reply, Reply::Undecided);
-    assert!(time < 2 * SECOND, "{time:?}");
+    assert!(time < 15 * SECOND, "{time:?}");
 }
 
 /// In KiB, unless this process has less.

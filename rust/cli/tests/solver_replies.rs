@@ -101,5 +101,5 @@ fn solvers_do_not_decide_a_hard_question_in_half_a_second() {
     let begun = Instant::now();
     let replies = real_replies(&[script], Duration::from_millis(500));
     assert_eq!(replies, [[Reply::Undecided, Reply::Undecided]]);
-    assert!(begun.elapsed().as_secs() < 3, "{:?}", begun.elapsed());
+    assert!(begun.elapsed() < ENOUGH, "{:?}", begun.elapsed());
 }
