@@ -54,23 +54,3 @@ pub const OF_CONTRADICTION: &str = "A solver is wrong here, or the evaluator is,
 said of the script above counts. Try it again with more time. If it stays so, please keep the file
 and the versions of the solvers, and tell the maintainers.
 ";
-
-/// What solvers are asked of a condition's premise.
-pub fn premise(kind: ConditionKind) -> &'static str {
-    match kind {
-        ConditionKind::Main => "the precondition",
-        _ => "the invariant and the guard together",
-    }
-}
-
-/// What it means that a premise has no state.
-pub fn without_states(kind: ConditionKind, row: usize) -> String {
-    match kind {
-        ConditionKind::Main => {
-            format!("main {row} is true for nothing, and no run is promised anything")
-        }
-        _ => {
-            format!("floor {row} and step {row} are true for nothing, and where the invariant holds the body is not begun")
-        }
-    }
-}

@@ -1,8 +1,6 @@
 //! A proof for other programs.
 
-use leqwarti::ConditionKind;
-
-use super::{Finding, Outcome, Proof, Report, Verdict};
+use super::{Finding, Outcome, Premise, Proof, Report, Verdict};
 use crate::solvers::{Replied, Reply};
 use crate::Json;
 
@@ -54,10 +52,7 @@ impl Report<'_> {
 
     /// What is told of a premise, by what is found of its opposite.
     fn warning_json(&self, opposite: &Finding) -> Option<Json> {
-        let of = match opposite.kind {
-            ConditionKind::Main => "precondition",
-            _ => "invariant and guard",
-        };
+        let of = Premise::of(opposite.kind)?.key();
         let warning = Json::object([
             ("row", Json::number(opposite.row)),
             ("line", Json::number(self.source.line(opposite.row))),

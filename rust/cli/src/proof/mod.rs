@@ -2,6 +2,7 @@
 
 mod explanation;
 mod json;
+mod premise;
 mod report;
 mod verdict;
 
@@ -11,6 +12,8 @@ use leqwarti::{Condition, ConditionKind, Plan};
 
 use crate::solvers::{ask, Event, Replied, Solver};
 use crate::{scripts, Script};
+
+use premise::Premise;
 
 pub use report::Report;
 pub use verdict::{Contradiction, Refutation, Verdict};
@@ -108,13 +111,10 @@ impl Proof {
     }
 }
 
-/// A list with one condition: the opposite of the precondition, or of a loop's
-/// invariant and guard. Where it is true, main, or floor and step, are true for
-/// nothing. The other conditions have none.
+/// A list with one condition: the opposite of its premise, where that is asked
+/// about. Where it is true, the condition is true for nothing.
 fn opposite_of_premise(condition: Condition) -> Option<Plan> {
-    if !matches!(condition.kind, ConditionKind::Main | ConditionKind::Floor) {
-        return None;
-    }
+    Premise::of(condition.kind)?;
     let (premise, _) = condition.formula.implication()?;
     let not = 22;
     let mut list = [&[not], premise.words()].concat();

@@ -5,10 +5,8 @@ use std::collections::BTreeSet;
 use evaluator::{Name, State, Whole};
 use leqwarti::Formula;
 
-use super::explanation::{
-    of_false, premise, without_states, OF_CONTRADICTION, OF_NO_ANSWER, OF_OPEN,
-};
-use super::{Contradiction, Finding, Outcome, Proof, Refutation, Verdict};
+use super::explanation::{of_false, OF_CONTRADICTION, OF_NO_ANSWER, OF_OPEN};
+use super::{Contradiction, Finding, Outcome, Premise, Proof, Refutation, Verdict};
 use crate::solvers::{Replied, Reply};
 use crate::Source;
 
@@ -48,11 +46,12 @@ impl Report<'_> {
     /// What is told of a premise, by what is found of its opposite.
     fn warning(&self, opposite: &Finding) -> Option<String> {
         let Finding { kind, row, .. } = *opposite;
-        let premise = premise(kind);
+        let asked = Premise::of(kind)?;
+        let premise = asked.words();
         let line = self.source.line(row);
         Some(match &opposite.verdict {
             Verdict::True => {
-                let meaning = without_states(kind, row);
+                let meaning = asked.without_states(row);
                 format!("warning: line {line}: no state meets {premise}: {meaning}\n")
             }
             Verdict::False(_) => return None,
