@@ -31,12 +31,8 @@ struct Failure {
 
 fn main() -> ExitCode {
     let arguments: Vec<OsString> = std::env::args_os().skip(1).collect();
-    let arguments: Option<Vec<&str>> = arguments.iter().map(|one| one.to_str()).collect();
-    let done = match arguments.as_deref().map(request) {
-        Some(Some(request)) => carry_out(request),
-        Some(None) => Err(unreadable(HELP.to_string())),
-        None => Err(unreadable("vcgen: an argument is no UTF-8\n".to_string())),
-    };
+    let request = request(&arguments).map_err(|misuse| unreadable(misuse.told()));
+    let done = request.and_then(carry_out);
     ExitCode::from(done.unwrap_or_else(|failure| {
         // Where standard error takes nothing, the status tells.
         let _ = io::stderr().write_all(failure.told.as_bytes());
@@ -54,18 +50,20 @@ fn carry_out(request: Request) -> Result<u8, Failure> {
 }
 
 /// The answer to a file, or which line is none of a file.
-fn answer(file: &str) -> Result<Answer, Failure> {
-    let bytes = match file {
-        "-" => {
-            let mut bytes = Vec::new();
-            io::stdin().read_to_end(&mut bytes).map(|_| bytes)
-        }
-        _ => fs::read(file),
+fn answer(file: &Path) -> Result<Answer, Failure> {
+    let (name, bytes) = match file.as_os_str() == "-" {
+        true => (Path::new("standard input"), read_input()),
+        false => (file, fs::read(file)),
     };
-    let name = if file == "-" { "standard input" } else { file };
-    let bytes = bytes.map_err(|error| no_file(Path::new(name), error))?;
+    let bytes = bytes.map_err(|error| no_file(name, error))?;
+    let name = name.display();
     Answer::to(&bytes)
         .map_err(|fault| unreadable(format!("{name}:{}: {}\n", fault.line, fault.problem)))
+}
+
+fn read_input() -> io::Result<Vec<u8>> {
+    let mut bytes = Vec::new();
+    io::stdin().read_to_end(&mut bytes).map(|_| bytes)
 }
 
 fn unreadable(told: String) -> Failure {

@@ -1,12 +1,16 @@
 //! What the command's arguments ask for.
 
+use std::collections::BTreeMap;
+use std::ffi::{OsStr, OsString};
 use std::path::Path;
 use std::time::Duration;
 
+use cli::HELP;
+
 pub enum Request<'a> {
     Help,
-    List { file: &'a str, as_words: bool },
-    Smt { file: &'a str, wanted: Wanted<'a> },
+    List { file: &'a Path, as_words: bool },
+    Smt { file: &'a Path, wanted: Wanted<'a> },
     Prove(Prove<'a>),
 }
 
@@ -18,7 +22,7 @@ pub enum Wanted<'a> {
 }
 
 pub struct Prove<'a> {
-    pub file: &'a str,
+    pub file: &'a Path,
     /// The time that a solver has for a condition.
     pub limit: Duration,
     pub as_json: bool,
@@ -27,66 +31,191 @@ pub struct Prove<'a> {
 const DEFAULT_LIMIT: Duration = Duration::from_secs(10);
 const LONGEST_LIMIT: Duration = Duration::from_secs(86_400);
 
-/// Nothing for wrong usage. Only the first argument names a subcommand, so any
-/// name serves for a file.
-pub fn request<'a>(arguments: &[&'a str]) -> Option<Request<'a>> {
-    let asks_for_help = |argument: &&str| ["--help", "-h"].contains(argument);
-    if arguments.iter().any(asks_for_help) {
-        return Some(Request::Help);
+/// Only the first argument names a subcommand, so any name serves for a file.
+pub fn request(arguments: &[OsString]) -> Result<Request<'_>, Misuse> {
+    if arguments.iter().any(|one| one == "--help" || one == "-h") {
+        return Ok(Request::Help);
     }
-    match arguments {
-        ["list", rest @ ..] => list_request(rest),
-        ["smt", rest @ ..] => smt_request(rest),
-        ["prove", rest @ ..] => prove_request(rest),
-        _ => list_request(arguments),
-    }
-}
-
-fn list_request<'a>(arguments: &[&'a str]) -> Option<Request<'a>> {
-    let (file, as_words) = match *arguments {
-        [file] => (file, false),
-        ["--words", file] | [file, "--words"] => (file, true),
-        _ => return None,
+    let (subcommand, rest) = match arguments {
+        [first, rest @ ..] if first == "list" => (Subcommand::List, rest),
+        [first, rest @ ..] if first == "smt" => (Subcommand::Smt, rest),
+        [first, rest @ ..] if first == "prove" => (Subcommand::Prove, rest),
+        _ => (Subcommand::List, arguments),
     };
-    is_file(file).then_some(Request::List { file, as_words })
-}
-
-fn smt_request<'a>(arguments: &[&'a str]) -> Option<Request<'a>> {
-    let (file, wanted) = match *arguments {
-        [file] => (file, Wanted::All),
-        ["--into", folder, file] | [file, "--into", folder] => {
-            (file, Wanted::Into(Path::new(folder)))
-        }
-        [file, index] => (file, Wanted::At(index_of(index)?)),
-        _ => return None,
+    let misuse = |problem| Misuse {
+        problem,
+        subcommand: (!arguments.is_empty()).then_some(subcommand),
     };
-    is_file(file).then_some(Request::Smt { file, wanted })
+    let given = Given::read(subcommand, rest).map_err(misuse)?;
+    given.request(subcommand).map_err(misuse)
 }
 
-fn prove_request<'a>(arguments: &[&'a str]) -> Option<Request<'a>> {
-    let (mut files, mut limit, mut as_json) = (Vec::new(), None, false);
-    let mut arguments = arguments.iter();
-    while let Some(&argument) = arguments.next() {
-        match argument {
-            "--json" if !as_json => as_json = true,
-            "--timeout" if limit.is_none() => limit = Some(seconds(arguments.next()?)?),
-            file if is_file(file) => files.push(file),
-            _ => return None,
+/// Wrong usage.
+pub struct Misuse {
+    /// What is wrong.
+    problem: String,
+    /// None where there are no arguments.
+    subcommand: Option<Subcommand>,
+}
+
+impl Misuse {
+    /// What is wrong, and how the subcommand is used, or each of them.
+    pub fn told(&self) -> String {
+        let name = self.subcommand.map_or("", Subcommand::name);
+        let forms = HELP.lines().take_while(|line| !line.is_empty());
+        let forms: Vec<&str> = forms.filter(|form| form.contains(name)).collect();
+        let forms = forms.join("\n");
+        let forms = forms.trim_start_matches("usage:").trim_start();
+        let problem = &self.problem;
+        format!("vcgen: {problem}\nusage: {forms}\n./vcgen --help says more\n")
+    }
+}
+
+#[derive(Clone, Copy)]
+enum Subcommand {
+    List,
+    Smt,
+    Prove,
+}
+
+impl Subcommand {
+    fn name(self) -> &'static str {
+        match self {
+            Subcommand::List => "list",
+            Subcommand::Smt => "smt",
+            Subcommand::Prove => "prove",
         }
     }
-    let limit = limit.unwrap_or(DEFAULT_LIMIT);
-    match files[..] {
-        [file] => Some(Request::Prove(Prove {
-            file,
-            limit,
-            as_json,
-        })),
-        _ => None,
+
+    /// Its options, each with what has to follow it.
+    fn options(self) -> &'static [(&'static str, Option<&'static str>)] {
+        match self {
+            Subcommand::List => &[("--words", None)],
+            Subcommand::Smt => &[("--into", Some("FOLDER"))],
+            Subcommand::Prove => &[("--timeout", Some("SECONDS")), ("--json", None)],
+        }
     }
+
+    /// What begins with - is an option, but for standard input and for the index
+    /// that follows a file.
+    fn is_operand(self, argument: &OsStr, before: usize) -> bool {
+        let may_be_index = matches!(self, Subcommand::Smt) && before > 0;
+        let has_dash = argument.as_encoded_bytes().starts_with(b"-");
+        !has_dash || argument == "-" || may_be_index && index_of(argument).is_some()
+    }
+}
+
+/// Arguments, told apart.
+#[derive(Default)]
+struct Given<'a> {
+    operands: Vec<&'a OsStr>,
+    /// Each with what follows it, if that belongs to it.
+    options: BTreeMap<&'static str, Option<&'a OsStr>>,
+}
+
+impl<'a> Given<'a> {
+    fn read(subcommand: Subcommand, arguments: &'a [OsString]) -> Result<Given<'a>, String> {
+        let mut given = Given::default();
+        let mut rest = arguments.iter().map(OsString::as_os_str);
+        while let Some(argument) = rest.next() {
+            let mut options = subcommand.options().iter();
+            if let Some((option, follows)) = options.find(|(option, _)| argument == *option) {
+                let follows = follows.map(|name| {
+                    let missing = || format!("{name} is missing after {option}");
+                    rest.next().ok_or_else(missing)
+                });
+                given.add(option, follows.transpose()?)?;
+            } else if subcommand.is_operand(argument, given.operands.len()) {
+                given.operands.push(argument);
+            } else {
+                let (option, name) = (quoted(argument), subcommand.name());
+                return Err(format!("{option} is no option of {name}"));
+            }
+        }
+        Ok(given)
+    }
+
+    fn add(&mut self, option: &'static str, follows: Option<&'a OsStr>) -> Result<(), String> {
+        match self.options.insert(option, follows) {
+            None => Ok(()),
+            Some(_) => Err(format!("{option} is given twice")),
+        }
+    }
+
+    fn request(&self, subcommand: Subcommand) -> Result<Request<'a>, String> {
+        let (file, rest) = self.operands.split_first().ok_or("no file is given")?;
+        let file = Path::new(*file);
+        Ok(match subcommand {
+            Subcommand::List => {
+                none_of(rest)?;
+                let as_words = self.options.contains_key("--words");
+                Request::List { file, as_words }
+            }
+            Subcommand::Smt => {
+                let wanted = self.wanted(rest)?;
+                Request::Smt { file, wanted }
+            }
+            Subcommand::Prove => {
+                none_of(rest)?;
+                Request::Prove(Prove {
+                    file,
+                    limit: self.limit()?,
+                    as_json: self.options.contains_key("--json"),
+                })
+            }
+        })
+    }
+
+    fn wanted(&self, rest: &[&OsStr]) -> Result<Wanted<'a>, String> {
+        if let Some(folder) = self.following("--into") {
+            return none_of(rest).map(|()| Wanted::Into(Path::new(folder)));
+        }
+        let Some((index, rest)) = rest.split_first() else {
+            return Ok(Wanted::All);
+        };
+        none_of(rest)?;
+        let none = || {
+            format!(
+                "{} is no INDEX: conditions are counted from 0",
+                quoted(index)
+            )
+        };
+        index_of(index).map(Wanted::At).ok_or_else(none)
+    }
+
+    fn limit(&self) -> Result<Duration, String> {
+        let Some(argument) = self.following("--timeout") else {
+            return Ok(DEFAULT_LIMIT);
+        };
+        let none = || {
+            let (argument, longest) = (quoted(argument), LONGEST_LIMIT.as_secs());
+            format!(
+                "{argument} is no number of SECONDS: more than 0, {longest} at most, as 10 or 0.5"
+            )
+        };
+        seconds(argument).ok_or_else(none)
+    }
+
+    /// What follows an option.
+    fn following(&self, option: &str) -> Option<&'a OsStr> {
+        self.options.get(option).copied().flatten()
+    }
+}
+
+fn none_of(rest: &[&OsStr]) -> Result<(), String> {
+    match rest.first() {
+        None => Ok(()),
+        Some(other) => Err(format!("{} is an argument too many", quoted(other))),
+    }
+}
+
+fn quoted(argument: &OsStr) -> String {
+    format!("`{}`", argument.to_string_lossy().escape_debug())
 }
 
 /// Seconds as `10` or `0.5`, more than none and a day at most.
-fn seconds(argument: &str) -> Option<Duration> {
+fn seconds(argument: &OsStr) -> Option<Duration> {
+    let argument = argument.to_str()?;
     let is_digit_or_point = |byte: u8| byte.is_ascii_digit() || byte == b'.';
     if !argument.bytes().all(is_digit_or_point) {
         return None;
@@ -95,13 +224,9 @@ fn seconds(argument: &str) -> Option<Duration> {
     (!duration.is_zero() && duration <= LONGEST_LIMIT).then_some(duration)
 }
 
-/// What begins with - is an option, but for standard input.
-fn is_file(argument: &str) -> bool {
-    argument == "-" || !argument.starts_with('-')
-}
-
 /// An index, negative ones too. No list has one that is no word.
-fn index_of(argument: &str) -> Option<i32> {
+fn index_of(argument: &OsStr) -> Option<i32> {
+    let argument = argument.to_str()?;
     let digits = argument.strip_prefix('-').unwrap_or(argument);
     let is_number = !digits.is_empty() && digits.bytes().all(|digit| digit.is_ascii_digit());
     is_number.then(|| argument.parse().unwrap_or(i32::MAX))
@@ -111,21 +236,27 @@ fn index_of(argument: &str) -> Option<i32> {
 mod tests {
     use super::*;
 
+    fn split(arguments: &str) -> Vec<OsString> {
+        arguments.split_whitespace().map(OsString::from).collect()
+    }
+
     /// The request in words.
     fn told(arguments: &str) -> String {
-        let arguments: Vec<&str> = arguments.split_whitespace().collect();
-        match request(&arguments) {
-            None => "usage".to_string(),
-            Some(Request::Help) => "help".to_string(),
-            Some(Request::List { file, as_words }) => format!("list {file} {as_words}"),
-            Some(Request::Smt { file, wanted }) => match wanted {
-                Wanted::At(index) => format!("smt {file} at {index}"),
-                Wanted::All => format!("smt {file}"),
-                Wanted::Into(folder) => format!("smt {file} into {}", folder.display()),
-            },
-            Some(Request::Prove(prove)) => {
+        match request(&split(arguments)) {
+            Err(_) => "usage".to_string(),
+            Ok(Request::Help) => "help".to_string(),
+            Ok(Request::List { file, as_words }) => format!("list {} {as_words}", file.display()),
+            Ok(Request::Smt { file, wanted }) => {
+                let file = file.display();
+                match wanted {
+                    Wanted::At(index) => format!("smt {file} at {index}"),
+                    Wanted::All => format!("smt {file}"),
+                    Wanted::Into(folder) => format!("smt {file} into {}", folder.display()),
+                }
+            }
+            Ok(Request::Prove(prove)) => {
                 let form = if prove.as_json { "json" } else { "text" };
-                format!("prove {} {:?} {form}", prove.file, prove.limit)
+                format!("prove {} {:?} {form}", prove.file.display(), prove.limit)
             }
         }
     }
@@ -207,5 +338,69 @@ mod tests {
         ] {
             assert_eq!(told(arguments), "usage", "{arguments}");
         }
+    }
+
+    fn problem(arguments: &str) -> String {
+        match request(&split(arguments)) {
+            Err(misuse) => misuse.told(),
+            Ok(_) => panic!("{arguments} is right"),
+        }
+    }
+
+    #[test]
+    fn what_is_wrong_comes_before_the_usage() {
+        let usage_of = |name: &str| match name {
+            "list" => "usage: ./vcgen [list] [--words] FILE",
+            "smt" => "usage: ./vcgen smt FILE [INDEX]\n       ./vcgen smt --into FOLDER FILE",
+            _ => "usage: ./vcgen prove [--timeout SECONDS] [--json] FILE",
+        };
+        for (arguments, name, wanted) in [
+            ("a b", "list", "`b` is an argument too many"),
+            ("--word a", "list", "`--word` is no option of list"),
+            ("--words --words a", "list", "--words is given twice"),
+            ("smt", "smt", "no file is given"),
+            ("smt -1", "smt", "`-1` is no option of smt"),
+            ("smt a -x", "smt", "`-x` is no option of smt"),
+            (
+                "smt a 1x",
+                "smt",
+                "`1x` is no INDEX: conditions are counted from 0",
+            ),
+            ("smt a 1 2", "smt", "`2` is an argument too many"),
+            ("smt --into b a 1", "smt", "`1` is an argument too many"),
+            ("smt a --into", "smt", "FOLDER is missing after --into"),
+            ("prove --json", "prove", "no file is given"),
+            (
+                "prove a --timeout",
+                "prove",
+                "SECONDS is missing after --timeout",
+            ),
+            (
+                "prove --timeout=5 a",
+                "prove",
+                "`--timeout=5` is no option of prove",
+            ),
+            (
+                "prove --timeout 5s a",
+                "prove",
+                "`5s` is no number of SECONDS: more than 0, 86400 at most, as 10 or 0.5",
+            ),
+            (
+                "prove --timeout 0 a",
+                "prove",
+                "`0` is no number of SECONDS: more than 0, 86400 at most, as 10 or 0.5",
+            ),
+        ] {
+            let usage = usage_of(name);
+            let wanted = format!("vcgen: {wanted}\n{usage}\n./vcgen --help says more\n");
+            assert_eq!(problem(arguments), wanted, "{arguments}");
+        }
+    }
+
+    #[test]
+    fn without_arguments_every_use_is_shown() {
+        let (usage, _) = HELP.split_once("\n\n").unwrap();
+        let told = format!("vcgen: no file is given\n{usage}\n./vcgen --help says more\n");
+        assert_eq!(problem(""), told);
     }
 }

@@ -131,11 +131,27 @@ fn what_cannot_be_read_has_status_2_and_its_line() {
 }
 
 #[test]
-fn wrong_usage_shows_the_help() {
-    for arguments in [&[][..], &["--word", "-"], &["a", "b"]] {
-        let output = vcgen(arguments, "");
-        assert_eq!(written(&output), (Some(2), "", cli::HELP));
+fn wrong_usage_is_told() {
+    let usage = |problem: &str| {
+        format!(
+            "vcgen: {problem}\nusage: ./vcgen [list] [--words] FILE\n./vcgen --help says more\n"
+        )
+    };
+    for (arguments, problem) in [
+        (["--word", "-"], "`--word` is no option of list"),
+        (["a", "b"], "`b` is an argument too many"),
+    ] {
+        let output = vcgen(&arguments, "");
+        assert_eq!(written(&output), (Some(2), "", &usage(problem)[..]));
     }
+    let output = vcgen(&[], "");
+    let (status, out, error) = written(&output);
+    assert_eq!((status, out), (Some(2), ""));
+    let (usage, _) = cli::HELP.split_once("\n\n").unwrap();
+    assert!(
+        error.starts_with("vcgen: no file is given\n") && error.contains(usage),
+        "{error}"
+    );
     let output = vcgen(&["--help"], "");
     assert_eq!(written(&output), (Some(0), cli::HELP, ""));
 }

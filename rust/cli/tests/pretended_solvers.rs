@@ -229,9 +229,12 @@ fn awaited<T>(mut there: impl FnMut() -> Option<T>) -> T {
 fn a_solver_ends_with_the_command() {
     let folder = folder(&[("z3", "echo $$ > \"$0.number\"; exec /bin/sleep 60")]);
     let file = top().join("examples/countdown.script");
-    let mut child = command(&folder, &["prove", "--timeout", "60", file.to_str().unwrap()])
-        .spawn()
-        .unwrap();
+    let mut child = command(
+        &folder,
+        &["prove", "--timeout", "60", file.to_str().unwrap()],
+    )
+    .spawn()
+    .unwrap();
     let is_whole = |text: &String| text.ends_with('\n');
     let number = || fs::read_to_string(folder.join("z3.number")).ok();
     let number = awaited(|| number().filter(is_whole));
@@ -775,30 +778,36 @@ fn the_time_that_is_told_is_that_of_the_solver() {
 }
 
 #[test]
-fn wrong_usage_shows_the_help() {
+fn wrong_usage_is_told() {
     let none = folder(&[]);
-    for arguments in [
-        &[][..],
-        &["-", "-"],
-        &["--json"],
-        &["--timeout", "-"],
-        &["-", "--timeout"],
-        &["--timeout", "0", "-"],
-        &["--timeout", "-1", "-"],
-        &["--timeout", "1e3", "-"],
-        &["--timeout", "86401", "-"],
-        &["--timeout", "soon", "-"],
-        &["--timeout", "", "-"],
-        &["--timeout", "1", "--timeout", "1", "-"],
-        &["--timeout=1", "-"],
-        &["--json", "--json", "-"],
-        &["--words", "-"],
-        &["--into", "a", "-"],
-        &["-", "0"],
+    let usage = "usage: ./vcgen prove [--timeout SECONDS] [--json] FILE\n";
+    let seconds = "is no number of SECONDS: more than 0, 86400 at most, as 10 or 0.5";
+    for (arguments, problem) in [
+        (&[][..], "no file is given"),
+        (&["-", "-"], "`-` is an argument too many"),
+        (&["--json"], "no file is given"),
+        (&["--timeout", "-"], "no file is given"),
+        (&["-", "--timeout"], "SECONDS is missing after --timeout"),
+        (&["--timeout", "0", "-"], &format!("`0` {seconds}")),
+        (&["--timeout", "-1", "-"], &format!("`-1` {seconds}")),
+        (&["--timeout", "1e3", "-"], &format!("`1e3` {seconds}")),
+        (&["--timeout", "86401", "-"], &format!("`86401` {seconds}")),
+        (&["--timeout", "5s", "-"], &format!("`5s` {seconds}")),
+        (&["--timeout", "", "-"], &format!("`` {seconds}")),
+        (
+            &["--timeout", "1", "--timeout", "1", "-"],
+            "--timeout is given twice",
+        ),
+        (&["--timeout=1", "-"], "`--timeout=1` is no option of prove"),
+        (&["--json", "--json", "-"], "--json is given twice"),
+        (&["--words", "-"], "`--words` is no option of prove"),
+        (&["--into", "a", "-"], "`--into` is no option of prove"),
+        (&["-", "0"], "`0` is an argument too many"),
     ] {
         let run = vcgen(&none, &[&["prove"], arguments].concat(), TRUE);
+        let told = format!("vcgen: {problem}\n{usage}./vcgen --help says more\n");
         let written = (run.status, &run.out[..], &run.error[..]);
-        assert_eq!(written, (Some(2), "", cli::HELP), "{arguments:?}");
+        assert_eq!(written, (Some(2), "", &told[..]), "{arguments:?}");
     }
     let run = vcgen(&none, &["prove", "--help"], "");
     assert_eq!((run.status, &run.out[..]), (Some(0), cli::HELP));

@@ -242,14 +242,18 @@ fn what_cannot_be_read_or_written_has_status_2() {
 }
 
 #[test]
-fn wrong_usage_shows_the_help() {
-    for arguments in [
-        &["smt"][..],
-        &["list"],
-        &["smt", "a", "x"],
-        &["smt", "--into", "a"],
+fn wrong_usage_is_told() {
+    let usage = "usage: ./vcgen smt FILE [INDEX]\n       ./vcgen smt --into FOLDER FILE\n";
+    for (arguments, problem) in [
+        (&["smt"][..], "no file is given"),
+        (
+            &["smt", "a", "x"],
+            "`x` is no INDEX: conditions are counted from 0",
+        ),
+        (&["smt", "--into", "a"], "no file is given"),
     ] {
         let output = vcgen(arguments, "");
-        assert_eq!(written(&output), (Some(2), "", cli::HELP));
+        let told = format!("vcgen: {problem}\n{usage}./vcgen --help says more\n");
+        assert_eq!(written(&output), (Some(2), "", &told[..]));
     }
 }
