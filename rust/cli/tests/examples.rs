@@ -4,6 +4,12 @@
 mod command;
 mod files;
 
+use std::ffi::OsStr;
+use std::fs;
+use std::os::unix::ffi::OsStrExt;
+use std::path::Path;
+use std::process::Command;
+
 use cli::{Rows, Source};
 use command::{vcgen, written};
 use files::{expected, name, rows, text, texts, top};
@@ -154,6 +160,26 @@ fn wrong_usage_is_told() {
     );
     let output = vcgen(&["--help"], "");
     assert_eq!(written(&output), (Some(0), cli::HELP, ""));
+}
+
+/// Names are bytes, and need not be text.
+#[test]
+fn a_file_may_have_any_name() {
+    let folder = Path::new(env!("CARGO_TARGET_TMPDIR"));
+    let file = folder.join(OsStr::from_bytes(b"count\xffdown"));
+    let example = top().join("examples/countdown.script");
+    fs::copy(&example, &file).unwrap();
+    let listed = |file: &Path| {
+        let mut vcgen = Command::new(env!("CARGO_BIN_EXE_vcgen"));
+        vcgen.arg(file).output().unwrap()
+    };
+    let output = listed(&file);
+    assert_eq!(written(&output), (Some(0), &expected(&example)[..], ""));
+    fs::remove_file(&file).unwrap();
+    let output = listed(&file);
+    let (status, out, error) = written(&output);
+    assert_eq!((status, out), (Some(2), ""));
+    assert!(error.contains("count\u{fffd}down: "), "{error}");
 }
 
 #[test]
