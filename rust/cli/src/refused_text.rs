@@ -16,9 +16,17 @@ pub struct RefusedText {
     pub start: usize,
 }
 
-/// A token of each sort.
-const SORTS: &str = "1 v0 skip assert if while pre post true false not when mark ( + - * div mod \
+/// The words and signs of scripts.
+const WORDS: &str = "skip assert if while pre post true false not when mark ( + - * div mod \
     < <= = <> and or implies := ) , ; then else end keep fall do";
+
+/// What else may stand somewhere: a token of its sort, none for the end, and what
+/// it is called.
+const OTHERS: [(&str, &str); 3] = [
+    ("1", "a number"),
+    ("v0", "a variable (v0 to v1023)"),
+    ("", "the end of the text"),
+];
 
 impl RefusedText {
     /// The number, and the place as a byte of the file.
@@ -87,14 +95,17 @@ impl RefusedText {
         if self.refusal.reason == Reason::NumberOutOfRange {
             return String::new();
         }
-        let sorts = SORTS.split(' ').filter(|token| self.can_go_on_with(token));
-        let shown: Vec<&str> = sorts.map(shown).collect();
-        let tokens = shown.join(" ");
-        match (&tokens[..], self.can_go_on_with("")) {
-            ("", false) => String::new(),
-            ("", true) => "here may stand: the end of the text\n".to_string(),
-            (_, false) => format!("here may stand: {tokens}\n"),
-            (_, true) => format!("here may stand: {tokens}, or the end of the text\n"),
+        let words = WORDS.split(' ').filter(|word| self.can_go_on_with(word));
+        let words: Vec<&str> = words.collect();
+        let others = OTHERS
+            .iter()
+            .filter(|(token, _)| self.can_go_on_with(token));
+        let others = others.map(|(_, name)| name.to_string());
+        let words = (!words.is_empty()).then(|| words.join(" "));
+        let all: Vec<String> = words.into_iter().chain(others).collect();
+        match all.is_empty() {
+            true => String::new(),
+            false => format!("here may stand: {}\n", all.join(", or ")),
         }
     }
 
@@ -117,14 +128,6 @@ fn quoted(token: &Token) -> String {
         None => (&text[..], ""),
     };
     format!("`{}{rest}`", part.escape_debug())
-}
-
-fn shown(token: &str) -> &str {
-    match token {
-        "1" => "number",
-        "v0" => "variable",
-        _ => token,
-    }
 }
 
 fn out_of_range(before: &[Token], token: &Token) -> String {

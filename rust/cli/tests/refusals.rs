@@ -37,7 +37,7 @@ fn what_stands_there_is_shown_as_far_as_it_can_be() {
 line 2, column 2: `sk` is no word and no sign of scripts
     \tsk\u{fffd}p; post true
     \t^
-here may stand: variable skip assert if while
+here may stand: skip assert if while, or a variable (v0 to v1023)
 ";
     assert_eq!(written(&latin), (Some(1), told, ""));
 

@@ -16,7 +16,7 @@ here may stand: + - * div mod ;
 line 4, column 3: count is written v0 in a script
       count := 0;
       ^
-here may stand: variable skip assert if while
+here may stand: skip assert if while, or a variable (v0 to v1023)
 ",
     ),
     (
@@ -25,7 +25,7 @@ here may stand: variable skip assert if while
 line 2, column 11: comments stand before `pre` only
     \tv0\t:= 1; # one
     \t  \t      ^
-here may stand: variable skip assert if while post
+here may stand: skip assert if while post, or a variable (v0 to v1023)
 ",
     ),
     (
@@ -43,7 +43,7 @@ here may stand: pre
 line 1, column 5: `gr` is no word and no sign of scripts
     pre größe < 1; skip; post true
         ^
-here may stand: number variable true false not when mark ( -
+here may stand: true false not when mark ( -, or a number, or a variable (v0 to v1023)
 ",
     ),
     (
