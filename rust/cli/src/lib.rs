@@ -26,6 +26,7 @@ pub use refused_text::RefusedText;
 pub use rows::{RowLine, Rows};
 pub use smt::{scripts, Script};
 pub use source::{Fault, Source, Unread};
+pub use system::columns;
 pub use text::Text;
 
 pub const HELP: &str = include_str!("help.txt");

@@ -2,7 +2,7 @@
 
 use std::io::{self, IsTerminal, Write};
 
-use cli::{Asked, Progress};
+use cli::{columns, Asked, Progress};
 use leqwarti::Condition;
 
 /// It stands on standard error, where that is a terminal, and is wiped before
@@ -47,7 +47,10 @@ impl ProgressLine {
         if !self.at_work.is_empty() {
             let at_work = self.at_work.join(", ");
             let text = format!("{settled} of {conditions} settled; at work: {at_work}");
-            self.write(&text.chars().take(WIDTH).collect::<String>());
+            let columns = columns(io::stderr()).unwrap_or(COLUMNS);
+            // In the last column a terminal may begin a new line.
+            let fits = text.chars().take(columns.saturating_sub(1));
+            self.write(&fits.collect::<String>());
         }
     }
 
@@ -63,8 +66,8 @@ impl ProgressLine {
     }
 }
 
-/// What fits on a narrow terminal.
-const WIDTH: usize = 78;
+/// Of a terminal that does not tell.
+const COLUMNS: usize = 80;
 
 fn name(asked: Asked, condition: &Condition) -> String {
     let name = condition.kind.with_row(condition.row);

@@ -4,10 +4,10 @@
 mod files;
 mod json;
 mod proving;
+mod terminal;
 
 use std::os::unix::fs::symlink;
 use std::path::{Path, PathBuf};
-use std::process::{Command, Stdio};
 use std::sync::atomic::{AtomicUsize, Ordering};
 use std::sync::LazyLock;
 use std::{env, fs};
@@ -18,8 +18,9 @@ use fuzz::claims::changed_meaning;
 use fuzz::templates::{any_dividing_template, lay_out};
 use fuzz::{seed_from_environment, tell, Prng};
 use json::Json;
-use proving::{real_path, run, vcgen, without_times, Line, Run, PROVED};
+use proving::{command, real_path, vcgen, without_times, Line, Run, PROVED};
 use reference::{formula_from_words, formula_is_true, Row, State, Variable};
+use terminal::run_on_a_terminal;
 
 /// The examples of which one condition is not true: its name without the row, and
 /// what is found of it.
@@ -731,25 +732,6 @@ fn each_solver_alone_proves_the_programs_in_the_table_of_times() {
     }
 }
 
-/// Runs the command with standard error, and all else, on a terminal. Nothing
-/// where `script` of util-linux is not there.
-fn run_on_a_terminal(arguments: &str) -> Option<Run> {
-    let path = real_path();
-    let is_there = env::split_paths(&path).any(|folder| folder.join("script").is_file());
-    if !is_there {
-        println!("`script` is not on the PATH, so there is no terminal");
-        return None;
-    }
-    let mut script = Command::new("script");
-    let command = format!("'{}' {arguments}", env!("CARGO_BIN_EXE_vcgen"));
-    script.args(["-qec", &command, "/dev/null"]);
-    script
-        .stdin(Stdio::piped())
-        .stdout(Stdio::piped())
-        .stderr(Stdio::piped());
-    Some(run(script, ""))
-}
-
 /// What a person sees in the end: what stands behind the last wiping of a line.
 fn seen(out: &str) -> String {
     let line = |line: &str| {
@@ -765,19 +747,38 @@ fn seen(out: &str) -> String {
 
 const WIPE: &str = "\r\x1b[K";
 
-#[test]
-fn on_a_terminal_a_line_says_what_is_at_work() {
+/// What is written of the countdown on a terminal of so many columns.
+fn on_a_terminal(columns: u16) -> String {
     let file = example("countdown.script");
-    let Some(run) = run_on_a_terminal(&format!("prove '{}'", file.display())) else {
-        return;
-    };
-    assert_eq!(run.status, Some(0), "{run:?}");
-    let progress = format!("{WIPE}0 of 4 settled; at work: exit 15");
-    assert!(run.out.contains(&progress), "{:?}", run.out);
+    let command = command(real_path(), &["prove", file.to_str().unwrap()]);
+    let (status, out) = run_on_a_terminal(command, columns);
+    assert_eq!(status, Some(0), "{out:?}");
     assert_eq!(
-        without_times(&seen(&run.out)),
+        without_times(&seen(&out)),
         run_of("countdown.script").timeless()
     );
+    out
+}
+
+#[test]
+fn on_a_terminal_a_line_says_what_is_at_work() {
+    let progress = format!("{WIPE}0 of 4 settled; at work: exit 15");
+    // One that does not tell its width has none.
+    for columns in [80, 200, 0] {
+        let out = on_a_terminal(columns);
+        assert!(out.contains(&progress), "{out:?}");
+    }
+}
+
+/// What is longer would stand there for ever.
+#[test]
+fn the_line_on_a_terminal_is_no_wider_than_it() {
+    for columns in [2, 20, 30] {
+        let out = on_a_terminal(columns);
+        let lines = out.split(WIPE).filter(|line| !line.contains('\n'));
+        let longest = lines.map(str::len).max();
+        assert_eq!(longest, Some(usize::from(columns) - 1), "{out:?}");
+    }
 }
 
 #[test]
