@@ -14,8 +14,8 @@ pub const LONGEST_TEXT: usize = 64 << 20;
 const USUAL_TEXT: usize = 4 << 10;
 
 /// The writer calls itself once for every two words at most, and a call takes
-/// 288 bytes: on a list of so many words that is less than 600 KiB.
-const SHORT_LIST: usize = 4096;
+/// 288 bytes: on a list of so many words that is less than 300 KiB.
+const SHORT_LIST: usize = 2048;
 
 /// The stack for longer lists. The deepest takes 2,320 KiB.
 const STACK: usize = 4 << 20;
@@ -27,8 +27,13 @@ const STACK: usize = 4 << 20;
 /// Refused with [`TextTooLong`](Reason::TextTooLong) where the text is longer
 /// than [`LONGEST_TEXT`].
 ///
-/// A list of more than 4,096 words is written by a thread with a stack of its
-/// own, since a deep formula takes more than a thread of Rust's has by default.
+/// A list of more than 2,048 words is written by a thread with a stack of its
+/// own, since a deep formula takes up to 2,320 KiB, and a caller with 512 KiB is
+/// to be safe.
+///
+/// # Panics
+///
+/// Where the list is as long and no thread can be started.
 ///
 /// ```
 /// use leqwarti::Reason;

@@ -4,10 +4,12 @@
 
 mod common;
 
+use std::thread;
+
 use common::EXAMPLE_A_LIST;
 use common::{cases, number, numbers, ordinary_variables, parts, sum_of_all_variables_list};
 use leqwarti::entries::{self, Written};
-use leqwarti::{Plan, Reason, LONGEST_TEXT};
+use leqwarti::{Plan, Reason, LONGEST_LIST, LONGEST_TEXT};
 
 /// The answer, and the bytes of a buffer that held other things before.
 fn written(words: &[i32], index: i32, room: usize) -> (Written, Vec<u8>) {
@@ -257,13 +259,20 @@ fn a_text_has_a_limit() {
     assert_eq!(refusal.reason, Reason::TextTooLong);
 }
 
-/// The formula that takes most stack, on a thread of Rust's usual 2 MiB.
+/// The formula that takes most stack, on as much as is promised to suffice.
 #[test]
 fn a_formula_that_leans_left_is_written() {
-    let ands = 8_189;
-    let list = list_of(&[vec![23; ands], vec![16; ands + 1]].concat());
-    let formula = "(and ".repeat(ands) + "true" + &" true)".repeat(ands);
-    assert_eq!(leqwarti::smt(&list, 0), Ok(script("", &formula)));
+    let written = || {
+        for words in [511, 2_047, 2_049, 4_095, LONGEST_LIST - 1] {
+            let ands = (words - 5) / 2;
+            let list = list_of(&[vec![23; ands], vec![16; ands + 1]].concat());
+            assert_eq!(list.len(), words);
+            let formula = "(and ".repeat(ands) + "true" + &" true)".repeat(ands);
+            assert_eq!(leqwarti::smt(&list, 0), Ok(script("", &formula)));
+        }
+    };
+    let thread = thread::Builder::new().stack_size(512 << 10);
+    thread.spawn(written).unwrap().join().unwrap();
 }
 
 #[test]
