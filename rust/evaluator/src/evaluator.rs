@@ -169,53 +169,47 @@ impl Stacks {
 
     /// Takes the values of the parts and puts that of the whole.
     fn put(&mut self, kind: Kind, state: &State, work: &mut Work) -> Option<()> {
-        let mut spend = |digits: usize| work.spend(1 + (digits / DIGITS) as u64);
+        work.spend(1 + (self.digits(kind, state) / DIGITS) as u64)?;
         match kind {
-            Kind::Constant(value) => {
-                spend(0)?;
-                self.numbers.push(Whole::from(value));
-            }
-            Kind::Named(name) => {
-                let value = state.get(name);
-                spend(value.length())?;
-                self.numbers.push(value.clone());
-            }
+            Kind::Constant(value) => self.numbers.push(Whole::from(value)),
+            Kind::Named(name) => self.numbers.push(state.get(name).clone()),
             Kind::Arithmetic(operation) => {
                 let (left, right) = (self.number(), self.number());
-                spend(operation.digits(&left, &right))?;
                 self.numbers.push(operation.of(&left, &right));
             }
             Kind::Negate => {
                 let part = self.number();
-                spend(part.length())?;
                 self.numbers.push(-&part);
             }
             Kind::Choose => {
-                spend(0)?;
                 let (is_first, first, second) = (self.truth(), self.number(), self.number());
                 self.numbers.push(if is_first { first } else { second });
             }
-            Kind::Truth(truth) => {
-                spend(0)?;
-                self.truths.push(truth);
-            }
+            Kind::Truth(truth) => self.truths.push(truth),
             Kind::Compare(comparison) => {
                 let (left, right) = (self.number(), self.number());
-                spend(left.length())?;
                 self.truths.push(comparison.of(&left, &right));
             }
             Kind::Not => {
-                spend(0)?;
                 let part = self.truth();
                 self.truths.push(!part);
             }
             Kind::Connect(connective) => {
-                spend(0)?;
                 let (left, right) = (self.truth(), self.truth());
                 self.truths.push(connective.of(left, right));
             }
         }
         Some(())
+    }
+
+    /// About how many digits of base 2^32 a whole goes through.
+    fn digits(&self, kind: Kind, state: &State) -> usize {
+        match (kind, &self.numbers[..]) {
+            (Kind::Named(name), _) => state.get(name).length(),
+            (Kind::Arithmetic(operation), [.., right, left]) => operation.digits(left, right),
+            (Kind::Negate | Kind::Compare(_), [.., left]) => left.length(),
+            _ => 0,
+        }
     }
 
     // The items spell a formula, so no stack is empty where a value is taken.
