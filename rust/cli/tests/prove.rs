@@ -6,6 +6,7 @@ mod json;
 mod proving;
 mod terminal;
 
+use std::collections::BTreeSet;
 use std::os::unix::fs::symlink;
 use std::path::{Path, PathBuf};
 use std::sync::atomic::{AtomicUsize, Ordering};
@@ -630,6 +631,49 @@ fn a_refusal_is_an_object_too() {
     }
     let (_, json) = json_of(&["-"], "pre \"\\\u{1}\ttrue; skip; post true");
     assert!(json.text("text").contains("\"\\"), "{json:?}");
+}
+
+/// The names of all fields, and the words that stand for something.
+fn names_and_words(json: &Json, found: &mut BTreeSet<String>) {
+    match json {
+        Json::List(items) => items.iter().for_each(|item| names_and_words(item, found)),
+        Json::Object(fields) => {
+            for (name, value) in fields {
+                found.insert(name.clone());
+                match (&name[..], value) {
+                    ("verdict" | "answer" | "of" | "state", Json::Text(word)) => {
+                        found.insert(word.clone());
+                    }
+                    ("values", _) => (),
+                    _ => names_and_words(value, found),
+                }
+            }
+        }
+        Json::Text(_) | Json::Number(_) => (),
+    }
+}
+
+#[test]
+fn the_help_names_what_the_object_has() {
+    let mut found = BTreeSet::new();
+    for file in [
+        "fleet-join.script",
+        "no-start.script",
+        "idle-loop.script",
+        "gcd.script",
+        "no-invariant.script",
+        "own-mark.rows",
+    ] {
+        let path = example(file);
+        let (_, json) = json_of(&["--timeout", time_for(&path), path.to_str().unwrap()], "");
+        names_and_words(&json, &mut found);
+    }
+    assert!(found.len() >= 25, "{found:?}");
+    let help = cli::HELP.split_whitespace().collect::<Vec<_>>().join(" ");
+    let (_, help) = help.split_once("--json prints one object").unwrap();
+    for word in found {
+        assert!(help.contains(&word), "{word}");
+    }
 }
 
 /// The blocks of README.md that are indented, without their indentation.
