@@ -10,9 +10,10 @@ pub struct Names {
     of: BTreeMap<usize, String>,
 }
 
-/// The words of a formula's text that are no names.
-const TAKEN: [&str; 11] = [
-    "and", "div", "else", "false", "if", "implies", "mod", "not", "or", "then", "true",
+/// The words of formulas and of scripts, which are no names.
+const TAKEN: [&str; 22] = [
+    "and", "assert", "div", "do", "else", "end", "fall", "false", "if", "implies", "keep", "mark",
+    "mod", "not", "or", "post", "pre", "skip", "then", "true", "when", "while",
 ];
 
 const FORM: &str =
@@ -47,7 +48,7 @@ impl Names {
         let number = variable_number(variable).ok_or_else(no_variable)?;
         if !is_name(name) {
             return Err(format!(
-                "`{}` is no name: letters and _, and no word of formulas",
+                "`{}` is no name: letters and _, and no word of scripts",
                 name.escape_debug()
             ));
         }
@@ -169,8 +170,10 @@ mod tests {
     }
 
     #[test]
-    fn a_name_is_no_word_of_formulas_and_given_once() {
-        for wrong in ["and", "m5", "v1", "7", "a-b", "(x)", "größe"] {
+    fn a_name_is_no_word_of_scripts_and_given_once() {
+        for wrong in [
+            "and", "when", "while", "if", "m5", "v1", "7", "a-b", "(x)", "größe",
+        ] {
             assert!(
                 Names::default().add(&format!("v0 is {wrong}")).is_err(),
                 "{wrong}"

@@ -132,7 +132,7 @@ fn a_wrong_header_has_status_2_and_its_line() {
     for (header, told) in [
         (
             "# x\nv0 is v1\n",
-            "standard input:2: `v1` is no name: letters and _, and no word of formulas\n",
+            "standard input:2: `v1` is no name: letters and _, and no word of scripts\n",
         ),
         (
             "v1024 is x\n",
