@@ -67,6 +67,25 @@ fn values_are_asked_for_after_sat() {
 }
 
 #[test]
+fn a_solver_that_has_given_its_values_need_not_end() {
+    for values in [
+        "echo '((v0 5) (m15 1))'",
+        "echo; echo '((v0 5)'; echo '(m15 1))'",
+    ] {
+        let does = format!("{READS}echo sat; {values}; exec sleep 60");
+        let (replied, time) = asked(&does, SCRIPT, ENOUGH);
+        assert_eq!(replied.reply, sat(&[("v0", "5"), ("m15", "1")]));
+        assert!(time < 15 * SECOND, "{time:?}");
+    }
+    let (replied, _) = asked(
+        "echo sat; echo '((v0 5) (m15 1))'; echo unsat",
+        SCRIPT,
+        ENOUGH,
+    );
+    assert_eq!(replied.reply, Reply::Sat(None));
+}
+
+#[test]
 fn nothing_is_asked_for_where_nothing_is_declared() {
     let script = "(set-logic QF_NIA)\n(assert (not false))\n(check-sat)\n";
     for (does, expected) in [

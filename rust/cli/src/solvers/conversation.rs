@@ -117,10 +117,16 @@ impl Conversation<'_> {
         values(&self.rest(), &self.names)
     }
 
+    /// What it says until it ends; where it does not, until soon after all brackets
+    /// are closed.
     fn rest(&self) -> Vec<u8> {
-        let until = (self.begun.elapsed() + FOR_VALUES).max(self.patience.limit());
-        let mut rest = Vec::new();
+        let mut until = (self.begun.elapsed() + FOR_VALUES).max(self.patience.limit());
+        let (mut rest, mut open) = (Vec::new(), 0);
         while let Line::Said(line) = self.process.line(|| self.left_of(until)) {
+            open += opened(&line);
+            if open == 0 && !is_blank(&line) {
+                until = until.min(self.begun.elapsed() + MOMENT);
+            }
             rest.extend(line);
         }
         rest
@@ -158,6 +164,16 @@ impl Verdict {
             _ => None,
         }
     }
+}
+
+/// How many brackets a line opens and does not close.
+fn opened(line: &[u8]) -> i64 {
+    let change = |byte: &u8| match byte {
+        b'(' => 1,
+        b')' => -1,
+        _ => 0,
+    };
+    line.iter().map(change).sum()
 }
 
 /// What is no answer, as one short line without control characters.
