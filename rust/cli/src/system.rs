@@ -6,7 +6,7 @@ use std::os::fd::{AsFd, AsRawFd};
 use std::os::unix::ffi::OsStrExt;
 use std::os::unix::process::CommandExt;
 use std::path::Path;
-use std::process::Command;
+use std::process::{Child, Command};
 use std::ptr::from_mut;
 
 mod c {
@@ -16,6 +16,7 @@ mod c {
         pub fn access(path: *const c_char, mode: c_int) -> c_int;
         pub fn getrlimit(resource: c_uint, limit: *mut [u64; 2]) -> c_int;
         pub fn setrlimit(resource: c_uint, limit: *const [u64; 2]) -> c_int;
+        pub fn kill(process: c_int, signal: c_int) -> c_int;
         pub fn prctl(option: c_int, ...) -> c_int;
         pub fn ioctl(file: c_int, request: c_ulong, ...) -> c_int;
     }
@@ -24,12 +25,13 @@ mod c {
 const X_OK: c_int = 1;
 const RLIMIT_AS: c_uint = 9;
 const PR_SET_PDEATHSIG: c_int = 1;
-const SIGKILL: c_ulong = 9;
+const SIGKILL: c_int = 9;
 const TIOCGWINSZ: c_ulong = 0x5413;
 
-/// Has a command's process end with the thread that starts it, and have no more
-/// than so many bytes of memory.
+/// Has a command's process lead a group of its own, end with the thread that
+/// starts it, and have no more than so many bytes of memory.
 pub fn confine(command: &mut Command, memory: u64) {
+    command.process_group(0);
     // SAFETY: what runs between fork and exec calls the kernel alone, and neither
     // allocates nor locks anything.
     unsafe { command.pre_exec(move || confine_this(memory)) };
@@ -38,16 +40,27 @@ pub fn confine(command: &mut Command, memory: u64) {
 fn confine_this(memory: u64) -> io::Result<()> {
     // `struct rlimit`: the limit that counts, and how far it may be raised.
     let mut limit = [0; 2];
-    // SAFETY: the limit is lent for the calls, and is laid out as theirs is.
-    let is_done = unsafe {
-        c::prctl(PR_SET_PDEATHSIG, SIGKILL) == 0 && c::getrlimit(RLIMIT_AS, &mut limit) == 0 && {
-            limit[0] = memory.min(limit[0]);
-            c::setrlimit(RLIMIT_AS, &limit) == 0
-        }
-    };
-    match is_done {
-        true => Ok(()),
-        false => Err(io::Error::last_os_error()),
+    // SAFETY: this takes numbers.
+    done(unsafe { c::prctl(PR_SET_PDEATHSIG, SIGKILL as c_ulong) })?;
+    // SAFETY: the limit is lent for this call and the next, and laid out as theirs.
+    done(unsafe { c::getrlimit(RLIMIT_AS, &mut limit) })?;
+    limit[0] = memory.min(limit[0]);
+    // SAFETY: as before.
+    done(unsafe { c::setrlimit(RLIMIT_AS, &limit) })
+}
+
+fn done(result: c_int) -> io::Result<()> {
+    match result {
+        0 => Ok(()),
+        _ => Err(io::Error::last_os_error()),
+    }
+}
+
+/// Kills a child that leads a group, and what it has started in it.
+pub fn kill_group(leader: &Child) {
+    if let Ok(group) = c_int::try_from(leader.id()) {
+        // SAFETY: a signal touches no memory of this process.
+        unsafe { c::kill(-group, SIGKILL) };
     }
 }
 

@@ -4,7 +4,7 @@ mod pretended;
 
 use std::fs;
 use std::path::Path;
-use std::thread::available_parallelism;
+use std::thread::{available_parallelism, sleep};
 use std::time::{Duration, Instant};
 
 use cli::solvers::{Reply, Solver};
@@ -64,6 +64,25 @@ fn nothing_is_left_of_a_process() {
         let number = fs::read_to_string(folder.join("z3.number")).unwrap();
         let process = Path::new("/proc").join(number.trim());
         assert!(!process.exists(), "{does}");
+    }
+}
+
+/// As a shell script that stands for a solver starts one.
+#[test]
+fn nothing_is_left_of_what_a_process_has_started() {
+    for does in ["wait", "echo unsat; wait", "echo unsat", "exit 1"] {
+        let folder = folder(&[("z3", &format!("sleep 60 & echo $! > \"$0.number\"; {does}"))]);
+        let solvers = Solver::on_path(Some(folder.as_os_str()));
+        replies(SCRIPT, &solvers, 3 * SECOND);
+        let number = fs::read_to_string(folder.join("z3.number")).unwrap();
+        let process = Path::new("/proc").join(number.trim());
+        // What has ended and is not waited for has no command line.
+        let line = || fs::read(process.join("cmdline")).unwrap_or_default();
+        let begun = Instant::now();
+        while !line().is_empty() {
+            assert!(begun.elapsed() < 20 * SECOND, "{does}");
+            sleep(Duration::from_millis(10));
+        }
     }
 }
 

@@ -1,6 +1,6 @@
 //! A process that is told something and says something, line by line. Threads
 //! read and write for it, and nobody waits for them: where a process is ended, a
-//! child of it may still hold its pipes.
+//! child of it that has left its group may still hold its pipes.
 
 use std::io::{self, BufRead, BufReader, Read, Write};
 use std::iter::from_fn;
@@ -8,6 +8,8 @@ use std::process::{Child, ChildStdin, Command, ExitStatus, Stdio};
 use std::sync::mpsc::{channel, sync_channel, Receiver, RecvTimeoutError, Sender};
 use std::thread;
 use std::time::{Duration, Instant};
+
+use crate::system::kill_group;
 
 /// The most bytes that are one line; more of them are several.
 const LINE: u64 = 1 << 20;
@@ -122,11 +124,12 @@ impl Process {
     }
 }
 
-/// A child that is killed when it is dropped.
+/// A child that is killed when it is dropped, with its group.
 struct Killed(Child);
 
 impl Drop for Killed {
     fn drop(&mut self) {
+        kill_group(&self.0);
         let _ = self.0.kill();
         let _ = self.0.wait();
     }

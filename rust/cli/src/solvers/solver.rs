@@ -64,8 +64,8 @@ impl Solver {
         self.make.name()
     }
 
-    /// It ends with the command, even where that is killed; what it has started
-    /// itself may end by its own time limit, if it passes that on.
+    /// It leads a group, and ends with the command, even where that is killed. What
+    /// it has started itself then ends by its own time limit, if it passes that on.
     pub(super) fn command(&self, limit: Duration) -> Command {
         let mut command = Command::new(&self.program);
         command.args(self.make.arguments(own_limit(limit)));
