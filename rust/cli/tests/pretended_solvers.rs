@@ -453,6 +453,28 @@ fn values_may_have_a_thousand_digits() {
     );
 }
 
+/// Ten to the power of 9450, and that to the power of 2 and of 20.
+#[test]
+fn nobody_waits_for_the_digits_of_a_long_side() {
+    let power = |factor: &str, times: usize| vec![factor; times].join(" * ");
+    let (ten_powers, roots) = (power("1000000000", 70), power("v1", 15));
+    let [zeros, more_zeros] = [630, 9_450].map(|count| "0".repeat(count));
+    let solver = format!("echo sat; echo '((v0 1{more_zeros}) (v1 1{zeros}))'");
+    for times in [1, 2, 20] {
+        let script = format!(
+            "pre v1 = {ten_powers} and v0 = {roots};\nskip;\npost {} <= 5",
+            power("v0", times)
+        );
+        let run = by_z3(&solver, &script);
+        let side = match times {
+            1 => "a number of 9451 digits",
+            _ => "a number of more than 10000 digits",
+        };
+        let sides = format!(" <= 5: {side} on the left, 5 on the right\n");
+        assert!(run.conclusion().contains(&sides), "{}", run.conclusion());
+    }
+}
+
 /// The values that solvers give may be larger than they need to be.
 #[test]
 fn large_values_are_brought_near_to_zero() {

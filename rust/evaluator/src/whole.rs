@@ -82,6 +82,19 @@ impl Whole {
         (Whole::of(is_negative, quotient), Whole::of(false, rest))
     }
 
+    /// Whether it has more decimal digits, which is known much sooner than they are.
+    ///
+    /// ```
+    /// use evaluator::Whole;
+    ///
+    /// assert!(Whole::from(-1_000).has_more_digits_than(3));
+    /// assert!(!Whole::from(-999).has_more_digits_than(3));
+    /// ```
+    pub fn has_more_digits_than(&self, digits: usize) -> bool {
+        let power = [&b"1"[..], &vec![b'0'; digits]].concat();
+        digits == 0 || self.magnitude >= Magnitude::of_digits(&power)
+    }
+
     pub(crate) fn is_zero(&self) -> bool {
         self.magnitude.is_zero()
     }

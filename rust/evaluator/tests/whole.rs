@@ -220,3 +220,24 @@ fn nought_is_one_number_however_it_comes() {
     );
     assert_eq!(Whole::from(i64::MIN).to_string(), i64::MIN.to_string());
 }
+
+#[test]
+fn digits_are_counted_up_to_a_number_of_them() {
+    let powers = [
+        1,
+        9,
+        10,
+        99,
+        100,
+        999_999_999,
+        1_000_000_000,
+        10_i128.pow(38),
+    ];
+    for value in edges().into_iter().chain(powers).chain([0]) {
+        let digits = value.unsigned_abs().to_string().len();
+        for count in 0..45 {
+            let has_more = Whole::from(value).has_more_digits_than(count);
+            assert_eq!(has_more, digits > count, "{value}, {count}");
+        }
+    }
+}

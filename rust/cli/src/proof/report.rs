@@ -171,7 +171,14 @@ fn sentence(proof: &Proof) -> String {
 /// The most digits of a side that are shown.
 const DIGITS: usize = 100;
 
+/// The most that are counted, as many as a value has. A side may have so many that
+/// to write them takes seconds.
+const COUNTED: usize = 10_000;
+
 fn side_text(side: &Whole) -> String {
+    if side.has_more_digits_than(COUNTED) {
+        return format!("a number of more than {COUNTED} digits");
+    }
     let text = side.to_string();
     match text.trim_start_matches('-').len() {
         digits if digits > DIGITS => format!("a number of {digits} digits"),
