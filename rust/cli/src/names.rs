@@ -16,7 +16,8 @@ const TAKEN: [&str; 22] = [
     "mod", "not", "or", "post", "pre", "skip", "then", "true", "when", "while",
 ];
 
-const FORM: &str =
+/// What is told of a line that is like one, and of a text that has an `is`.
+pub const FORM: &str =
     "a line that names a variable is like `v0 is x`, and a script's text begins with `pre`";
 
 /// The variable and the name, whatever they are.

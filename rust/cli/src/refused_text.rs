@@ -2,6 +2,7 @@
 
 use leqwarti::{Reason, TextRefusal};
 
+use crate::names::FORM as NAME_FORM;
 use crate::tokens::{tokens, Token};
 use crate::{Names, Point};
 
@@ -72,7 +73,7 @@ impl RefusedText {
         let tokens = tokens(self.text());
         let (before, after) = tokens.split_at(tokens.partition_point(|token| token.place < place));
         match (reason, after.first()) {
-            (Reason::NoToken, Some(token)) => self.no_token(token),
+            (Reason::NoToken, Some(token)) => self.no_token(before, token),
             (Reason::WrongToken, Some(token)) => format!("no script has {} here", quoted(token)),
             (Reason::WrongToken, None) => "no script ends here".to_string(),
             (Reason::NumberOutOfRange, Some(token)) => out_of_range(before, token),
@@ -80,13 +81,26 @@ impl RefusedText {
         }
     }
 
-    fn no_token(&self, token: &Token) -> String {
+    fn no_token(&self, before: &[Token], token: &Token) -> String {
         let name = String::from_utf8_lossy(token.text);
         match self.names.variable(&name) {
             Some(variable) => format!("{name} is written v{variable} in a script"),
-            None if name == "#" => "comments stand before `pre` only".to_string(),
+            None if name == "is" => NAME_FORM.to_string(),
+            None if self.is_comment(before, token) => {
+                "comments begin with # and stand before `pre` only".to_string()
+            }
             None => format!("{} is no word and no sign of scripts", quoted(token)),
         }
+    }
+
+    /// Whether a comment of this or another language begins with the token, or right
+    /// before it with two signs of scripts.
+    fn is_comment(&self, before: &[Token], token: &Token) -> bool {
+        let rest = &self.text()[token.place..];
+        let begins = [&b"#"[..], b"//", b"/*", b"{", b"\\"];
+        let dashes = matches!(before, [.., first, second]
+            if first.text == b"-" && second.text == b"-" && second.place == first.place + 1);
+        dashes || begins.iter().any(|begin| rest.starts_with(begin))
     }
 
     /// With what the text up to the place can go on, found by asking the reader

@@ -90,8 +90,15 @@ fn words_of_row(numbers: &str) -> Result<[i32; 4], String> {
 fn word(text: &str) -> Result<i32, String> {
     text.parse().map_err(|_| {
         let (least, greatest) = (i32::MIN, i32::MAX);
+        let is_comment =
+            text.starts_with("--") && !text.ends_with(|end: char| end.is_ascii_digit());
+        let comment = if is_comment {
+            "; a comment begins with #"
+        } else {
+            ""
+        };
         let text = text.escape_debug();
-        format!("`{text}` is no whole number from {least} to {greatest}")
+        format!("`{text}` is no whole number from {least} to {greatest}{comment}")
     })
 }
 
@@ -159,6 +166,17 @@ mod tests {
         ] {
             let text = format!("# head\n1 {wrong} 0 0\n");
             assert_eq!(fault(&text), (2, format!("`{wrong}` {range}")));
+        }
+    }
+
+    #[test]
+    fn who_writes_dashes_for_a_comment_is_told() {
+        for text in ["-- the countdown", "1 0 0 0 -- one", "--the countdown"] {
+            let (line, problem) = fault(text);
+            assert!(
+                line == 1 && problem.ends_with("; a comment begins with #"),
+                "{problem}"
+            );
         }
     }
 

@@ -55,6 +55,40 @@ here may stand: pre
     assert_eq!(written(&long), (Some(1), &told[..], ""));
 }
 
+/// As other languages have them.
+#[test]
+fn who_writes_a_comment_is_told_where_they_stand() {
+    let told = "comments begin with # and stand before `pre` only\n";
+    for file in [
+        "// the countdown\npre true; skip; post true",
+        "/* the countdown */\npre true; skip; post true",
+        "{ the countdown }\npre true; skip; post true",
+        "pre true; // always\nskip; post true",
+        "pre true; skip; -- nothing\npost true",
+        "pre 0 <= v0 -- a start\n; skip; post true",
+        "pre true; skip; post true # all",
+    ] {
+        let output = vcgen(&["-"], file);
+        let (status, out, _) = written(&output);
+        assert!(status == Some(1) && out.contains(told), "{file}: {out}");
+    }
+    let output = vcgen(&["-"], "pre true; v0 := v1 - -x; post true");
+    assert!(!written(&output).1.contains("comments"), "{output:?}");
+}
+
+#[test]
+fn who_names_a_variable_by_several_words_is_told_the_form() {
+    for file in [
+        "v0 is number of trams\npre true; skip; post true",
+        "pre true;\nv0 is x\nskip; post true",
+    ] {
+        let output = vcgen(&["-"], file);
+        let (status, out, _) = written(&output);
+        let told = ": a line that names a variable is like `v0 is x`, and a script's text begins with `pre`\n";
+        assert!(status == Some(1) && out.contains(told), "{file}: {out}");
+    }
+}
+
 /// Rows and bytes that are too many have no place.
 #[test]
 fn what_has_no_place_has_no_caret() {

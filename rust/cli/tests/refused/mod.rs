@@ -22,7 +22,7 @@ here may stand: skip assert if while, or a variable (v0 to v1023)
     (
         "pre true;\n\tv0\t:= 1; # one\npost true\n",
         "refused 40 20
-line 2, column 11: comments stand before `pre` only
+line 2, column 11: comments begin with # and stand before `pre` only
     \tv0\t:= 1; # one
     \t  \t      ^
 here may stand: skip assert if while post, or a variable (v0 to v1023)
@@ -113,7 +113,7 @@ here may stand: and or implies, or the end of the text
     (
         "pre true; skip; post v0 < 1 # all",
         "refused 40 28
-line 1, column 29: comments stand before `pre` only
+line 1, column 29: comments begin with # and stand before `pre` only
     pre true; skip; post v0 < 1 # all
                                 ^
 here may stand: + - * div mod and or implies, or the end of the text
