@@ -156,7 +156,12 @@ fn out_of_range(before: &[Token], token: &Token) -> String {
 }
 
 fn wrong_mark(bodies: usize) -> String {
-    format!("mark(k) names the k-th loop outward in whose body it stands, and here are {bodies}")
+    let here = match bodies {
+        0 => "here it stands in none (a loop's own keep and fall are not in its body)".to_string(),
+        1 => "here it stands in that of 1 loop".to_string(),
+        _ => format!("here it stands in those of {bodies} loops"),
+    };
+    format!("mark(k) names the k-th loop outward in whose body it stands, and {here}")
 }
 
 /// In how many loops' bodies stands what follows these tokens.

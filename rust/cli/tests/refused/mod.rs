@@ -1,6 +1,6 @@
 //! Texts that are not read, each with the whole answer.
 
-pub const REFUSED: [(&str, &str); 22] = [
+pub const REFUSED: [(&str, &str); 23] = [
     (
         "pre true;\nv0 := v1 % 2;\npost true\n",
         "refused 40 19
@@ -181,9 +181,18 @@ line 1, column 31: constants go up to 2147483647, or 2147483648 right after a un
     (
         "pre true; while true keep mark(1) = 0 fall 0 do skip end; post true",
         "refused 42 31
-line 1, column 32: mark(k) names the k-th loop outward in whose body it stands, and here are 0
+line 1, column 32: mark(k) names the k-th loop outward in whose body it stands, and here it stands in none (a loop's own keep and fall are not in its body)
     pre true; while true keep mark(1) = 0 fall 0 do skip end; post true
                                    ^
+",
+    ),
+    (
+        "pre true; while true keep true fall 0 do
+while true keep true fall 0 do assert mark(3) = 0 end end; post true",
+        "refused 42 84
+line 2, column 44: mark(k) names the k-th loop outward in whose body it stands, and here it stands in those of 2 loops
+    while true keep true fall 0 do assert mark(3) = 0 end end; post true
+                                               ^
 ",
     ),
     (
@@ -193,7 +202,7 @@ while true keep true fall 0 do
   if true then assert mark( 2 ) = 0 else skip end
 end; post true",
         "refused 42 145
-line 4, column 29: mark(k) names the k-th loop outward in whose body it stands, and here are 1
+line 4, column 29: mark(k) names the k-th loop outward in whose body it stands, and here it stands in that of 1 loop
       if true then assert mark( 2 ) = 0 else skip end
                                 ^
 ",
