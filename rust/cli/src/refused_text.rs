@@ -46,6 +46,10 @@ impl RefusedText {
     /// What is wrong and where; and what may stand there instead.
     pub fn explanation(&self) -> String {
         let reason = self.refusal.reason;
+        if reason == Reason::TooManyRows {
+            // The command's buffer holds as many as there may be.
+            return "the script has more than 2,048 rows\n".to_string();
+        }
         if !reason.has_place() {
             return format!("{}\n", reason.words());
         }

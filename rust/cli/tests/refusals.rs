@@ -93,7 +93,7 @@ fn who_names_a_variable_by_several_words_is_told_the_form() {
 #[test]
 fn what_has_no_place_has_no_caret() {
     let many = format!("pre true; {}skip; post true", "skip; ".repeat(1_023));
-    let told = "refused 43 0\nthe script has more rows than its buffer holds, or than 2,048\n";
+    let told = "refused 43 0\nthe script has more than 2,048 rows\n";
     assert_eq!(written(&vcgen(&["-"], &many)), (Some(1), told, ""));
 
     let script = "pre true; skip; post true";
