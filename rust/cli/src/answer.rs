@@ -121,7 +121,10 @@ fn formula_text(formula: Formula, source: &Source) -> String {
 
 fn refusal_text(refusal: &Refusal, source: &Source) -> String {
     let Refusal { reason, row } = *refusal;
-    let words = reason.words();
+    let words = match source.words() {
+        [] => "the file has neither rows nor a script's text, which begins with `pre`",
+        _ => reason.words(),
+    };
     if !reason.has_row() {
         return format!("{words}\n");
     }
@@ -187,7 +190,7 @@ mod tests {
         let (text, words) = both("# nothing\n");
         assert_eq!(
             text,
-            "refused 1 0\na table has 1 to 2,048 rows of four words\n"
+            "refused 1 0\nthe file has neither rows nor a script's text, which begins with `pre`\n"
         );
         assert_eq!(words, "refused 1 0\n");
     }

@@ -184,8 +184,14 @@ fn a_file_may_have_any_name() {
 
 #[test]
 fn no_rows_and_too_many_are_refused_with_1() {
-    let told = "refused 1 0\na table has 1 to 2,048 rows of four words\n";
-    for input in [String::new(), "16 0 0 0\n".repeat(2_049)] {
+    let too_many = "refused 1 0\na table has 1 to 2,048 rows of four words\n";
+    let nothing =
+        "refused 1 0\nthe file has neither rows nor a script's text, which begins with `pre`\n";
+    for (input, told) in [
+        (String::new(), nothing),
+        ("# a comment\n\n".to_string(), nothing),
+        ("16 0 0 0\n".repeat(2_049), too_many),
+    ] {
         let output = vcgen(&["-"], &input);
         assert_eq!(written(&output), (Some(1), told, ""));
     }
