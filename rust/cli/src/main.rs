@@ -87,9 +87,10 @@ fn list(answer: &Answer, as_words: bool) -> Result<u8, Failure> {
 fn smt(answer: &Answer, wanted: Wanted) -> Result<(), Failure> {
     let plan = answer.plan().ok_or_else(|| refused(answer.text()))?;
     match wanted {
-        Wanted::At(index) => {
+        Wanted::At { index, given } => {
             let text = leqwarti::smt(plan.words(), index);
-            print(&text.map_err(|refusal| refused(format!("index {index}: {refusal}\n")))?)
+            let given = given.display();
+            print(&text.map_err(|refusal| refused(format!("index {given}: {refusal}\n")))?)
         }
         Wanted::All => each_text(plan, |script, text| {
             print(&format!("; {}\n{text}", script.name()))

@@ -16,7 +16,11 @@ pub enum Request<'a> {
 
 /// Which scripts are wanted, and where.
 pub enum Wanted<'a> {
-    At(i32),
+    At {
+        index: i32,
+        /// As it was given.
+        given: &'a OsStr,
+    },
     All,
     Into(&'a Path),
 }
@@ -166,21 +170,22 @@ impl<'a> Given<'a> {
         })
     }
 
-    fn wanted(&self, rest: &[&OsStr]) -> Result<Wanted<'a>, String> {
+    fn wanted(&self, rest: &[&'a OsStr]) -> Result<Wanted<'a>, String> {
         if let Some(folder) = self.following("--into") {
             return none_of(rest).map(|()| Wanted::Into(Path::new(folder)));
         }
-        let Some((index, rest)) = rest.split_first() else {
+        let Some((given, rest)) = rest.split_first() else {
             return Ok(Wanted::All);
         };
         none_of(rest)?;
         let none = || {
             format!(
                 "{} is no INDEX: conditions are counted from 0",
-                quoted(index)
+                quoted(given)
             )
         };
-        index_of(index).map(Wanted::At).ok_or_else(none)
+        let index = index_of(given).ok_or_else(none)?;
+        Ok(Wanted::At { index, given })
     }
 
     fn limit(&self) -> Result<Duration, String> {
@@ -249,7 +254,7 @@ mod tests {
             Ok(Request::Smt { file, wanted }) => {
                 let file = file.display();
                 match wanted {
-                    Wanted::At(index) => format!("smt {file} at {index}"),
+                    Wanted::At { index, .. } => format!("smt {file} at {index}"),
                     Wanted::All => format!("smt {file}"),
                     Wanted::Into(folder) => format!("smt {file} into {}", folder.display()),
                 }

@@ -170,10 +170,7 @@ fn an_index_that_the_list_lacks_is_refused() {
         let (status, out, error) = written(&output);
         assert_eq!((status, out), (Some(1), ""));
         let told = "refused with 21: the list has no condition at that index\n";
-        assert!(
-            error.starts_with("index ") && error.ends_with(told),
-            "{error}"
-        );
+        assert_eq!(error, format!("index {index}: {told}"));
     }
 }
 
