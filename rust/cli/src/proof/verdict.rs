@@ -185,6 +185,16 @@ mod tests {
         assert_eq!(state, values([1, 0]));
     }
 
+    /// False where v0 is 7 or 1000, and nowhere on the way from one to the other.
+    #[test]
+    fn of_several_states_the_nearest_is_told() {
+        let words = [23, 21, 2, 0, 1, 7, 21, 2, 0, 1, 1_000];
+        for far in [sat(&[("v0", "1000")]), sat(&[("v0", "7")])] {
+            let state = refuted(verdict(&words, [far]));
+            assert_eq!(*state.get(Name::Variable(0)), Whole::from(7));
+        }
+    }
+
     #[test]
     fn values_that_leave_the_condition_true_are_a_contradiction() {
         let there = [("v0", "12345679"), ("v1", "6")];
