@@ -10,12 +10,10 @@ use common::Proved;
 use fuzz::edge_texts::edge_script;
 use fuzz::guarded::{Edge, Guarded, EDGES};
 use fuzz::script_texts::{LARGEST_TABLE, LONGEST_SCRIPT};
-use fuzz::{compare_counting, compare_input, seed_from_environment, tell};
+use fuzz::{cases_from_environment, compare_counting, compare_input};
+use fuzz::{seed_from_environment, tell};
 use fuzz::{Answer, Input, ReadAnswer, Subject, Tally, CHECKS_OF_TEXTS};
 use reference::{read_text, Line, Verdict};
-
-/// For a million, set this to 1_000_000, or run other seeds (`VCGEN_SEED=clock`).
-const CASES: u64 = 100_000;
 
 /// The proved reader with the text and the words between guards, before the first
 /// cell and after the last in turn; what the words hold before a call is another
@@ -79,18 +77,18 @@ impl Subject for BetweenGuards {
 
 #[test]
 fn not_one_difference_at_the_edges() {
-    let seed = seed_from_environment();
+    let (seed, cases) = (seed_from_environment(), cases_from_environment(100_000));
     let mut tally = Tally::default();
     let mut subject = BetweenGuards::new();
-    let result = compare_counting(&mut subject, edge_script, seed, CASES, &mut tally);
+    let result = compare_counting(&mut subject, edge_script, seed, cases, &mut tally);
     tell(format!(
-        "{CASES} texts: {:?}; read ones by the check: {:?}",
+        "{cases} texts: {:?}; read ones by the check: {:?}",
         tally.read_text, tally.check
     ));
     assert!(result.is_ok(), "{}", result.unwrap_err());
     assert!(tally.read_text.keys().copied().eq([0, 40, 41, 42, 43, 44]));
     for number in [0, 40, 41, 42, 43] {
-        assert!(tally.read_text[&number] * 40 >= CASES, "{number} is rare");
+        assert!(tally.read_text[&number] * 40 >= cases, "{number} is rare");
     }
     assert!(tally.check.keys().copied().eq(CHECKS_OF_TEXTS));
     for bytes in LONGEST_SCRIPT - 1..=LONGEST_SCRIPT + 1 {
