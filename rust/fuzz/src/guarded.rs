@@ -5,6 +5,8 @@ use std::ffi::{c_int, c_void};
 use std::marker::PhantomData;
 use std::{ptr, slice};
 
+use crate::memory::{mmap, munmap, NO_ACCESS, READ_AND_WRITE};
+
 /// The end of a buffer behind which nothing may be touched.
 #[derive(Clone, Copy, Debug, PartialEq, Eq)]
 pub enum Edge {
@@ -17,20 +19,9 @@ pub enum Edge {
 pub const EDGES: [Edge; 2] = [Edge::Start, Edge::End];
 
 extern "C" {
-    fn mmap(
-        address: *mut c_void,
-        length: usize,
-        protection: c_int,
-        flags: c_int,
-        file: c_int,
-        offset: i64,
-    ) -> *mut c_void;
     fn mprotect(address: *mut c_void, length: usize, protection: c_int) -> c_int;
-    fn munmap(address: *mut c_void, length: usize) -> c_int;
 }
 
-const NO_ACCESS: c_int = 0;
-const READ_AND_WRITE: c_int = 1 | 2;
 const PRIVATE_AND_ANONYMOUS: c_int = 2 | 0x20;
 
 /// A multiple of every usual size of a page.

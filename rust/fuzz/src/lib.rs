@@ -17,6 +17,7 @@ pub mod layouts;
 pub mod lent;
 pub mod limits;
 pub mod lists;
+mod memory;
 pub mod mutate;
 pub mod mutate_text;
 pub mod nests;

@@ -3,23 +3,14 @@
 use std::ffi::{c_char, c_int, c_void};
 use std::{ptr, slice};
 
+use crate::memory::{mmap, munmap, NO_ACCESS, READ_AND_WRITE};
+
 extern "C" {
     fn memfd_create(name: *const c_char, flags: u32) -> c_int;
     fn ftruncate(file: c_int, length: i64) -> c_int;
     fn close(file: c_int) -> c_int;
-    fn mmap(
-        address: *mut c_void,
-        length: usize,
-        protection: c_int,
-        flags: c_int,
-        file: c_int,
-        offset: i64,
-    ) -> *mut c_void;
-    fn munmap(address: *mut c_void, length: usize) -> c_int;
 }
 
-const NO_ACCESS: c_int = 0;
-const READ_AND_WRITE: c_int = 1 | 2;
 const SHARED: c_int = 1;
 const FIXED: c_int = 0x10;
 const RESERVED_ONLY: c_int = 2 | 0x20 | 0x4000;
