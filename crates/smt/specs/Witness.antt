@@ -32,6 +32,7 @@ use Rattle.script.specs.Words.{list-words, all-lines, line-words, expr-words, f
 use Rattle.script.specs.Listing.{read-list, read-expr-within, read-formula-within, spelled-within, found-within, line-before-within, lines-before-within, lines-within}
 use Rattle.script.specs.Promise.{All-valid, List-valid}
 use Rattle.theorems.specs.Options.{some-inj}
+use Rattle.theorems.specs.Truths.{implies-true}
 use Rattle.smt.specs.Refutations.{Refuted, refuted-iff, verdicts-to-runs}
 
 -- ---- the list
@@ -69,11 +70,7 @@ exit-true (pos (suc n)) = rw (le-leb 0 (suc n) (omega linear), lt-ltb 0 (suc n) 
 exit-true (negsuc n) = tt
 
 floor-true : (v : ℤ) → T (Bool.not (leZ (pos 0) v && ltZ (pos 0) v) || leZ (pos 0) v)
-floor-true (pos n) = rw (le-leb 0 n (omega linear)) (whatever (ltb 0 n))
-  where
-    whatever : (b : Bool) → T (Bool.not b || true)
-    whatever true = tt
-    whatever false = tt
+floor-true (pos n) = rw (le-leb 0 n (omega linear)) (implies-true (ltb 0 n))
 floor-true (negsuc n) = tt
 
 step-true : (v m : ℤ)

@@ -31,6 +31,7 @@ use Rattle.script.specs.Generated.{refusal, outcome-for, outcome, outcome-withi
 use Rattle.script.specs.Listing.{read-expr-within, read-formula-within, spelled-within, found-within, line-before-within, lines-before-within, lines-within, read-list}
 use Rattle.script.specs.Promise.{All-valid}
 use Rattle.script.specs.Computed.{_⨾_, zero-state}
+use Rattle.theorems.specs.Truths.{implies-true}
 use Rattle.theorems.specs.Unchanged.{wp₀, walk₀, conditions₀}
 use Rattle.theorems.specs.NoDivision.{outcome-for₀, outcome₀}
 use Rattle.theorems.specs.Bodies.{Body, Demanded, Lists, planned, Failing, lists-valid}
@@ -126,10 +127,6 @@ kept false = tt
 once : Formula
 once = join And (join Or (truth true) (cmp Equal (arith Div (const (pos 1)) one-less) (const (pos 0)))) (cmp Equal (var 1) (const (pos 0)))
 
-either-way : (b : Bool) → T (Bool.not b || true)
-either-way true = tt
-either-way false = tt
-
 -- its floor and its step; x is v1, and m the mark
 floor-once : (x : ℤ) → T (Bool.not (eqZ x (pos 0)) || leZ (pos 0) (negℤ x))
 floor-once (pos zero) = tt
@@ -137,7 +134,7 @@ floor-once (pos (suc n)) = rw (ne-eqb (suc n) 0 (λ e. omega linear)) tt
 floor-once (negsuc n) = tt
 
 step-once : (x m : ℤ) → T (Bool.not (eqZ x (pos 0) && eqZ (negℤ x) m) || ltZ (negsuc 0) m)
-step-once x (pos k) = either-way (eqZ x (pos 0) && eqZ (negℤ x) (pos k))
+step-once x (pos k) = implies-true (eqZ x (pos 0) && eqZ (negℤ x) (pos k))
 step-once (pos zero) (negsuc k) = tt
 step-once (pos (suc n)) (negsuc k) = rw (ne-eqb (suc n) 0 (λ e. omega linear)) tt
 step-once (negsuc n) (negsuc k) = tt
@@ -216,7 +213,7 @@ facts =
         fits = lit≤ tt;
         listed = refl;
         valid = (
-          λ s. either-way (Bool.not (eqZ (s .var 1) (pos 0))),
+          λ s. implies-true (Bool.not (eqZ (s .var 1) (pos 0))),
           (
             λ s. floor-once (s .var 1),
             (λ s. step-once (s .var 1) (s .mark 24), (λ s. kept (Bool.not (eqZ (s .var 1 -ℤ pos 1) (pos 0))), tt)),

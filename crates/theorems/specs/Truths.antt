@@ -22,6 +22,11 @@ pub pair : (a b : Bool) → T a → T b → T (a && b)
 pair true b x y = y
 pair false b x y = x
 
+-- what is implied and true
+pub implies-true : (b : Bool) → T (Bool.not b || true)
+implies-true true = tt
+implies-true false = tt
+
 follow : (a b : Bool) → T (Bool.not a || b) → T a → T b
 follow true b t x = t
 follow false b t x = absurd x

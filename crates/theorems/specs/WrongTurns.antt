@@ -27,6 +27,7 @@ use Rattle.script.specs.Refusals.{misread-node, misread, misreads}
 use Rattle.script.specs.Promise.{All-valid}
 use Rattle.script.specs.Computed.{_⨾_, example, example-a, loops-in-branches, loops-in-sequence, loop-in-loop, counting-down, zero-state, moment}
 use Rattle.theorems.specs.Tests.{equal-numbers}
+use Rattle.theorems.specs.Truths.{implies-true}
 use Rattle.theorems.specs.WrongItems.{divisors-by, divisors-byᶠ, right-items}
 use Rattle.theorems.specs.WrongRules.{Listed, Rules, right-weakest, right-listed, wp-by, walk-by, lines-by, conditions-by, list-by, Wrong, wrong, Other-words, all-told}
 
@@ -134,10 +135,6 @@ unfolding moment counting-down zero-state after Run.step step-of first-step Run.
 too-many h = omega (linear, h .0)
 
 -- the conditions of that script are true in all states
-either-way : (b : Bool) → T (Bool.not b || true)
-either-way true = tt
-either-way false = tt
-
 itself : (b : Bool) → T (Bool.not b || b)
 itself true = tt
 itself false = tt
@@ -158,7 +155,7 @@ falls true x m = go (eqZ x m) refl
 all-true : All-valid whole (conditions counting-down)
 unfolding counting-down conditions walk wp divisors divisorsᶠ subst-expr subst-formula value holds
 all-true = (
-  λ s. either-way (Bool.not (leZ (pos 0) (s .var 0))),
+  λ s. implies-true (Bool.not (leZ (pos 0) (s .var 0))),
   (
     λ s. itself (leZ (pos 0) (s .var 0)),
     (
