@@ -142,8 +142,11 @@ impl Conversation<'_> {
         }
     }
 
-    /// What is left of a time from the beginning on.
+    /// What is left of a time from the beginning on; nothing once nobody waits.
     fn left_of(&self, time: Duration) -> Duration {
+        if self.patience.is_over() {
+            return Duration::ZERO;
+        }
         time.saturating_sub(self.begun.elapsed())
     }
 }

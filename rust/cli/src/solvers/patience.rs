@@ -34,6 +34,10 @@ impl Patience {
         self.allowed.store(0, Ordering::Relaxed);
     }
 
+    pub fn is_over(&self) -> bool {
+        self.allowed().is_zero()
+    }
+
     pub fn decided_after(&self, time: Duration) {
         let enough = time.saturating_mul(2).max(LEAST);
         self.allowed
@@ -72,7 +76,7 @@ mod tests {
         let patience = Patience::new(Duration::MAX);
         patience.end();
         patience.decided_after(Duration::MAX);
-        assert_eq!(patience.allowed(), Duration::ZERO);
+        assert!(patience.is_over());
     }
 
     #[test]
