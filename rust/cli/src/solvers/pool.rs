@@ -15,8 +15,8 @@ use super::{Event, Question, Replied, Solver};
 /// Asks each solver about each question. Each of them has the limit; once one
 /// has decided, another one gets at most twice as long as the first took, and a
 /// second at least. Questions are begun in their order, and each is answered once,
-/// in any order. Without a solver nothing happens. With the first error of
-/// `watch` all solvers are ended.
+/// in any order. Without a solver, or a thread to ask it, nothing happens. With the
+/// first error of `watch` all solvers are ended.
 pub fn ask<Q: Question, E>(
     questions: &[Q],
     solvers: &[Solver],
@@ -29,7 +29,10 @@ pub fn ask<Q: Question, E>(
     thread::scope(|scope| {
         for _ in 0..pool.workers() {
             let sender = sender.clone();
-            scope.spawn(|| pool.work(sender));
+            let worker = thread::Builder::new().spawn_scoped(scope, || pool.work(sender));
+            if worker.is_err() {
+                break;
+            }
         }
         drop(sender);
         let events = reports.into_iter().filter_map(|report| match report {
