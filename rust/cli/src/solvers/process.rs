@@ -54,10 +54,13 @@ impl Process {
             .stdout(Stdio::piped())
             .stderr(Stdio::piped())
             .spawn()?;
-        let mut child = Killed(child);
-        let input = pass_in(child.0.stdin.take().expect(PIPED))?;
-        let output = pass_on(child.0.stdout.take().expect(PIPED))?;
-        let error = first_line(child.0.stderr.take().expect(PIPED))?;
+        let mut child = Killed {
+            child,
+            is_over: false,
+        };
+        let input = pass_in(child.child.stdin.take().expect(PIPED))?;
+        let output = pass_on(child.child.stdout.take().expect(PIPED))?;
+        let error = first_line(child.child.stderr.take().expect(PIPED))?;
         Ok(Process {
             child,
             input: Some(input),
@@ -115,7 +118,7 @@ impl Process {
     fn ending(&mut self) -> Option<ExitStatus> {
         let begun = Instant::now();
         while begun.elapsed() < MOMENT {
-            if let Ok(Some(status)) = self.child.0.try_wait() {
+            if let Some(status) = self.child.ended() {
                 return Some(status);
             }
             thread::sleep(BLINK);
@@ -125,13 +128,31 @@ impl Process {
 }
 
 /// A child that is killed when it is dropped, with its group.
-struct Killed(Child);
+struct Killed {
+    child: Child,
+    /// Its number may be another's by now.
+    is_over: bool,
+}
+
+impl Killed {
+    /// How it ended, if it has. What it has started is killed then.
+    fn ended(&mut self) -> Option<ExitStatus> {
+        let status = self.child.try_wait().ok().flatten()?;
+        if !self.is_over {
+            self.is_over = true;
+            kill_group(&self.child);
+        }
+        Some(status)
+    }
+}
 
 impl Drop for Killed {
     fn drop(&mut self) {
-        kill_group(&self.0);
-        let _ = self.0.kill();
-        let _ = self.0.wait();
+        if !self.is_over {
+            kill_group(&self.child);
+            let _ = self.child.kill();
+            let _ = self.child.wait();
+        }
     }
 }
 
