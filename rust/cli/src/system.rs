@@ -1,4 +1,5 @@
-//! What Rust's library has no function for: calls of the C library, on Linux.
+//! What Rust's library has no function for: calls of the C library, on 64-bit
+//! Linux (x86-64, arm64).
 
 use std::ffi::{c_char, c_int, c_uint, c_ulong, c_ushort, CString};
 use std::io;
@@ -17,6 +18,7 @@ mod c {
         pub fn getrlimit(resource: c_uint, limit: *mut [u64; 2]) -> c_int;
         pub fn setrlimit(resource: c_uint, limit: *const [u64; 2]) -> c_int;
         pub fn kill(process: c_int, signal: c_int) -> c_int;
+        pub fn getppid() -> c_int;
         pub fn prctl(option: c_int, ...) -> c_int;
         pub fn ioctl(file: c_int, request: c_ulong, ...) -> c_int;
     }
@@ -26,22 +28,28 @@ const X_OK: c_int = 1;
 const RLIMIT_AS: c_uint = 9;
 const PR_SET_PDEATHSIG: c_int = 1;
 const SIGKILL: c_int = 9;
+const ESRCH: c_int = 3;
 const TIOCGWINSZ: c_ulong = 0x5413;
 
 /// Has a command's process lead a group of its own, end with the thread that
 /// starts it, and have no more than so many bytes of memory.
 pub fn confine(command: &mut Command, memory: u64) {
     command.process_group(0);
+    let parent = std::process::id();
     // SAFETY: what runs between fork and exec calls the kernel alone, and neither
     // allocates nor locks anything.
-    unsafe { command.pre_exec(move || confine_this(memory)) };
+    unsafe { command.pre_exec(move || confine_this(parent, memory)) };
 }
 
-fn confine_this(memory: u64) -> io::Result<()> {
+fn confine_this(parent: u32, memory: u64) -> io::Result<()> {
     // `struct rlimit`: the limit that counts, and how far it may be raised.
     let mut limit = [0; 2];
     // SAFETY: this takes numbers.
     done(unsafe { c::prctl(PR_SET_PDEATHSIG, SIGKILL as c_ulong) })?;
+    // SAFETY: this takes nothing. A parent that has ended meanwhile sends no signal.
+    if u32::try_from(unsafe { c::getppid() }) != Ok(parent) {
+        return Err(io::Error::from_raw_os_error(ESRCH));
+    }
     // SAFETY: the limit is lent for this call and the next, and laid out as theirs.
     done(unsafe { c::getrlimit(RLIMIT_AS, &mut limit) })?;
     limit[0] = memory.min(limit[0]);

@@ -64,7 +64,7 @@ impl Solver {
         self.make.name()
     }
 
-    /// It leads a group, and ends with the command, even where that is killed. What
+    /// It leads a group, and ends with the command, even where that is interrupted or killed. What
     /// it has started itself then ends by its own time limit, if it passes that on.
     pub(super) fn command(&self, limit: Duration) -> Command {
         let mut command = Command::new(&self.program);
