@@ -121,7 +121,12 @@ fn wrong_usage_builds_nothing() {
         ),
         (&["smt a.script 5 5"], "too many arguments: a.script 5 5"),
         (
-            &["prove --jsn a.script", "--jsn a.script --words"],
+            &[
+                "prove --jsn a.script",
+                "--jsn a.script --words",
+                "prove --jsn",
+                "smt --jsn a.script",
+            ],
             "--jsn is no option",
         ),
     ] {
@@ -307,7 +312,7 @@ fn who_waits_for_another_call_is_told_so() {
     let tree = Tree::new();
     fs::create_dir(tree.folder.join("target")).unwrap();
     let mut other = Command::new("flock")
-        .args(["target/vcgen.lock", "sh", "-c", "echo held; sleep 1"])
+        .args(["target/vcgen.lock", "sh", "-c", "echo held; sleep 5"])
         .current_dir(&tree.folder)
         .stdout(Stdio::piped())
         .spawn()
