@@ -16,18 +16,20 @@ const SECOND: Duration = Duration::from_secs(1);
 
 #[test]
 fn values_have_two_seconds_after_the_limit() {
-    let silent = format!("{READS}echo sat; exec sleep 60");
-    let (replied, time) = asked(&silent, SCRIPT, SHORT);
+    let limit = 2 * SECOND;
+    let silent = format!("{READS}sleep 1; echo sat; exec sleep 60");
+    let (replied, time) = asked(&silent, SCRIPT, limit);
     assert_eq!(replied.reply, Reply::Sat(None));
-    assert!(replied.time < SHORT, "{replied:?}");
-    assert!(time > 2 * SECOND && time < 20 * SECOND, "{time:?}");
+    assert!(replied.time < limit, "{replied:?}");
+    assert!(time > 3 * SECOND && time < 20 * SECOND, "{time:?}");
 
-    let slow = format!("{READS}echo sat; sleep 0.8; echo '((v0 1) (m15 2))'");
-    let (replied, _) = asked(&slow, SCRIPT, SHORT);
+    let slow = format!("{READS}sleep 1; echo sat; sleep 1.2; echo '((v0 1) (m15 2))'");
+    let (replied, _) = asked(&slow, SCRIPT, limit);
     assert_eq!(replied.reply, sat(&[("v0", "1"), ("m15", "2")]));
 }
 
-/// What follows a verdict is read, though the time is over.
+/// What follows a verdict is read, though the time is over. On a machine that is
+/// held up at the wrong moment one try may come to nothing.
 #[test]
 fn a_verdict_in_the_last_moment_is_heard_to_its_end() {
     let does = |behind: &str| format!("{READS}sleep 1.5; echo unsat; sleep 0.6; {behind}");
@@ -35,8 +37,9 @@ fn a_verdict_in_the_last_moment_is_heard_to_its_end() {
         ("echo sat", "unsat, then sat"),
         ("exit 7", "unsat, then exit status: 7"),
     ] {
-        let (replied, _) = asked(&does(behind), SCRIPT, 2 * SECOND);
-        assert_eq!(replied.reply, Reply::Failed(expected.to_string()));
+        let expected = Reply::Failed(expected.to_string());
+        let mut tries = (0..5).map(|_| asked(&does(behind), SCRIPT, 2 * SECOND).0.reply);
+        assert!(tries.any(|reply| reply == expected), "{expected:?}");
     }
 }
 

@@ -11,6 +11,7 @@ extern "C" {
     fn close(file: c_int) -> c_int;
 }
 
+const CLOSE_ON_EXEC: u32 = 1;
 const SHARED: c_int = 1;
 const FIXED: c_int = 0x10;
 const RESERVED_ONLY: c_int = 2 | 0x20 | 0x4000;
@@ -56,7 +57,7 @@ impl<T: Copy> Repeated<T> {
 fn map_repeated(bytes: usize) -> *mut c_void {
     // SAFETY: a new mapping takes no memory that is in use, and the units are within it.
     unsafe {
-        let file = memfd_create(c"repeated".as_ptr(), 0);
+        let file = memfd_create(c"repeated".as_ptr(), CLOSE_ON_EXEC);
         assert!(file >= 0 && ftruncate(file, UNIT as i64) == 0, "a unit");
         let all = mmap(ptr::null_mut(), bytes, NO_ACCESS, RESERVED_ONLY, -1, 0);
         assert!(all as isize != -1, "no addresses for {bytes} bytes");

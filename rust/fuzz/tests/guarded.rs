@@ -50,6 +50,7 @@ fn ends(edge: Edge, length: usize, cell: isize, how: Touch, cells: &str) -> bool
     let this = std::env::current_exe().expect("this test's file");
     let run = Command::new(this)
         .args(["--exact", "one_touch"])
+        .current_dir(env!("CARGO_TARGET_TMPDIR"))
         .env(
             TOUCH_VARIABLE,
             format!("{edge:?} {length} {cell} {how:?} {cells}"),
