@@ -141,8 +141,8 @@ fn refusal_text(refusal: &Refusal, source: &Source) -> String {
     }
 }
 
-/// What is wrong with a row of a text. No text that is read was ever refused with
-/// a row but with 8 and 9; what else there might be is told as for rows.
+/// What is wrong with a row of a text. Of the check's numbers with a row a text
+/// that is read gets 8 and 9 only, which is proved; others are told as for rows.
 fn words_for_text(reason: Reason, text: &Text, row: usize) -> &'static str {
     let reads_mark = text.words[4 * row] == 9;
     match reason {

@@ -265,7 +265,7 @@ pub fn step(words: &[i32], place: &mut usize) -> Line {
 
 /// The condition at an index from the front as an SMT-LIB 2 script. Whatever
 /// the buffer held before the call, after it the text is followed by zeros;
-/// refused, the buffer is all zeros. The deepest list takes 2,310 KiB of the
+/// refused, the buffer is all zeros. The deepest list takes 2,307 KiB of the
 /// caller's stack, more than a thread of Rust's has by default;
 /// [`leqwarti::smt`](crate::smt) sees to that.
 pub fn smt(words: &[i32], index: i32, text: &mut [u8]) -> Written {

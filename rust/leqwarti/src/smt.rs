@@ -17,7 +17,7 @@ const USUAL_TEXT: usize = 4 << 10;
 /// 288 bytes: on a list of so many words that is less than 300 KiB.
 const SHORT_LIST: usize = 2048;
 
-/// The stack for longer lists. The deepest takes 2,320 KiB.
+/// The stack for longer lists. The deepest takes 2,307 KiB.
 const STACK: usize = 4 << 20;
 
 /// The condition at an index of a finished list, from the front, as an
@@ -28,7 +28,7 @@ const STACK: usize = 4 << 20;
 /// than [`LONGEST_TEXT`].
 ///
 /// A list of more than 2,048 words is written by a thread with a stack of its
-/// own, since a deep formula takes up to 2,320 KiB, and a caller with 512 KiB is
+/// own, since a deep formula takes up to 2,307 KiB, and a caller with 512 KiB is
 /// to be safe.
 ///
 /// # Panics
