@@ -17,9 +17,10 @@ const TIOCGPTN: c_ulong = 0x8004_5430;
 const TIOCSWINSZ: c_ulong = 0x5414;
 const O_NOCTTY: c_int = 0o400;
 
-/// Makes a request with a number of its own form, and gives that back.
+/// Makes a request with what it takes, laid out as the kernel has it, and gives
+/// that back.
 fn request<T>(file: &File, request: c_ulong, mut with: T) -> T {
-    // SAFETY: the file is open, and the number is lent for the call.
+    // SAFETY: the file is open, and what the request takes is lent for the call.
     let done = unsafe { ioctl(file.as_raw_fd(), request, from_mut(&mut with)) };
     assert_eq!(done, 0, "request {request:x}");
     with
