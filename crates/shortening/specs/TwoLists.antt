@@ -1,0 +1,100 @@
+-- What the entry over two lists hands back: the shorter formula, the old one if equal (`two-lists`); over a list and its
+-- shortened list, always the words of the shortened formula (`own-list`); its refusals (`old-refused`, `new-refused`).
+-- Assumes nothing.
+use Prim.Native.Nat.{ℕ, zero, suc, _-_}
+use mathlib.Core.Path.{_≡_, refl, sym, ap, _∙_}
+use mathlib.Core.Logic.{_≢_, ⊎-elim}
+use mathlib.Core.Option.{some}
+use mathlib.Core.List.{List, [], _∷_}
+use mathlib.Core.Bool.{Bool, true, false, cond}
+use native.Mathlib.Omega.{arith as linear}
+use lib.IntN.{ℤ, pos}
+use lib.Dec.{eqb, ltb}
+use lib.ListN.{length, take, getElem?}
+use borrow.Author.Tests.{eqb-true, ltb-false}
+use Rattle.script.specs.declared.Line.{Line}
+use Rattle.script.specs.Conditions.{Condition}
+use Rattle.script.specs.Words.{formula-words, all-lines, list-words}
+use Rattle.script.specs.WellFormed.{Well-formed}
+use Rattle.script.specs.Listing.{line, line-at, part-at}
+use Rattle.theorems.specs.Options.{none-is-not, some-inj}
+use Rattle.theorems.specs.Line.{place}
+use Rattle.theorems.specs.Lookup.{line-at-index, part-at-index}
+use Rattle.shortening.specs.Simplify.{Order, shortenᶠ, shorten-condition, shorten-all}
+use Rattle.shortening.specs.Never.{sizeᶠ, as-it-wasᶠ}
+use Rattle.shortening.specs.Shortened.{old, new, part, shorter, part-words}
+use Rattle.shortening.specs.Lists.{well-formed-shortened}
+
+-- ---- refusals
+
+ne-test : (n : ℕ) → n ≢ 0 → eqb n 0 ≡ false
+ne-test n h = of-test (eqb n 0) refl
+  where
+    of-test : (b : Bool) → eqb n 0 ≡ b → b ≡ false
+    of-test true e = absurd (h (eqb-true n 0 e))
+    of-test false e = refl
+
+module _ (us vs : List ℤ) (i : ℤ) where
+  pub old-refused : line-at us i .number ≢ 0
+      → shorter us vs i ≡ record { number = line-at us i .number; which = old; start = 0; end = 0 }
+  unfolding shorter
+  old-refused h = rw (ne-test (line-at us i .number) h)
+
+  pub new-refused : line-at us i .number ≡ 0 → line-at vs i .number ≢ 0
+      → shorter us vs i ≡ record { number = line-at vs i .number; which = old; start = 0; end = 0 }
+  unfolding shorter
+  new-refused e h = rw (e, ne-test (line-at vs i .number) h)
+
+  -- ---- found in both
+
+  found-in-both : line-at us i .number ≡ 0 → line-at vs i .number ≡ 0
+      → part-words us vs (shorter us vs i)
+      ≡ cond (ltb (line-at vs i .end - line-at vs i .start) (line-at us i .end - line-at us i .start)) (part-at vs i) (part-at us i)
+  unfolding shorter
+  found-in-both h k =
+      rw (h, k) (of-test (ltb (line-at vs i .end - line-at vs i .start) (line-at us i .end - line-at us i .start)))
+    where
+      of-test : (t : Bool)
+          → part-words us vs (cond t (part new (line-at vs i)) (part old (line-at us i))) ≡ cond t (part-at vs i) (part-at us i)
+      of-test true = refl
+      of-test false = refl
+
+-- the length of the formula at a place
+part-length : (s : ℕ) (c : Condition) → line (place s c) .end - line (place s c) .start ≡ sizeᶠ (c .claim)
+part-length s c = omega linear
+
+module _ (us vs : List ℤ) (cs ds : List Condition) (old-list : Well-formed us cs) (new-list : Well-formed vs ds) where
+  pub two-lists : (i : ℕ) (c d : Condition) → getElem? cs i ≡ some c → getElem? ds i ≡ some d
+      → part-words us vs (shorter us vs (pos i))
+      ≡ cond (ltb (sizeᶠ (d .claim)) (sizeᶠ (c .claim))) (formula-words (d .claim)) (formula-words (c .claim))
+  two-lists i c d p q =
+      let x = line-at-index us cs old-list i c p in
+      let y = line-at-index vs ds new-list i d q in
+      let m : line-at us (pos i) .end - line-at us (pos i) .start ≡ sizeᶠ (c .claim) =
+      ap (λ (l : Line). l .end - l .start) x ∙ part-length (length (all-lines (take i cs))) c in
+      let n : line-at vs (pos i) .end - line-at vs (pos i) .start ≡ sizeᶠ (d .claim) =
+      ap (λ (l : Line). l .end - l .start) y ∙ part-length (length (all-lines (take i ds))) d in
+      found-in-both us vs (pos i) (ap (λ (l : Line). l .number) x) (ap (λ (l : Line). l .number) y)
+      ∙ λ j. cond (ltb (n j) (m j)) (part-at-index vs ds new-list i d q j) (part-at-index us cs old-list i c p j)
+
+shortened-at : (o : Order) (cs : List Condition) (i : ℕ) (c : Condition) → getElem? cs i ≡ some c
+    → getElem? (shorten-all o cs) i ≡ some (shorten-condition o c)
+shortened-at o [] i c q = none-is-not q
+shortened-at o (d ∷ cs) zero c q = ap (λ x. some (shorten-condition o x)) (some-inj q)
+shortened-at o (d ∷ cs) (suc i) c q = shortened-at o cs i c q
+
+-- over a list and the list that the pass makes of it
+pub own-list : (o : Order) (us : List ℤ) (cs : List Condition) → Well-formed us cs → (i : ℕ) (c : Condition) → getElem? cs i ≡ some c
+    → let vs = list-words (shorten-all o cs) in
+    part-words us vs (shorter us vs (pos i)) ≡ formula-words (shortenᶠ o (c .claim))
+own-list o us cs w i c q =
+    two-lists us (list-words (shorten-all o cs)) cs (shorten-all o cs) w (well-formed-shortened o us cs w) i c (shorten-condition o c) q
+    (shortened-at o cs i c q)
+    ∙ of-test (ltb (sizeᶠ (shortenᶠ o (c .claim))) (sizeᶠ (c .claim))) refl
+  where
+    of-test : (t : Bool) → ltb (sizeᶠ (shortenᶠ o (c .claim))) (sizeᶠ (c .claim)) ≡ t
+        → cond t (formula-words (shortenᶠ o (c .claim))) (formula-words (c .claim)) ≡ formula-words (shortenᶠ o (c .claim))
+    of-test true e = refl
+    of-test false e =
+        let m = ltb-false (sizeᶠ (shortenᶠ o (c .claim))) (sizeᶠ (c .claim)) e in
+        ⊎-elim (λ h. ap formula-words (sym h)) (λ l. absurd (omega linear)) (as-it-wasᶠ o (c .claim))
