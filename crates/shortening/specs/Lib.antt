@@ -11,5 +11,7 @@ pub mod Same
 pub mod Never
 pub mod Done
 pub mod Lists
+pub mod Answers
 pub mod TwoLists
 pub mod Through
+pub mod ValidIn

@@ -1,6 +1,7 @@
--- "Each new condition holds in the same states as its old one": `holds-same`, for any arithmetic, and `whole-same`, for the
--- whole numbers. Of an arithmetic it asks six laws, on the values that its states, constants and results can be
--- (`Laws.Lawful`). Argument: each rule keeps the value at a node, so the rule picked does; then by induction. Assumes nothing.
+-- "Each new condition holds in the same states as its old one": `holds-same`, for any arithmetic, in the states of its values;
+-- `same-everywhere`, in every state, where every number is a value; `whole-same`, for the whole numbers. Of an arithmetic it asks six
+-- laws, on the values that its states, constants and results can be (`Laws.Lawful`). Argument: each rule keeps the value at a node,
+-- so the rule picked does; then by induction. Assumes nothing.
 use mathlib.Core.Path.{_≡_, refl, sym, ap, _∙_, subst}
 use mathlib.Core.Bool.{Bool, true, false, cond, _&&_, _||_}
 use mathlib.Core.Bool as Bool
@@ -150,7 +151,7 @@ module _ (𝔸 : Arithmetic) (In : ℤ → Type 0) (law : Lawful 𝔸 In) (s : S
       holds-same (join c f g) k =
           join-same 𝔸 s c (shortenᶠ o f) (shortenᶠ o g) ∙ λ i. connect c (holds-same f (k .0) i) (holds-same g (k .1) i)
 
--- ---- the whole numbers
+-- ---- where every number is a value, as it is of the whole numbers
 
 mutual
   any-constants : (e : Expr) → Constants All e
@@ -167,5 +168,8 @@ mutual
   any-constantsᶠ (not f) = any-constantsᶠ f
   any-constantsᶠ (join c f g) = (any-constantsᶠ f, any-constantsᶠ g)
 
+pub same-everywhere : (𝔸 : Arithmetic) → Lawful 𝔸 All → (o : Order) (s : State) (f : Formula) → holds 𝔸 s (shortenᶠ o f) ≡ holds 𝔸 s f
+same-everywhere 𝔸 law o s f = holds-same 𝔸 All law s (record { vars = λ v. tt; marks = λ m. tt }) o f (any-constantsᶠ f)
+
 pub whole-same : (o : Order) (s : State) (f : Formula) → holds whole s (shortenᶠ o f) ≡ holds whole s f
-whole-same o s f = holds-same whole All whole-law s (record { vars = λ v. tt; marks = λ m. tt }) o f (any-constantsᶠ f)
+whole-same = same-everywhere whole whole-law

@@ -6,7 +6,7 @@ use mathlib.Core.List.{List, _++_}
 use mathlib.Core.Bool.{cond}
 use lib.IntN.{ℤ}
 use lib.Dec.{eqb, ltb}
-use lib.ListN.{length}
+use lib.ListN.{length, take}
 use lib.Seq.{slice}
 use Rattle.script.specs.declared.Line.{Line}
 use Rattle.script.specs.Conditions.{Condition}
@@ -41,6 +41,10 @@ written-for o (some cs) room = fit (list-words (shorten-all o cs)) room
 
 unfoldable pub written : Order → List ℤ → ℕ → Written
 written o ws room = written-for o (read-list ws) room
+
+-- the words used
+abbrev pub used-words : Written → List ℤ
+used-words r = take (r .used) (r .list)
 
 -- ---- the entry over two lists
 

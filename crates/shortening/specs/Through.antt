@@ -1,77 +1,108 @@
--- Demand 3 through the shortened list (`through`, `generated-through`), and for P12 the same states of any arithmetic
--- (`valid-in-iff`, `all-valid-in-iff`). Assumes nothing.
-use Prim.Native.Nat.{ℕ}
-use mathlib.Core.Path.{_≡_, sym, _∙_, subst}
+-- Demand 3 and the solvers' verdicts, through the shortened list. The words that the pass leaves are valid exactly where the old list is
+-- (`list-valid-iff`), so demand 3 holds with them in the old list's place: of any answer that keeps it (`through`), of what the generator
+-- leaves (`generated-through`), and for any arithmetic with the laws that the rules use (`keeps-through`). From verdicts: where no script
+-- of P1 for the shortened list has a model (`solved-through`), and where for every index below the count a text was written for the
+-- shortened list whose script has none (`verdicts-through`); these verdicts ask no more than those on the old list (`verdicts-iff`).
+-- Assumes nothing.
+use Prim.Native.Nat.{ℕ, _<_}
+use mathlib.Core.Path.{_≡_, sym, ap, _∙_, subst}
 use mathlib.Core.Logic.{_↔_}
-use mathlib.Core.List.{List, [], _∷_}
+use mathlib.Core.Option.{some}
+use mathlib.Core.List.{List}
 use lib.IntN.{ℤ}
 use lib.Dec.{T}
-use lib.ListN.{take}
+use lib.ListN.{length, take}
 use Rattle.script.specs.declared.Answer.{Answer}
-use Rattle.script.specs.Syntax.{Formula}
 use Rattle.script.specs.Meaning.{State, Arithmetic, whole, holds}
 use Rattle.script.specs.Run.{Total-correctness}
 use Rattle.script.specs.Conditions.{Condition}
 use Rattle.script.specs.Trees.{tree}
-use Rattle.script.specs.Generated.{outcome}
+use Rattle.script.specs.Listing.{read-list}
+use Rattle.script.specs.Generated.{Outcome, outcome}
 use Rattle.script.specs.Promise.{All-valid, List-valid, Demand-3}
 use Rattle.theorems.specs.Options.{some-inj}
-use Rattle.theorems.specs.Demand.{demand-3}
-use Rattle.shortening.specs.Simplify.{Order, shortenᶠ, shorten-all}
-use Rattle.shortening.specs.Laws.{Lawful, State-in}
-use Rattle.shortening.specs.Same.{holds-same}
-use Rattle.shortening.specs.Leaves.{Constantsᶠ}
-use Rattle.shortening.specs.Constants.{All-constants}
-use Rattle.shortening.specs.Shortened.{written}
-use Rattle.shortening.specs.Lists.{all-valid-iff, new-list}
+use Rattle.theorems.specs.ReadBack.{read-written}
+use Rattle.theorems.specs.Demand.{keeps, planned-list}
+use Rattle.smt.specs.Verdicts.{List-unsatisfiable, unsatisfiable-iff}
+use Rattle.smt.specs.Refutations.{Refuted, refuted-iff}
+use Rattle.shortening.specs.Simplify.{Order, shorten-all}
+use Rattle.shortening.specs.Laws.{Lawful, All, whole-law}
+use Rattle.shortening.specs.Shortened.{written, used-words}
+use Rattle.shortening.specs.Lists.{count-same, all-valid-iff}
+use Rattle.shortening.specs.Answers.{new-list}
 
--- if every condition that is read from the shortened list is true in all states, the old list is such a list
-pub list-valid : (o : Order) (ws : List ℤ) (room : ℕ) → written o ws room .number ≡ 0
-    → List-valid whole (take (written o ws room .used) (written o ws room .list)) → List-valid whole ws
-list-valid o ws room z v cs q =
-    let n = new-list o ws room z in
-    let valid = all-valid-iff o (n .before) .0 (v (shorten-all o (n .before)) (n .read-again)) in
-    subst (λ l. All-valid whole l) (some-inj (sym (n .read) ∙ q)) valid
+-- what is read from the words is one list of conditions
+valid-of : (𝔸 : Arithmetic) (ws : List ℤ) (cs : List Condition) → read-list ws ≡ some cs → List-valid 𝔸 ws ↔ All-valid 𝔸 cs
+valid-of 𝔸 ws cs e = (λ h. h cs e, λ h ds q. subst (All-valid 𝔸) (some-inj (sym e ∙ q)) h)
 
-pub through : (o : Order) (table : List ℤ) (answer : Answer) (list : List ℤ) (room : ℕ) → Demand-3 table answer list → answer .number ≡ 0
-    → let r = written o (take (answer .words) list) room in
-    r .number ≡ 0 → List-valid whole (take (r .used) (r .list))
-    → (s : State) → T (holds whole s (tree table .pre)) → Total-correctness whole (tree table) s
-unfolding Demand-3
-through o table answer list room d e z v = d e (list-valid o (take (answer .words) list) room z v)
+module _ (o : Order) where
+  -- the new list is true in all states exactly where the old one is
+  pub list-valid-iff : (𝔸 : Arithmetic) → Lawful 𝔸 All → (ws : List ℤ) (room : ℕ) → let r = written o ws room in
+      r .number ≡ 0 → List-valid 𝔸 (used-words r) ↔ List-valid 𝔸 ws
+  list-valid-iff 𝔸 law ws room z =
+      let n = new-list o ws room z in
+      let new = valid-of 𝔸 (used-words (written o ws room)) (shorten-all o (n .before)) (n .read-again) in
+      let old = valid-of 𝔸 ws (n .before) (read-written ws (n .before) (n .listed)) in
+      let same = all-valid-iff o 𝔸 law (n .before) in
+      (λ h. old .1 (same .0 (new .0 h)), λ h. new .1 (same .1 (old .0 h)))
 
--- of what the generator leaves
-pub generated-through : (o : Order) (table : List ℤ) (list scratch room : ℕ) → outcome table list scratch .answer .number ≡ 0
-    → let left = outcome table list scratch in
-    let r = written o (take (left .answer .words) (left .list)) room in
-    r .number ≡ 0 → List-valid whole (take (r .used) (r .list))
-    → (s : State) → T (holds whole s (tree table .pre)) → Total-correctness whole (tree table) s
-generated-through o table list scratch room e z v =
-    let left = outcome table list scratch in
-    through o table (left .answer) (left .list) room (demand-3 table list scratch) e z v
+  -- ---- demand 3
 
--- ---- P12: "P6 must hold in both"
+  -- of an answer and the list left with it, as the generator's contract has them
+  pub through : (table : List ℤ) (answer : Answer) (list : List ℤ) (room : ℕ) → Demand-3 table answer list → answer .number ≡ 0
+      → let r = written o (take (answer .words) list) room in
+      r .number ≡ 0 → List-valid whole (used-words r)
+      → (s : State) → T (holds whole s (tree table .pre)) → Total-correctness whole (tree table) s
+  unfolding Demand-3
+  through table answer list room d e z v = d e (list-valid-iff whole whole-law (take (answer .words) list) room z .0 v)
 
--- true in all states of the arithmetic
-abbrev pub Valid-in : Arithmetic → (ℤ → Type 0) → Formula → Type 0
-Valid-in 𝔸 In f = (s : State) → State-in In s → T (holds 𝔸 s f)
+  module _ (table : List ℤ) (list scratch room : ℕ) where
+    -- what the generator leaves
+    abbrev left : Outcome
+    left = outcome table list scratch
 
-pub valid-in-iff : (𝔸 : Arithmetic) (In : ℤ → Type 0) → Lawful 𝔸 In → (o : Order) (f : Formula) → Constantsᶠ In f
-    → Valid-in 𝔸 In (shortenᶠ o f) ↔ Valid-in 𝔸 In f
-valid-in-iff 𝔸 In law o f k = (
-  λ v s h. subst T (holds-same 𝔸 In law s h o f k) (v s h),
-  λ v s h. subst T (sym (holds-same 𝔸 In law s h o f k)) (v s h),
-)
+    abbrev old-words : List ℤ
+    old-words = take (left .answer .words) (left .list)
 
-abbrev pub All-valid-in : Arithmetic → (ℤ → Type 0) → List Condition → Type 0
-All-valid-in 𝔸 In [] = Unit {0}
-All-valid-in 𝔸 In (c ∷ cs) = Valid-in 𝔸 In (c .claim) × All-valid-in 𝔸 In cs
+    -- the words that the pass over it leaves
+    abbrev new-words : List ℤ
+    new-words = used-words (written o old-words room)
 
--- the constants of a list whose words are values are values: `Constants.list-constants`
-pub all-valid-in-iff : (𝔸 : Arithmetic) (In : ℤ → Type 0) → Lawful 𝔸 In → (o : Order) (cs : List Condition) → All-constants In cs
-    → All-valid-in 𝔸 In (shorten-all o cs) ↔ All-valid-in 𝔸 In cs
-all-valid-in-iff 𝔸 In law o [] k = (λ h. tt, λ h. tt)
-all-valid-in-iff 𝔸 In law o (c ∷ cs) k =
-    let first = valid-in-iff 𝔸 In law o (c .claim) (k .0) in
-    let rest = all-valid-in-iff 𝔸 In law o cs (k .1) in
-    (λ h. (first .0 (h .0), rest .0 (h .1)), λ h. (first .1 (h .0), rest .1 (h .1)))
+    abbrev Promised : Arithmetic → Type 0
+    Promised 𝔸 = (s : State) → T (holds 𝔸 s (tree table .pre)) → Total-correctness 𝔸 (tree table) s
+
+    -- the generator planned the table, and the output was long enough
+    module _ (planned : left .answer .number ≡ 0) (fits : written o old-words room .number ≡ 0) where
+      -- for any arithmetic, in which the conditions are true and the script runs
+      pub keeps-through : (𝔸 : Arithmetic) → Lawful 𝔸 All → List-valid 𝔸 new-words → Promised 𝔸
+      keeps-through 𝔸 law v = keeps table list scratch 𝔸 planned (list-valid-iff 𝔸 law old-words room fits .0 v)
+
+      pub generated-through : List-valid whole new-words → Promised whole
+      generated-through = keeps-through whole whole-law
+
+      -- ---- from verdicts to runs
+
+      -- the script of no condition of the shortened list has a model
+      pub solved-through : List-unsatisfiable new-words → Promised whole
+      solved-through h = generated-through (λ cs r. unsatisfiable-iff cs .0 (h cs r))
+
+      -- as many conditions as the generator's answer tells
+      counted : length (shorten-all o (new-list o old-words room fits .before)) ≡ left .answer .conditions
+      counted =
+          let p = planned-list table list scratch planned in
+          let n = new-list o old-words room fits in
+          let same = some-inj (sym (read-written old-words (n .before) (n .listed)) ∙ p .reads) in
+          count-same o (n .before) ∙ ap length same ∙ sym (p .counts)
+
+      pub verdicts-iff : ((i : ℕ) → i < left .answer .conditions → Refuted new-words i) ↔ List-valid whole new-words
+      verdicts-iff =
+          let n = new-list o old-words room fits in
+          let all = refuted-iff new-words (shorten-all o (n .before)) (n .read-again) in
+          let valid = valid-of whole new-words (shorten-all o (n .before)) (n .read-again) in (
+            λ h. valid .1 (all .0 (λ i l. h i (subst (λ c. i < c) counted l))),
+            λ v i l. all .1 (valid .0 v) i (subst (λ c. i < c) (sym counted) l),
+          )
+
+      -- for each index below the count a text was written for the shortened list, and its script has no model
+      pub verdicts-through : ((i : ℕ) → i < left .answer .conditions → Refuted new-words i) → Promised whole
+      verdicts-through h = generated-through (verdicts-iff .0 h)

@@ -1,9 +1,9 @@
 -- What the entry over two lists hands back: the shorter formula, the old one if equal (`two-lists`); over a list and its
--- shortened list, always the words of the shortened formula (`own-list`); its refusals (`old-refused`, `new-refused`).
--- Assumes nothing.
+-- shortened list, always the words of the shortened formula (`own-list`), also where these are the words that the pass left
+-- (`own-written`). When each number comes (`numbered`), and what is then handed back (`old-refused`, `new-refused`). Assumes nothing.
 use Prim.Native.Nat.{ℕ, zero, suc, _-_}
 use mathlib.Core.Path.{_≡_, refl, sym, ap, _∙_}
-use mathlib.Core.Logic.{_≢_, ⊎-elim}
+use mathlib.Core.Logic.{_≢_, _↔_, _⊎_, inl, inr, ⊎-elim}
 use mathlib.Core.Option.{some}
 use mathlib.Core.List.{List, [], _∷_}
 use mathlib.Core.Bool.{Bool, true, false, cond}
@@ -19,11 +19,13 @@ use Rattle.script.specs.WellFormed.{Well-formed}
 use Rattle.script.specs.Listing.{line, line-at, part-at}
 use Rattle.theorems.specs.Options.{none-is-not, some-inj}
 use Rattle.theorems.specs.Line.{place}
+use Rattle.theorems.specs.ReadBack.{read-written}
 use Rattle.theorems.specs.Lookup.{line-at-index, part-at-index}
 use Rattle.shortening.specs.Simplify.{Order, shortenᶠ, shorten-condition, shorten-all}
 use Rattle.shortening.specs.Never.{sizeᶠ, as-it-wasᶠ}
-use Rattle.shortening.specs.Shortened.{old, new, part, shorter, part-words}
+use Rattle.shortening.specs.Shortened.{old, new, Part, no-part, part, shorter, part-words, written, used-words}
 use Rattle.shortening.specs.Lists.{well-formed-shortened}
+use Rattle.shortening.specs.Answers.{new-list}
 
 -- ---- refusals
 
@@ -35,15 +37,40 @@ ne-test n h = of-test (eqb n 0) refl
     of-test false e = refl
 
 module _ (us vs : List ℤ) (i : ℤ) where
-  pub old-refused : line-at us i .number ≢ 0
-      → shorter us vs i ≡ record { number = line-at us i .number; which = old; start = 0; end = 0 }
+  pub old-refused : line-at us i .number ≢ 0 → shorter us vs i ≡ no-part (line-at us i .number)
   unfolding shorter
   old-refused h = rw (ne-test (line-at us i .number) h)
 
-  pub new-refused : line-at us i .number ≡ 0 → line-at vs i .number ≢ 0
-      → shorter us vs i ≡ record { number = line-at vs i .number; which = old; start = 0; end = 0 }
+  pub new-refused : line-at us i .number ≡ 0 → line-at vs i .number ≢ 0 → shorter us vs i ≡ no-part (line-at vs i .number)
   unfolding shorter
   new-refused e h = rw (e, ne-test (line-at vs i .number) h)
+
+  found-here : (n : ℕ) → line-at vs i .number ≡ n → line-at us i .number ≡ 0 → shorter us vs i .number ≡ n
+  unfolding shorter
+  found-here zero f e = rw (e, f) (either (ltb (line-at vs i .end - line-at vs i .start) (line-at us i .end - line-at us i .start)))
+    where
+      either : (t : Bool) → cond t (part new (line-at vs i)) (part old (line-at us i)) .number ≡ 0
+      either true = refl
+      either false = refl
+  found-here (suc n) f e = ap (λ (p : Part). p .number) (new-refused e (λ z. omega (linear, z, f))) ∙ f
+
+  -- a number is the old list's own, or, where the condition is found there, the new list's
+  pub numbered : (k : ℕ) → (shorter us vs i .number ≡ k)
+      ↔ (((line-at us i .number ≡ k) × (k ≢ 0)) ⊎ ((line-at us i .number ≡ 0) × (line-at vs i .number ≡ k)))
+  numbered k = (λ e. told (line-at us i .number) refl e, ⊎-elim old-number new-number)
+    where
+      old-number : (line-at us i .number ≡ k) × (k ≢ 0) → shorter us vs i .number ≡ k
+      old-number h = ap (λ (p : Part). p .number) (old-refused (λ z. h .1 (sym (h .0) ∙ z))) ∙ h .0
+
+      new-number : (line-at us i .number ≡ 0) × (line-at vs i .number ≡ k) → shorter us vs i .number ≡ k
+      new-number h = found-here k (h .1) (h .0)
+
+      told : (n : ℕ) → line-at us i .number ≡ n → shorter us vs i .number ≡ k
+          → ((line-at us i .number ≡ k) × (k ≢ 0)) ⊎ ((line-at us i .number ≡ 0) × (line-at vs i .number ≡ k))
+      told zero f e = inr (f, sym (found-here (line-at vs i .number) refl f) ∙ e)
+      told (suc n) f e =
+          let same = sym (ap (λ (p : Part). p .number) (old-refused (λ z. omega (linear, z, f)))) ∙ e in
+          inl (same, λ z. omega (linear, f, same, z))
 
   -- ---- found in both
 
@@ -98,3 +125,12 @@ own-list o us cs w i c q =
     of-test false e =
         let m = ltb-false (sizeᶠ (shortenᶠ o (c .claim))) (sizeᶠ (c .claim)) e in
         ⊎-elim (λ h. ap formula-words (sym h)) (λ l. absurd (omega linear)) (as-it-wasᶠ o (c .claim))
+
+-- .. where the words are those that the pass left
+pub own-written : (o : Order) (us : List ℤ) (room : ℕ) → let r = written o us room in
+    r .number ≡ 0 → (cs : List Condition) → Well-formed us cs → (i : ℕ) (c : Condition) → getElem? cs i ≡ some c
+    → part-words us (used-words r) (shorter us (used-words r) (pos i)) ≡ formula-words (shortenᶠ o (c .claim))
+own-written o us room z cs w i c q =
+    let n = new-list o us room z in
+    let same : n .before ≡ cs = some-inj (sym (read-written us (n .before) (n .listed)) ∙ read-written us cs w) in
+    rw (n .words) (own-list o us (n .before) (n .listed) i c (rw same q))

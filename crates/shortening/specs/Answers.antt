@@ -1,0 +1,144 @@
+-- What the pass answers, for every words and every output: each of its three answers has its exact occasion (`answered-iff`), so has each
+-- number (`numbers`), and there is no other. An output as long as the old list is never too short (`room-enough`). With number 0, the
+-- words used are a list that is read as the shortened conditions (`new-list`). The output keeps its length (`written-length`).
+-- Assumes nothing.
+use Prim.Native.Nat.{ℕ, _≤_, _<_}
+use mathlib.Core.Path.{_≡_, refl, sym, ap, _∙_}
+use mathlib.Core.Logic.{_↔_, _⊎_, inl, inr}
+use mathlib.Core.Option.{Option, none, some}
+use mathlib.Core.List.{List}
+use mathlib.Core.Bool.{Bool, true, false, cond}
+use native.Mathlib.Omega.{arith as linear}
+use lib.IntN.{ℤ, pos}
+use lib.Dec.{ltb}
+use lib.ListN.{length, length-append, length-replicate}
+use lib.Seq.{take-append-seam}
+use borrow.Author.Tests.{lt-ltb, le-ltb, ltb-false, ltb-true}
+use Rattle.script.specs.Conditions.{Condition}
+use Rattle.script.specs.Words.{list-words}
+use Rattle.script.specs.WellFormed.{Well-formed}
+use Rattle.script.specs.Listing.{read-list}
+use Rattle.theorems.specs.ReadBack.{read-written, written-read, malformed-iff}
+use Rattle.shortening.specs.Simplify.{Order, shorten-all}
+use Rattle.shortening.specs.Shortened.{Written, refuse, filled, written-for, written, used-words}
+use Rattle.shortening.specs.Lists.{list-at-most, well-formed-shortened}
+
+-- the words of the shortened list
+abbrev pub short-words : Order → List Condition → List ℤ
+short-words o cs = list-words (shorten-all o cs)
+
+-- ---- the three answers, each with its occasion
+
+pub data Answered (o : Order) (ws : List ℤ) (room : ℕ) (r : Written) : Type 0 where
+  -- 20: the words are no list
+  torn : ((cs : List Condition) → ¬ Well-formed ws cs) → r ≡ refuse 20 room → Answered o ws room r
+  -- 31: they are, and the new list is longer than the output
+  too-short : (cs : List Condition) → Well-formed ws cs → room < length (short-words o cs) → r ≡ refuse 31 room → Answered o ws room r
+  -- 0: they are, and it is not
+  fits : (cs : List Condition) → Well-formed ws cs → length (short-words o cs) ≤ room → r ≡ filled (short-words o cs) room
+      → Answered o ws room r
+
+module _ (o : Order) (ws : List ℤ) (room : ℕ) where
+  pub answered : Answered o ws room (written o ws room)
+  unfolding written
+  answered = of-list (read-list ws) refl
+    where
+      of-room : (cs : List Condition) → read-list ws ≡ some cs → (b : Bool) → ltb room (length (short-words o cs)) ≡ b
+          → Answered o ws room (cond b (refuse 31 room) (filled (short-words o cs) room))
+      of-room cs p true e = too-short cs (written-read ws cs p) (ltb-true room _ e) refl
+      of-room cs p false e = fits cs (written-read ws cs p) (ltb-false room _ e) refl
+
+      of-list : (l : Option (List Condition)) → read-list ws ≡ l → Answered o ws room (written-for o l room)
+      of-list none p = torn (malformed-iff ws .0 p) refl
+      of-list (some cs) p = of-room cs p (ltb room (length (short-words o cs))) refl
+
+  read-as : (l : Option (List Condition)) → read-list ws ≡ l → written o ws room ≡ written-for o l room
+  unfolding written
+  read-as l e = ap (λ k. written-for o k room) e
+
+  by-length : (cs : List Condition) (b : Bool) → ltb room (length (short-words o cs)) ≡ b
+      → written-for o (some cs) room ≡ cond b (refuse 31 room) (filled (short-words o cs) room)
+  by-length cs b e = ap (λ t. cond t (refuse 31 room) (filled (short-words o cs) room)) e
+
+  pub only-answer : (r : Written) → Answered o ws room r → written o ws room ≡ r
+  only-answer r (torn h e) = read-as none (malformed-iff ws .1 h) ∙ sym e
+  only-answer r (too-short cs w h e) =
+      read-as (some cs) (read-written ws cs w) ∙ by-length cs true (lt-ltb room (length (short-words o cs)) h) ∙ sym e
+  only-answer r (fits cs w h e) =
+      read-as (some cs) (read-written ws cs w) ∙ by-length cs false (le-ltb room (length (short-words o cs)) h) ∙ sym e
+
+  pub answered-iff : (r : Written) → (written o ws room ≡ r) ↔ Answered o ws room r
+  answered-iff r = (λ e. rw e at answered, only-answer r)
+
+  -- ---- the numbers
+
+  pub record Numbers : Type 0 where
+    pub no-list : (written o ws room .number ≡ 20) ↔ ((cs : List Condition) → ¬ Well-formed ws cs)
+    pub no-room : (written o ws room .number ≡ 31) ↔ ((cs : List Condition) × Well-formed ws cs × (room < length (short-words o cs)))
+    pub planned : (written o ws room .number ≡ 0) ↔ ((cs : List Condition) × Well-formed ws cs × (length (short-words o cs) ≤ room))
+    pub no-other : let n = written o ws room .number in (n ≡ 0) ⊎ ((n ≡ 20) ⊎ (n ≡ 31))
+
+  abbrev number : Written → ℕ
+  number r = r .number
+
+  pub numbers : Numbers
+  numbers = record {
+    no-list = (λ e. is-torn answered e, λ h. ap number (only-answer (refuse 20 room) (torn h refl)));
+    no-room = (λ e. is-short answered e, λ h. ap number (only-answer (refuse 31 room) (too-short (h .0) (h .1) (h .2) refl)));
+    planned = (λ e. is-fit answered e, λ h. ap number (only-answer (filled (short-words o (h .0)) room) (fits (h .0) (h .1) (h .2) refl)));
+    no-other = one-of answered;
+  }
+    where
+      is-torn : {r : Written} → Answered o ws room r → r .number ≡ 20 → (cs : List Condition) → ¬ Well-formed ws cs
+      is-torn (torn h e) k = h
+      is-torn (too-short cs w h e) k = let n = sym (ap number e) ∙ k in absurd (omega linear)
+      is-torn (fits cs w h e) k = let n = sym (ap number e) ∙ k in absurd (omega linear)
+
+      is-short : {r : Written} → Answered o ws room r → r .number ≡ 31
+          → (cs : List Condition) × Well-formed ws cs × (room < length (short-words o cs))
+      is-short (torn h e) k = let n = sym (ap number e) ∙ k in absurd (omega linear)
+      is-short (too-short cs w h e) k = (cs, w, h)
+      is-short (fits cs w h e) k = let n = sym (ap number e) ∙ k in absurd (omega linear)
+
+      is-fit : {r : Written} → Answered o ws room r → r .number ≡ 0
+          → (cs : List Condition) × Well-formed ws cs × (length (short-words o cs) ≤ room)
+      is-fit (torn h e) k = let n = sym (ap number e) ∙ k in absurd (omega linear)
+      is-fit (too-short cs w h e) k = let n = sym (ap number e) ∙ k in absurd (omega linear)
+      is-fit (fits cs w h e) k = (cs, w, h)
+
+      one-of : {r : Written} → Answered o ws room r → (r .number ≡ 0) ⊎ ((r .number ≡ 20) ⊎ (r .number ≡ 31))
+      one-of (torn h e) = inr (inl (ap number e))
+      one-of (too-short cs w h e) = inr (inr (ap number e))
+      one-of (fits cs w h e) = inl (ap number e)
+
+  -- an output as long as the old list is never too short
+  pub room-enough : (cs : List Condition) → Well-formed ws cs → length ws ≤ room → written o ws room ≡ filled (short-words o cs) room
+  room-enough cs w h = only-answer _ (fits cs w (omega (linear, list-at-most o cs, ap length (w .spells))) refl)
+
+  -- ---- number 0: the old list, and what the words used are and are read as
+
+  pub record New-list (r : Written) : Type 0 where
+    pub before : List Condition
+    pub listed : Well-formed ws before
+    pub words : used-words r ≡ short-words o before
+    pub read-again : read-list (used-words r) ≡ some (shorten-all o before)
+
+  pub new-list : written o ws room .number ≡ 0 → New-list (written o ws room)
+  new-list z =
+      let k = numbers .planned .0 z in
+      let e = only-answer _ (fits (k .0) (k .1) (k .2) refl) in
+      let words = ap used-words e ∙ take-append-seam (short-words o (k .0)) _ in
+      record {
+        before = k .0;
+        listed = k .1;
+        words = words;
+        read-again = ap read-list words ∙ read-written _ (shorten-all o (k .0)) (well-formed-shortened o ws (k .0) (k .1));
+      }
+
+  pub written-length : length (written o ws room .list) ≡ room
+  written-length = of-answer answered
+    where
+      of-answer : {r : Written} → Answered o ws room r → length (r .list) ≡ room
+      of-answer (torn h e) = ap (λ (r : Written). length (r .list)) e ∙ length-replicate room (pos 0)
+      of-answer (too-short cs w h e) = ap (λ (r : Written). length (r .list)) e ∙ length-replicate room (pos 0)
+      of-answer (fits cs w h e) = ap (λ (r : Written). length (r .list)) e ∙ simp (length-append, length-replicate) (omega linear)
