@@ -15,3 +15,4 @@ pub mod Answers
 pub mod TwoLists
 pub mod Through
 pub mod ValidIn
+pub mod Witness
