@@ -1,7 +1,7 @@
 -- The constants of a formula are among its words: where each word of a list is a value of an arithmetic, as each 32-bit word is
 -- of the controller's, so is each constant (`constants-in`, `list-constants`). So the theorems for any arithmetic speak of
 -- every list. Assumes nothing.
-use mathlib.Core.Path.{_≡_, sym, subst}
+use mathlib.Core.Path.{sym, subst}
 use mathlib.Core.List.{List, [], _∷_, _++_}
 use lib.IntN.{ℤ, pos}
 use lib.ListN.{length}

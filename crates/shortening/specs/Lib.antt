@@ -15,4 +15,6 @@ pub mod Answers
 pub mod TwoLists
 pub mod Through
 pub mod ValidIn
+pub mod Figures
+pub mod ListFigures
 pub mod Witness
