@@ -17,4 +17,7 @@ pub mod Through
 pub mod ValidIn
 pub mod Figures
 pub mod ListFigures
+pub mod Variants
+pub mod Wrong
+pub mod WrongAnswers
 pub mod Witness

@@ -1,0 +1,190 @@
+-- The pass with what a wrong turn changes as arguments: the rules (`Rules`), which form of a part they look at (`Seen`), the trailer
+-- (`Trailed`), and the answer (`Answering`). With the right ones it is the pass defined (`right-pass`). A wrong turn is a change of one of
+-- them (`Wrong`, `WrongAnswers`), and is told from the pass defined by another answer at one list and room (`all-told`). Assumes nothing.
+use Prim.Native.Nat.{ℕ}
+use mathlib.Core.Path.{_≡_, refl, sym, ap, subst}
+use mathlib.Core.Logic.{_≢_}
+use mathlib.Core.Option.{Option, none, some}
+use mathlib.Core.List.{List, [], _∷_, _++_}
+use mathlib.Core.Bool.{Bool, true, false, _&&_}
+use mathlib.Core.Bool as Bool
+use lib.IntN.{ℤ, pos, negsuc}
+use lib.Dec.{T}
+use lib.ListN.{length}
+use borrow.Author.Tests.{eq-eqb}
+use Rattle.script.specs.declared.Operator.{Operator}
+use Rattle.script.specs.declared.Connective.{Connective}
+use Rattle.script.specs.Syntax.{Expr, const, var, mark, arith, neg, choose, Formula, truth, cmp, not, join}
+use Rattle.script.specs.Meaning.{eqZ}
+use Rattle.script.specs.Conditions.{Condition, condition}
+use Rattle.script.specs.Words.{formula-words, trailer, line-words, all-lines, list-words}
+use Rattle.script.specs.Listing.{_>>=_, read-list}
+use Rattle.theorems.specs.Truths.{both}
+use Rattle.shortening.specs.Simplify.{Rule, pick, Change, Truth-change, shape, truth-shape, order, arith-rules, join-rules, arith-changed, join-changed, arith-node, join-node, not-node, shorten, shortenᶠ, shorten-all}
+use Rattle.shortening.specs.Simplify as Simplify
+use Rattle.shortening.specs.Shortened.{Written, refuse, fit, written-for, written}
+use Rattle.shortening.specs.Lists.{count-same}
+
+-- ---- what a wrong turn changes
+
+pub record Rules : Type 0 where
+  pub of-arith : Operator → List (Rule Change)
+  pub of-join : Connective → List (Rule Truth-change)
+  -- of a not and of a negate, from the shortened part
+  pub of-not : Formula → Formula
+  pub of-neg : Expr → Expr
+
+-- what the rules look at, of a part and what it became
+pub record Seen : Type 0 where
+  pub expression : Expr → Expr → Expr
+  pub claim : Formula → Formula → Formula
+
+-- of the old condition and the new one
+abbrev pub Trailed : Type 0
+Trailed = Condition → Condition → List ℤ
+
+-- of the words, the words of the new list, or none where they are no list, and the room
+abbrev pub Answering : Type 0
+Answering = List ℤ → Option (List ℤ) → ℕ → Written
+
+module _ (R : Rules) (S : Seen) where
+  unfoldable mutual
+    pub shorten-by : Expr → Expr
+    shorten-by (const z) = const z
+    shorten-by (var v) = var v
+    shorten-by (mark m) = mark m
+    shorten-by (arith p a b) =
+        arith-changed
+        (pick Simplify.kept (R .of-arith p) (shape (S .expression a (shorten-by a))) (shape (S .expression b (shorten-by b)))) p
+        (shorten-by a) (shorten-by b)
+    shorten-by (neg a) = R .of-neg (shorten-by a)
+    shorten-by (choose f a b) = choose (shorten-byᶠ f) (shorten-by a) (shorten-by b)
+
+    pub shorten-byᶠ : Formula → Formula
+    shorten-byᶠ (truth b) = truth b
+    shorten-byᶠ (cmp r a b) = cmp r (shorten-by a) (shorten-by b)
+    shorten-byᶠ (not f) = R .of-not (shorten-byᶠ f)
+    shorten-byᶠ (join c f g) =
+        join-changed
+        (pick Simplify.kept (R .of-join c) (truth-shape (S .claim f (shorten-byᶠ f))) (truth-shape (S .claim g (shorten-byᶠ g)))) c
+        (shorten-byᶠ f) (shorten-byᶠ g)
+
+  abbrev pub condition-by : Condition → Condition
+  condition-by c = condition (c .rule) (c .row) (shorten-byᶠ (c .claim))
+
+  module _ (trailed : Trailed) where
+    unfoldable pub lines-by : List Condition → List ℤ
+    lines-by [] = []
+    lines-by (c ∷ cs) = (formula-words (shorten-byᶠ (c .claim)) ++ trailed c (condition-by c)) ++ lines-by cs
+
+    abbrev pub list-by : List Condition → List ℤ
+    list-by cs = lines-by cs ++ (pos (length cs) ∷ [])
+
+    unfoldable pub pass-by : Answering → List ℤ → ℕ → Written
+    pass-by answering ws room = answering ws (read-list ws >>= λ cs. some (list-by cs)) room
+
+-- ---- the right ones
+
+abbrev pub right-rules : Rules
+right-rules = record { of-arith = arith-rules order; of-join = join-rules; of-not = not-node; of-neg = neg }
+
+abbrev pub right-seen : Seen
+right-seen = record { expression = λ a x. x; claim = λ f x. x }
+
+abbrev pub right-trailed : Trailed
+right-trailed c d = trailer d
+
+abbrev pub right-answer : Answering
+right-answer ws none room = refuse 20 room
+right-answer ws (some us) room = fit us room
+
+mutual
+  unfolding shorten-by shorten arith-node join-node
+
+  right-shorten : (e : Expr) → shorten-by right-rules right-seen e ≡ shorten order e
+  right-shorten (const z) = refl
+  right-shorten (var v) = refl
+  right-shorten (mark m) = refl
+  right-shorten (arith p a b) = λ i. arith-node order p (right-shorten a i) (right-shorten b i)
+  right-shorten (neg a) = λ i. neg (right-shorten a i)
+  right-shorten (choose f a b) = λ i. choose (right-shortenᶠ f i) (right-shorten a i) (right-shorten b i)
+
+  right-shortenᶠ : (f : Formula) → shorten-byᶠ right-rules right-seen f ≡ shortenᶠ order f
+  right-shortenᶠ (truth b) = refl
+  right-shortenᶠ (cmp r a b) = λ i. cmp r (right-shorten a i) (right-shorten b i)
+  right-shortenᶠ (not f) = λ i. not-node (right-shortenᶠ f i)
+  right-shortenᶠ (join c f g) = λ i. join-node c (right-shortenᶠ f i) (right-shortenᶠ g i)
+
+right-lines : (cs : List Condition) → lines-by right-rules right-seen right-trailed cs ≡ all-lines (shorten-all order cs)
+unfolding lines-by all-lines line-words
+right-lines [] = refl
+right-lines (c ∷ cs) =
+    let line : Formula → List ℤ = λ f. formula-words f ++ trailer (condition (c .rule) (c .row) f) in
+    λ i. line (right-shortenᶠ (c .claim) i) ++ right-lines cs i
+
+right-list : (cs : List Condition) → list-by right-rules right-seen right-trailed cs ≡ list-words (shorten-all order cs)
+unfolding list-words
+right-list cs = let count = sym (count-same order cs) in λ i. right-lines cs i ++ (pos (count i) ∷ [])
+
+pub right-pass : (ws : List ℤ) (room : ℕ) → pass-by right-rules right-seen right-trailed right-answer ws room ≡ written order ws room
+unfolding pass-by written
+right-pass ws room = of-list (read-list ws)
+  where
+    of-list : (l : Option (List Condition))
+        → right-answer ws (l >>= λ cs. some (list-by right-rules right-seen right-trailed cs)) room ≡ written-for order l room
+    of-list none = refl
+    of-list (some cs) = ap (λ us. fit us room) (right-list cs)
+
+-- ---- told apart by computing
+
+abbrev same : List ℤ → List ℤ → Bool
+same [] [] = true
+same [] (y ∷ ys) = false
+same (x ∷ xs) [] = false
+same (x ∷ xs) (y ∷ ys) = eqZ x y && same xs ys
+
+same-itself : (xs : List ℤ) → T (same xs xs)
+same-itself [] = tt
+same-itself (pos a ∷ xs) = rw (eq-eqb a a refl) (same-itself xs)
+same-itself (negsuc a ∷ xs) = rw (eq-eqb a a refl) (same-itself xs)
+
+-- what is told of an answer, as words
+module _ {A : Type 0} (words : A → List ℤ) where
+  abbrev pub other : A → A → Bool
+  other a b = Bool.not (same (words a) (words b))
+
+  pub told : (a b : A) → T (other a b) → a ≢ b
+  told a b h e = denied (same (words a) (words a)) (same-itself (words a)) (subst (λ (x : A). T (other a x)) (sym e) h)
+    where
+      denied : (b : Bool) → T b → T (Bool.not b) → ⊥
+      denied true x y = y
+      denied false x y = x
+
+-- ---- a wrong turn, with a list and a room
+
+abbrev pub Pass : Type 0
+Pass = List ℤ → ℕ → Written
+
+pub record Wrong : Type 0 where
+  pub pass : Pass
+  pub words : List ℤ
+  pub room : ℕ
+
+-- each answers otherwise than the pass defined
+abbrev pub Other-answers : List Wrong → Type 0
+Other-answers [] = Unit {0}
+Other-answers (w ∷ ws) = (w .pass (w .words) (w .room) ≢ written order (w .words) (w .room)) × Other-answers ws
+
+abbrev answer-words : Written → List ℤ
+answer-words r = pos (r .number) ∷ pos (r .used) ∷ r .list
+
+-- tested, for all of them
+abbrev pub differ : List Wrong → Bool
+differ [] = true
+differ (w ∷ ws) = other answer-words (w .pass (w .words) (w .room)) (written order (w .words) (w .room)) && differ ws
+
+pub all-told : (ws : List Wrong) → T (differ ws) → Other-answers ws
+all-told [] h = tt
+all-told (w ∷ ws) h =
+    let k = both (other answer-words (w .pass (w .words) (w .room)) (written order (w .words) (w .room))) (differ ws) h in
+    (told answer-words _ _ (k .0), all-told ws (k .1))
