@@ -13,6 +13,7 @@ pub mod Done
 pub mod Lists
 pub mod Answers
 pub mod TwoLists
+pub mod Handed
 pub mod Through
 pub mod ValidIn
 pub mod Figures

@@ -1,9 +1,9 @@
 -- What the entry over two lists hands back: the shorter formula, the old one if equal (`two-lists`); over a list and its
 -- shortened list, always the words of the shortened formula (`own-list`), also where these are the words that the pass left
--- (`own-written`). When each number comes (`numbered`), and what is then handed back (`old-refused`, `new-refused`). Assumes nothing.
+-- (`own-written`); its refusals (`old-refused`, `new-refused`). Assumes nothing.
 use Prim.Native.Nat.{ℕ, zero, suc, _-_}
 use mathlib.Core.Path.{_≡_, refl, sym, ap, _∙_}
-use mathlib.Core.Logic.{_≢_, _↔_, _⊎_, inl, inr, ⊎-elim}
+use mathlib.Core.Logic.{_≢_, ⊎-elim}
 use mathlib.Core.Option.{some}
 use mathlib.Core.List.{List, [], _∷_}
 use mathlib.Core.Bool.{Bool, true, false, cond}
@@ -23,7 +23,7 @@ use Rattle.theorems.specs.ReadBack.{read-written}
 use Rattle.theorems.specs.Lookup.{line-at-index, part-at-index}
 use Rattle.shortening.specs.Simplify.{Order, shortenᶠ, shorten-condition, shorten-all}
 use Rattle.shortening.specs.Never.{sizeᶠ, as-it-wasᶠ}
-use Rattle.shortening.specs.Shortened.{old, new, Part, no-part, part, shorter, part-words, written, used-words}
+use Rattle.shortening.specs.Shortened.{old, new, no-part, part, shorter, part-words, written, used-words}
 use Rattle.shortening.specs.Lists.{well-formed-shortened}
 use Rattle.shortening.specs.Answers.{new-list}
 
@@ -44,33 +44,6 @@ module _ (us vs : List ℤ) (i : ℤ) where
   pub new-refused : line-at us i .number ≡ 0 → line-at vs i .number ≢ 0 → shorter us vs i ≡ no-part (line-at vs i .number)
   unfolding shorter
   new-refused e h = rw (e, ne-test (line-at vs i .number) h)
-
-  found-here : (n : ℕ) → line-at vs i .number ≡ n → line-at us i .number ≡ 0 → shorter us vs i .number ≡ n
-  unfolding shorter
-  found-here zero f e = rw (e, f) (either (ltb (line-at vs i .end - line-at vs i .start) (line-at us i .end - line-at us i .start)))
-    where
-      either : (t : Bool) → cond t (part new (line-at vs i)) (part old (line-at us i)) .number ≡ 0
-      either true = refl
-      either false = refl
-  found-here (suc n) f e = ap (λ (p : Part). p .number) (new-refused e (λ z. omega (linear, z, f))) ∙ f
-
-  -- a number is the old list's own, or, where the condition is found there, the new list's
-  pub numbered : (k : ℕ) → (shorter us vs i .number ≡ k)
-      ↔ (((line-at us i .number ≡ k) × (k ≢ 0)) ⊎ ((line-at us i .number ≡ 0) × (line-at vs i .number ≡ k)))
-  numbered k = (λ e. told (line-at us i .number) refl e, ⊎-elim old-number new-number)
-    where
-      old-number : (line-at us i .number ≡ k) × (k ≢ 0) → shorter us vs i .number ≡ k
-      old-number h = ap (λ (p : Part). p .number) (old-refused (λ z. h .1 (sym (h .0) ∙ z))) ∙ h .0
-
-      new-number : (line-at us i .number ≡ 0) × (line-at vs i .number ≡ k) → shorter us vs i .number ≡ k
-      new-number h = found-here k (h .1) (h .0)
-
-      told : (n : ℕ) → line-at us i .number ≡ n → shorter us vs i .number ≡ k
-          → ((line-at us i .number ≡ k) × (k ≢ 0)) ⊎ ((line-at us i .number ≡ 0) × (line-at vs i .number ≡ k))
-      told zero f e = inr (f, sym (found-here (line-at vs i .number) refl f) ∙ e)
-      told (suc n) f e =
-          let same = sym (ap (λ (p : Part). p .number) (old-refused (λ z. omega (linear, z, f)))) ∙ e in
-          inl (same, λ z. omega (linear, f, same, z))
 
   -- ---- found in both
 
