@@ -1,7 +1,7 @@
--- What the pass answers, for every words and every output: each of its three answers has its exact occasion (`answered-iff`), so has each
--- number (`numbers`), and there is no other. An output as long as the old list is never too short (`room-enough`). With number 0, the
--- words used are a list that is read as the shortened conditions (`new-list`). The output keeps its length (`written-length`).
--- Assumes nothing.
+-- What the pass answers, for every words and every output: each of its three answers has its exact occasion
+-- (`answered-iff`), so has each number (`numbers`), and there is no other. An output as long as the old list is never too
+-- short (`room-enough`). With number 0, the words used are a list that is read as the shortened conditions (`new-list`).
+-- The output keeps its length (`written-length`). Assumes nothing.
 use Prim.Native.Nat.{ℕ, _≤_, _<_}
 use mathlib.Core.Path.{_≡_, refl, sym, ap, _∙_}
 use mathlib.Core.Logic.{_↔_, _⊎_, inl, inr}
@@ -33,7 +33,8 @@ pub data Answered (o : Order) (ws : List ℤ) (room : ℕ) (r : Written) : Type 
   -- 20: the words are no list
   torn : ((cs : List Condition) → ¬ Well-formed ws cs) → r ≡ refuse 20 room → Answered o ws room r
   -- 31: they are, and the new list is longer than the output
-  too-short : (cs : List Condition) → Well-formed ws cs → room < length (short-words o cs) → r ≡ refuse 31 room → Answered o ws room r
+  too-short : (cs : List Condition) → Well-formed ws cs → room < length (short-words o cs) → r ≡ refuse 31 room
+      → Answered o ws room r
   -- 0: they are, and it is not
   fits : (cs : List Condition) → Well-formed ws cs → length (short-words o cs) ≤ room → r ≡ filled (short-words o cs) room
       → Answered o ws room r
@@ -74,8 +75,10 @@ module _ (o : Order) (ws : List ℤ) (room : ℕ) where
 
   pub record Numbers : Type 0 where
     pub no-list : (written o ws room .number ≡ 20) ↔ ((cs : List Condition) → ¬ Well-formed ws cs)
-    pub no-room : (written o ws room .number ≡ 31) ↔ ((cs : List Condition) × Well-formed ws cs × (room < length (short-words o cs)))
-    pub planned : (written o ws room .number ≡ 0) ↔ ((cs : List Condition) × Well-formed ws cs × (length (short-words o cs) ≤ room))
+    pub no-room : (written o ws room .number ≡ 31)
+        ↔ ((cs : List Condition) × Well-formed ws cs × (room < length (short-words o cs)))
+    pub planned : (written o ws room .number ≡ 0)
+        ↔ ((cs : List Condition) × Well-formed ws cs × (length (short-words o cs) ≤ room))
     pub no-other : let n = written o ws room .number in (n ≡ 0) ⊎ ((n ≡ 20) ⊎ (n ≡ 31))
 
   abbrev number : Written → ℕ
@@ -83,9 +86,9 @@ module _ (o : Order) (ws : List ℤ) (room : ℕ) where
 
   pub numbers : Numbers
   numbers = record {
-    no-list = (λ e. is-torn answered e, λ h. ap number (only-answer (refuse 20 room) (torn h refl)));
-    no-room = (λ e. is-short answered e, λ h. ap number (only-answer (refuse 31 room) (too-short (h .0) (h .1) (h .2) refl)));
-    planned = (λ e. is-fit answered e, λ h. ap number (only-answer (filled (short-words o (h .0)) room) (fits (h .0) (h .1) (h .2) refl)));
+    no-list = (is-torn answered, λ h. ap number (only-answer _ (torn h refl)));
+    no-room = (is-short answered, λ h. ap number (only-answer _ (too-short (h .0) (h .1) (h .2) refl)));
+    planned = (is-fit answered, λ h. ap number (only-answer _ (fits (h .0) (h .1) (h .2) refl)));
     no-other = one-of answered;
   }
     where
@@ -112,7 +115,8 @@ module _ (o : Order) (ws : List ℤ) (room : ℕ) where
       one-of (fits cs w h e) = inl (ap number e)
 
   -- an output as long as the old list is never too short
-  pub room-enough : (cs : List Condition) → Well-formed ws cs → length ws ≤ room → written o ws room ≡ filled (short-words o cs) room
+  pub room-enough : (cs : List Condition) → Well-formed ws cs → length ws ≤ room
+      → written o ws room ≡ filled (short-words o cs) room
   room-enough cs w h = only-answer _ (fits cs w (omega (linear, list-at-most o cs, ap length (w .spells))) refl)
 
   -- ---- number 0: the old list, and what the words used are and are read as
@@ -138,7 +142,10 @@ module _ (o : Order) (ws : List ℤ) (room : ℕ) where
   pub written-length : length (written o ws room .list) ≡ room
   written-length = of-answer answered
     where
+      held : Written → ℕ
+      held r = length (r .list)
+
       of-answer : {r : Written} → Answered o ws room r → length (r .list) ≡ room
-      of-answer (torn h e) = ap (λ (r : Written). length (r .list)) e ∙ length-replicate room (pos 0)
-      of-answer (too-short cs w h e) = ap (λ (r : Written). length (r .list)) e ∙ length-replicate room (pos 0)
-      of-answer (fits cs w h e) = ap (λ (r : Written). length (r .list)) e ∙ simp (length-append, length-replicate) (omega linear)
+      of-answer (torn h e) = ap held e ∙ length-replicate room (pos 0)
+      of-answer (too-short cs w h e) = ap held e ∙ length-replicate room (pos 0)
+      of-answer (fits cs w h e) = ap held e ∙ simp (length-append, length-replicate) (omega linear)

@@ -1,6 +1,6 @@
--- The constants of a formula are among its words: where each word of a list is a value of an arithmetic, as each 32-bit word is
--- of the controller's, so is each constant (`constants-in`, `list-constants`). So the theorems for any arithmetic speak of
--- every list. Assumes nothing.
+-- The constants of a formula are among its words: where each word of a list is a value of an arithmetic, as each 32-bit
+-- word is of the controller's, so is each constant (`constants-in`, `list-constants`). So the theorems for any arithmetic
+-- speak of every list. Assumes nothing.
 use mathlib.Core.Path.{sym, subst}
 use mathlib.Core.List.{List, [], _∷_, _++_}
 use lib.IntN.{ℤ, pos}
@@ -32,7 +32,9 @@ module _ (In : ℤ → Type 0) where
     constants-inᵉ (var v) h = tt
     constants-inᵉ (mark m) h = tt
     constants-inᵉ (arith p a b) h =
-        (constants-inᵉ a (front (expr-words a) (expr-words b) (h .1)), constants-inᵉ b (back (expr-words a) (expr-words b) (h .1)))
+        let first = front (expr-words a) (expr-words b) (h .1) in
+        let second = back (expr-words a) (expr-words b) (h .1) in
+        (constants-inᵉ a first, constants-inᵉ b second)
     constants-inᵉ (neg a) h = constants-inᵉ a (h .1)
     constants-inᵉ (choose f a b) h =
         let rest = back (formula-words f) (expr-words a ++ expr-words b) (h .1) in (
@@ -44,10 +46,14 @@ module _ (In : ℤ → Type 0) where
     pub constants-in : (f : Formula) → Each-word (formula-words f) → Constantsᶠ In f
     constants-in (truth b) h = tt
     constants-in (cmp r a b) h =
-        (constants-inᵉ a (front (expr-words a) (expr-words b) (h .1)), constants-inᵉ b (back (expr-words a) (expr-words b) (h .1)))
+        let first = front (expr-words a) (expr-words b) (h .1) in
+        let second = back (expr-words a) (expr-words b) (h .1) in
+        (constants-inᵉ a first, constants-inᵉ b second)
     constants-in (not f) h = constants-in f (h .1)
     constants-in (join c f g) h =
-        (constants-in f (front (formula-words f) (formula-words g) (h .1)), constants-in g (back (formula-words f) (formula-words g) (h .1)))
+        let first = front (formula-words f) (formula-words g) (h .1) in
+        let second = back (formula-words f) (formula-words g) (h .1) in
+        (constants-in f first, constants-in g second)
 
   -- ---- of every condition of a list
 
@@ -60,8 +66,10 @@ module _ (In : ℤ → Type 0) where
   lines-constants [] h = tt
   lines-constants (c ∷ cs) h =
       let first = front (line-words c) (all-lines cs) h in
-      (constants-in (c .claim) (front (formula-words (c .claim)) (trailer c) first), lines-constants cs (back (line-words c) (all-lines cs) h))
+      let rest = back (line-words c) (all-lines cs) h in
+      (constants-in (c .claim) (front (formula-words (c .claim)) (trailer c) first), lines-constants cs rest)
 
   pub list-constants : (ws : List ℤ) (cs : List Condition) → Well-formed ws cs → Each-word ws → All-constants cs
   unfolding list-words
-  list-constants ws cs w h = lines-constants cs (front (all-lines cs) (pos (length cs) ∷ []) (subst Each-word (sym (w .spells)) h))
+  list-constants ws cs w h =
+      lines-constants cs (front (all-lines cs) (pos (length cs) ∷ []) (subst Each-word (sym (w .spells)) h))

@@ -1,7 +1,7 @@
--- Nothing is left to shorten: in what comes out no rule applies at any node, under either order (`shorten-done`), so a second
--- pass changes nothing (`shorten-again`). There is no exception: P6 leaves `negate 0` of 0 − 0, and no rule is for that.
--- Argument: a node that a rule changed becomes one of its parts, a negation or a value; a node that is kept is one at which
--- no rule applies. Assumes nothing.
+-- Nothing is left to shorten: in what comes out no rule applies at any node, under either order (`shorten-done`), so a
+-- second pass changes nothing (`shorten-again`). There is no exception: P6 leaves `negate 0` of 0 − 0, and no rule is for
+-- that. Argument: a node that a rule changed becomes one of its parts, a negation or a value; a node that is kept is one
+-- at which no rule applies. Assumes nothing.
 use mathlib.Core.Path.{_≡_, refl, ap, _∙_}
 use Rattle.script.specs.declared.Operator.{Operator}
 use Rattle.script.specs.declared.Connective.{Connective}
@@ -26,15 +26,15 @@ module _ (o : Order) where
     Doneᶠ (not f) = (not-node f ≡ not f) × Doneᶠ f
     Doneᶠ (join c f g) = (join-change c (truth-shape f) (truth-shape g) ≡ Simplify.kept) × Doneᶠ f × Doneᶠ g
 
-  arith-done : (p : Operator) (a b : Expr) → Done a → Done b → (t : Change) → arith-change o p (shape a) (shape b) ≡ t
-      → Done (arith-changed t p a b)
+  arith-done : (p : Operator) (a b : Expr) → Done a → Done b
+      → (t : Change) → arith-change o p (shape a) (shape b) ≡ t → Done (arith-changed t p a b)
   arith-done p a b h k Simplify.kept e = (e, h, k)
   arith-done p a b h k Simplify.first e = h
   arith-done p a b h k Simplify.second e = k
   arith-done p a b h k Simplify.negated-second e = k
 
-  join-done : (c : Connective) (f g : Formula) → Doneᶠ f → Doneᶠ g → (t : Truth-change) → join-change c (truth-shape f) (truth-shape g) ≡ t
-      → Doneᶠ (join-changed t c f g)
+  join-done : (c : Connective) (f g : Formula) → Doneᶠ f → Doneᶠ g
+      → (t : Truth-change) → join-change c (truth-shape f) (truth-shape g) ≡ t → Doneᶠ (join-changed t c f g)
   join-done c f g h k Simplify.kept e = (e, h, k)
   join-done c f g h k Simplify.first e = h
   join-done c f g h k Simplify.second e = k
@@ -65,11 +65,13 @@ module _ (o : Order) where
     shorten-doneᶠ (join c f g) = join-done c (shortenᶠ o f) (shortenᶠ o g) (shorten-doneᶠ f) (shorten-doneᶠ g) _ refl
 
   -- where no rule applies, shortening changes nothing
-  kept-node : (p : Operator) (a b : Expr) → arith-change o p (shape a) (shape b) ≡ Simplify.kept → arith-node o p a b ≡ arith p a b
+  kept-node : (p : Operator) (a b : Expr) → arith-change o p (shape a) (shape b) ≡ Simplify.kept
+      → arith-node o p a b ≡ arith p a b
   unfolding arith-node
   kept-node p a b e = ap (λ t. arith-changed t p a b) e
 
-  kept-nodeᶠ : (c : Connective) (f g : Formula) → join-change c (truth-shape f) (truth-shape g) ≡ Simplify.kept → join-node c f g ≡ join c f g
+  kept-nodeᶠ : (c : Connective) (f g : Formula) → join-change c (truth-shape f) (truth-shape g) ≡ Simplify.kept
+      → join-node c f g ≡ join c f g
   unfolding join-node
   kept-nodeᶠ c f g e = ap (λ t. join-changed t c f g) e
 
@@ -80,7 +82,8 @@ module _ (o : Order) where
     done-stays (const z) h = refl
     done-stays (var v) h = refl
     done-stays (mark m) h = refl
-    done-stays (arith p a b) h = (λ i. arith-node o p (done-stays a (h .1) i) (done-stays b (h .2) i)) ∙ kept-node p a b (h .0)
+    done-stays (arith p a b) h =
+        (λ i. arith-node o p (done-stays a (h .1) i) (done-stays b (h .2) i)) ∙ kept-node p a b (h .0)
     done-stays (neg a) h = λ i. neg (done-stays a h i)
     done-stays (choose f a b) h = λ i. choose (done-staysᶠ f (h .0) i) (done-stays a (h .1) i) (done-stays b (h .2) i)
 
@@ -88,7 +91,8 @@ module _ (o : Order) where
     done-staysᶠ (truth b) h = refl
     done-staysᶠ (cmp r a b) h = λ i. cmp r (done-stays a (h .0) i) (done-stays b (h .1) i)
     done-staysᶠ (not f) h = (λ i. not-node (done-staysᶠ f (h .1) i)) ∙ h .0
-    done-staysᶠ (join c f g) h = (λ i. join-node c (done-staysᶠ f (h .1) i) (done-staysᶠ g (h .2) i)) ∙ kept-nodeᶠ c f g (h .0)
+    done-staysᶠ (join c f g) h =
+        (λ i. join-node c (done-staysᶠ f (h .1) i) (done-staysᶠ g (h .2) i)) ∙ kept-nodeᶠ c f g (h .0)
 
   pub shorten-again : (f : Formula) → shortenᶠ o (shortenᶠ o f) ≡ shortenᶠ o f
   shorten-again f = done-staysᶠ (shortenᶠ o f) (shorten-doneᶠ f)

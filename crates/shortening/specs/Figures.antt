@@ -1,5 +1,5 @@
--- 02, P6, by computation: each rule once, in 02's order; rules that fit only when a part was shortened; what has no rule. Lists are in
--- `ListFigures`. Assumes nothing.
+-- 02, P6, by computation: each rule once, in 02's order; rules that fit only when a part was shortened; what has no rule.
+-- Lists are in `ListFigures`. Assumes nothing.
 use mathlib.Core.Path.{_≡_, refl}
 use mathlib.Core.Bool.{true, false}
 use mathlib.Core.List.{List, [], _∷_, map}
@@ -122,7 +122,12 @@ formula-figures =
     ∷ (cmp AtMost 𝟎 𝟎, cmp AtMost 𝟎 𝟎)
     ∷ []
 
-figures-hold : (map (λ (p : Expr × Expr). shorten order (p .0)) expression-figures ≡ map (λ (p : Expr × Expr). p .1) expression-figures)
-    × (map (λ (p : Formula × Formula). shortenᶠ order (p .0)) formula-figures ≡ map (λ (p : Formula × Formula). p .1) formula-figures)
-unfolding expression-figures formula-figures shorten arith-node join-node not-node
-figures-hold = (refl, refl)
+expressions-hold : map (λ (p : Expr × Expr). shorten order (p .0)) expression-figures
+    ≡ map (λ (p : Expr × Expr). p .1) expression-figures
+unfolding expression-figures shorten arith-node not-node
+expressions-hold = refl
+
+formulas-hold : map (λ (p : Formula × Formula). shortenᶠ order (p .0)) formula-figures
+    ≡ map (λ (p : Formula × Formula). p .1) formula-figures
+unfolding formula-figures shorten arith-node join-node not-node
+formulas-hold = refl

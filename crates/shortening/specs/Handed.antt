@@ -1,5 +1,5 @@
--- What the entry over two lists hands back, for every words and every index: each of its answers has its exact occasion (`handed-iff`), and
--- there is no other. First what is found at an index of one list (`looked`). Assumes nothing.
+-- What the entry over two lists hands back, for every words and every index: each of its answers has its exact occasion
+-- (`handed-iff`), and there is no other. First what is found at an index of one list (`looked`). Assumes nothing.
 use Prim.Native.Nat.{ℕ, _+_, _-_, _≤_, _<_}
 use mathlib.Core.Path.{_≡_, refl, sym, _∙_}
 use mathlib.Core.Logic.{_↔_}
@@ -20,7 +20,7 @@ use Rattle.theorems.specs.Line.{place}
 use Rattle.theorems.specs.ReadBack.{written-read, malformed-iff}
 use Rattle.theorems.specs.Lookup.{condition-at, line-at-index, line-at-past, line-at-negative, line-at-malformed}
 use Rattle.shortening.specs.Never.{sizeᶠ}
-use Rattle.shortening.specs.Shortened.{Which, old, new, Part, no-part, part, part-for, shorter}
+use Rattle.shortening.specs.Shortened.{Which, old, new, Part, no-part, part-for, shorter}
 
 -- ---- at an index of one list
 
@@ -42,7 +42,8 @@ start-at cs (negsuc k) = 0
 data Looked (ws : List ℤ) (i : ℤ) (l : Line) : Type 0 where
   torn : ((cs : List Condition) → ¬ Well-formed ws cs) → l ≡ no-line 20 → Looked ws i l
   past : (cs : List Condition) → Well-formed ws cs → Past cs i → l ≡ no-line 21 → Looked ws i l
-  found : (cs : List Condition) (c : Condition) → Well-formed ws cs → At cs i c → l ≡ line (place (start-at cs i) c) → Looked ws i l
+  found : (cs : List Condition) (c : Condition) → Well-formed ws cs → At cs i c → l ≡ line (place (start-at cs i) c)
+      → Looked ws i l
 
 looked : (ws : List ℤ) (i : ℤ) → Looked ws i (line-at ws i)
 looked ws i = of-list (read-list ws) refl
@@ -84,39 +85,46 @@ pub data Handed (us vs : List ℤ) (i : ℤ) (p : Part) : Type 0 where
   old-torn : ((cs : List Condition) → ¬ Well-formed us cs) → p ≡ no-part 20 → Handed us vs i p
   old-past : (cs : List Condition) → Well-formed us cs → Past cs i → p ≡ no-part 21 → Handed us vs i p
   -- "then for the new"
-  new-torn : (cs : List Condition) (c : Condition) → Well-formed us cs → At cs i c → ((ds : List Condition) → ¬ Well-formed vs ds)
-      → p ≡ no-part 20 → Handed us vs i p
-  new-past : (cs : List Condition) (c : Condition) → Well-formed us cs → At cs i c → (ds : List Condition) → Well-formed vs ds → Past ds i
-      → p ≡ no-part 21 → Handed us vs i p
+  new-torn : (cs : List Condition) (c : Condition) → Well-formed us cs → At cs i c
+      → ((ds : List Condition) → ¬ Well-formed vs ds) → p ≡ no-part 20 → Handed us vs i p
+  new-past : (cs : List Condition) (c : Condition) → Well-formed us cs → At cs i c → (ds : List Condition)
+      → Well-formed vs ds → Past ds i → p ≡ no-part 21 → Handed us vs i p
   -- "hands back the shorter of the two as a part of the slice it stands in, the old one if equal"
   new-one : (cs : List Condition) (c : Condition) → Well-formed us cs → At cs i c → (ds : List Condition) (d : Condition)
       → Well-formed vs ds → At ds i d → sizeᶠ (d .claim) < sizeᶠ (c .claim) → p ≡ formula-part new ds i d → Handed us vs i p
   old-one : (cs : List Condition) (c : Condition) → Well-formed us cs → At cs i c → (ds : List Condition) (d : Condition)
       → Well-formed vs ds → At ds i d → sizeᶠ (c .claim) ≤ sizeᶠ (d .claim) → p ≡ formula-part old cs i c → Handed us vs i p
 
--- lengths are those of the formulas
-lengths : (s t m n : ℕ) (b : Bool) → ltb n m ≡ b → ltb (t + n - t) (s + m - s) ≡ b
-lengths s t m n b e =
-    let x : t + n - t ≡ n = omega linear in
-    let y : s + m - s ≡ m = omega linear in
-    rw (x, y) e
+-- found in both: the lengths compared are those of the formulas
+found-both : (i : ℤ) (cs : List Condition) (c : Condition) (ds : List Condition) (d : Condition) (a b : Line)
+    → a ≡ line (place (start-at cs i) c) → b ≡ line (place (start-at ds i) d)
+    → (t : Bool) → ltb (sizeᶠ (d .claim)) (sizeᶠ (c .claim)) ≡ t
+    → part-for a b ≡ cond t (formula-part new ds i d) (formula-part old cs i c)
+found-both i cs c ds d a b e f t h =
+    let s = start-at cs i in
+    let q = start-at ds i in
+    let m : s + sizeᶠ (c .claim) - s ≡ sizeᶠ (c .claim) = omega linear in
+    let n : q + sizeᶠ (d .claim) - q ≡ sizeᶠ (d .claim) = omega linear in
+    rw (e, f, m, n, h)
 
 module _ (us vs : List ℤ) (i : ℤ) where
   pub handed : Handed us vs i (shorter us vs i)
   unfolding shorter
   handed = of-old (looked us i)
     where
-      of-both : (cs : List Condition) (c : Condition) → Well-formed us cs → At cs i c → line-at us i ≡ line (place (start-at cs i) c)
-          → (ds : List Condition) (d : Condition) → Well-formed vs ds → At ds i d → line-at vs i ≡ line (place (start-at ds i) d)
-          → (b : Bool) → ltb (sizeᶠ (d .claim)) (sizeᶠ (c .claim)) ≡ b → Handed us vs i (part-for (line-at us i) (line-at vs i))
+      of-both : (cs : List Condition) (c : Condition) → Well-formed us cs → At cs i c
+          → line-at us i ≡ line (place (start-at cs i) c)
+          → (ds : List Condition) (d : Condition) → Well-formed vs ds → At ds i d
+          → line-at vs i ≡ line (place (start-at ds i) d)
+          → (t : Bool) → ltb (sizeᶠ (d .claim)) (sizeᶠ (c .claim)) ≡ t
+          → Handed us vs i (part-for (line-at us i) (line-at vs i))
       of-both cs c w h e ds d v k f true t =
-          new-one cs c w h ds d v k (ltb-true (sizeᶠ (d .claim)) (sizeᶠ (c .claim)) t)
-          (rw (e, f, lengths (start-at cs i) (start-at ds i) (sizeᶠ (c .claim)) (sizeᶠ (d .claim)) true t))
+          new-one cs c w h ds d v k (ltb-true _ _ t) (found-both i cs c ds d _ _ e f true t)
       of-both cs c w h e ds d v k f false t =
-          old-one cs c w h ds d v k (ltb-false (sizeᶠ (d .claim)) (sizeᶠ (c .claim)) t)
-          (rw (e, f, lengths (start-at cs i) (start-at ds i) (sizeᶠ (c .claim)) (sizeᶠ (d .claim)) false t))
+          old-one cs c w h ds d v k (ltb-false _ _ t) (found-both i cs c ds d _ _ e f false t)
 
-      of-new : (cs : List Condition) (c : Condition) → Well-formed us cs → At cs i c → line-at us i ≡ line (place (start-at cs i) c)
+      of-new : (cs : List Condition) (c : Condition) → Well-formed us cs → At cs i c
+          → line-at us i ≡ line (place (start-at cs i) c)
           → Looked vs i (line-at vs i) → Handed us vs i (part-for (line-at us i) (line-at vs i))
       of-new cs c w h e (torn k f) = new-torn cs c w h k (rw (e, f))
       of-new cs c w h e (past ds v k f) = new-past cs c w h ds v k (rw (e, f))
@@ -134,11 +142,13 @@ module _ (us vs : List ℤ) (i : ℤ) where
   only-part p (new-torn cs c w h k e) = rw (found-line us i cs c w h, torn-line vs i k, e)
   only-part p (new-past cs c w h ds v k e) = rw (found-line us i cs c w h, past-line vs i ds v k, e)
   only-part p (new-one cs c w h ds d v k l e) =
-      let t = lt-ltb (sizeᶠ (d .claim)) (sizeᶠ (c .claim)) l in
-      rw (found-line us i cs c w h, found-line vs i ds d v k, lengths (start-at cs i) (start-at ds i) (sizeᶠ (c .claim)) (sizeᶠ (d .claim)) true t, e)
+      let a = found-line us i cs c w h in
+      let b = found-line vs i ds d v k in
+      found-both i cs c ds d _ _ a b true (lt-ltb (sizeᶠ (d .claim)) (sizeᶠ (c .claim)) l) ∙ sym e
   only-part p (old-one cs c w h ds d v k l e) =
-      let t = le-ltb (sizeᶠ (d .claim)) (sizeᶠ (c .claim)) l in
-      rw (found-line us i cs c w h, found-line vs i ds d v k, lengths (start-at cs i) (start-at ds i) (sizeᶠ (c .claim)) (sizeᶠ (d .claim)) false t, e)
+      let a = found-line us i cs c w h in
+      let b = found-line vs i ds d v k in
+      found-both i cs c ds d _ _ a b false (le-ltb (sizeᶠ (d .claim)) (sizeᶠ (c .claim)) l) ∙ sym e
 
   pub handed-iff : (p : Part) → (shorter us vs i ≡ p) ↔ Handed us vs i p
   handed-iff p = (λ e. rw e at handed, only-part p)

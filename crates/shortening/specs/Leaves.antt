@@ -35,7 +35,8 @@ module _ (P : ℤ → Type 0) (Q R : ℕ → Type 0) where
   arith-leaves Simplify.second p a b h k = k
   arith-leaves Simplify.negated-second p a b h k = k
 
-  join-leaves : (t : Truth-change) (c : Connective) (f g : Formula) → Leavesᶠ f → Leavesᶠ g → Leavesᶠ (join-changed t c f g)
+  join-leaves : (t : Truth-change) (c : Connective) (f g : Formula) → Leavesᶠ f → Leavesᶠ g
+      → Leavesᶠ (join-changed t c f g)
   join-leaves Simplify.kept c f g h k = (h, k)
   join-leaves Simplify.first c f g h k = h
   join-leaves Simplify.second c f g h k = k
@@ -67,8 +68,8 @@ module _ (P : ℤ → Type 0) (Q R : ℕ → Type 0) where
       shorten-leavesᶠ (cmp r a b) h = (shorten-leaves a (h .0), shorten-leaves b (h .1))
       shorten-leavesᶠ (not f) h = not-leaves (shortenᶠ o f) (shorten-leavesᶠ f h)
       shorten-leavesᶠ (join c f g) h =
-          join-leaves (join-change c (truth-shape (shortenᶠ o f)) (truth-shape (shortenᶠ o g))) c (shortenᶠ o f) (shortenᶠ o g)
-          (shorten-leavesᶠ f (h .0)) (shorten-leavesᶠ g (h .1))
+          join-leaves (join-change c (truth-shape (shortenᶠ o f)) (truth-shape (shortenᶠ o g))) c
+          (shortenᶠ o f) (shortenᶠ o g) (shorten-leavesᶠ f (h .0)) (shorten-leavesᶠ g (h .1))
 
 -- ---- what is in range
 

@@ -1,5 +1,5 @@
--- 02, P6: shorter conditions. First the definitions, in the order in which they are best read: the rules (`Simplify`), what the two
--- entries leave (`Shortened`). Then the theorems.
+-- 02, P6: shorter conditions. First the definitions, in the order in which they are best read: the rules (`Simplify`),
+-- what the two entries leave (`Shortened`). Then the theorems.
 pub mod Simplify
 pub mod Shortened
 pub mod Shapes
@@ -21,4 +21,5 @@ pub mod ListFigures
 pub mod Variants
 pub mod Wrong
 pub mod WrongAnswers
+pub mod WrongParts
 pub mod Witness

@@ -1,5 +1,5 @@
--- 02, P6, by computation: lists with their trailers, 20 and 31 with their outputs, and the entry over two lists with its refusals in
--- order. Assumes nothing.
+-- 02, P6, by computation: lists with their trailers, 20 and 31 with their outputs, and the entry over two lists with its
+-- refusals in order. Assumes nothing.
 use Prim.Native.Nat.{ℕ}
 use mathlib.Core.Path.{_≡_, refl}
 use mathlib.Core.List.{List, [], _∷_, _++_, map}
@@ -108,6 +108,7 @@ two-list-figures =
     ∷ ((three, plain, pos 2), record { number = 21; which = old; start = 0; end = 0 })
     ∷ []
 
-two-lists-hold : map (λ (f : Call × Part). shorter (f .0 .0) (f .0 .1) (f .0 .2)) two-list-figures ≡ map (λ (f : Call × Part). f .1) two-list-figures
+two-lists-hold : map (λ (f : Call × Part). shorter (f .0 .0) (f .0 .1) (f .0 .2)) two-list-figures
+    ≡ map (λ (f : Call × Part). f .1) two-list-figures
 unfolding two-list-figures padded plain three three-short numbers row-of read-expr-within read-formula-within spelled-within found-within line-before-within lines-before-within lines-within line-at-within shorter
 two-lists-hold = refl

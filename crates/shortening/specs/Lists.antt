@@ -1,6 +1,6 @@
--- The shortened conditions of a list: as many, with the same kinds and rows in order (`count-same`, `rules-same`, `rows-same`), in a list
--- that is never longer (`list-at-most`) and well-formed (`well-formed-shortened`), true in all states exactly where the old ones are
--- (`all-valid-iff`). What the pass answers is in `Answers`. Assumes nothing.
+-- The shortened conditions of a list: as many, with the same kinds and rows in order (`count-same`, `rules-same`,
+-- `rows-same`), in a list that is never longer (`list-at-most`) and well-formed (`well-formed-shortened`), true in all
+-- states exactly where the old ones are (`all-valid-iff`). What the pass answers is in `Answers`. Assumes nothing.
 use Prim.Native.Nat.{suc, _≤_}
 use mathlib.Core.Path.{_≡_, refl, sym, ap, subst}
 use mathlib.Core.Logic.{_↔_}
@@ -29,11 +29,13 @@ module _ (o : Order) where
   count-same (c ∷ cs) = ap suc (count-same cs)
 
   -- kinds and rows, in order
-  pub rules-same : (cs : List Condition) → map (λ (c : Condition). c .rule) (shorten-all o cs) ≡ map (λ (c : Condition). c .rule) cs
+  pub rules-same : (cs : List Condition)
+      → map (λ (c : Condition). c .rule) (shorten-all o cs) ≡ map (λ (c : Condition). c .rule) cs
   rules-same [] = refl
   rules-same (c ∷ cs) = ap (λ l. c .rule ∷ l) (rules-same cs)
 
-  pub rows-same : (cs : List Condition) → map (λ (c : Condition). c .row) (shorten-all o cs) ≡ map (λ (c : Condition). c .row) cs
+  pub rows-same : (cs : List Condition)
+      → map (λ (c : Condition). c .row) (shorten-all o cs) ≡ map (λ (c : Condition). c .row) cs
   rows-same [] = refl
   rows-same (c ∷ cs) = ap (λ l. c .row ∷ l) (rows-same cs)
 
@@ -80,7 +82,8 @@ module _ (o : Order) where
   -- true in all states, in an arithmetic in which every number is a value
   module _ (𝔸 : Arithmetic) (law : Lawful 𝔸 All) where
     pub valid-iff : (f : Formula) → Valid 𝔸 (shortenᶠ o f) ↔ Valid 𝔸 f
-    valid-iff f = (λ v s. subst T (same-everywhere 𝔸 law o s f) (v s), λ v s. subst T (sym (same-everywhere 𝔸 law o s f)) (v s))
+    valid-iff f =
+        (λ v s. subst T (same-everywhere 𝔸 law o s f) (v s), λ v s. subst T (sym (same-everywhere 𝔸 law o s f)) (v s))
 
     pub all-valid-iff : (cs : List Condition) → All-valid 𝔸 (shorten-all o cs) ↔ All-valid 𝔸 cs
     all-valid-iff [] = (λ h. tt, λ h. tt)

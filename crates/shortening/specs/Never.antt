@@ -1,5 +1,6 @@
 -- Shortening never makes longer: an expression or a formula comes back as it was, or with fewer words (`as-it-was`,
--- `as-it-wasᶠ`, `never-longer`). Whatever the rules are: it is shown of every change that a rule could ask for. Assumes nothing.
+-- `as-it-wasᶠ`, `never-longer`). Whatever the rules are: it is shown of every change that a rule could ask for. Assumes
+-- nothing.
 use Prim.Native.Nat.{ℕ, suc, _+_, _≤_, _<_}
 use mathlib.Core.Path.{_≡_, refl, ap}
 use mathlib.Core.Logic.{_⊎_, inl, inr, ⊎-elim}
@@ -37,7 +38,8 @@ cmp-size r a b = ap suc (length-append (expr-words a) (expr-words b))
 pub choose-size : (f : Formula) (a b : Expr) → size (choose f a b) ≡ suc (sizeᶠ f + size a + size b)
 unfolding expr-words
 choose-size f a b =
-    omega (linear, length-append (formula-words f) (expr-words a ++ expr-words b), length-append (expr-words a) (expr-words b))
+    let all = length-append (formula-words f) (expr-words a ++ expr-words b) in
+    omega (linear, all, length-append (expr-words a) (expr-words b))
 
 pub some-words : (e : Expr) → 0 < size e
 unfolding expr-words
@@ -77,19 +79,23 @@ both-parts p (inl d) (inl e) = inl (λ i. arith p (d i) (e i))
 both-parts p {a} {b} {x} {y} (inl d) (inr h) = inr (omega (linear, arith-size p a b, arith-size p x y, ap size d))
 both-parts p {a} {b} {x} {y} (inr h) k = inr (omega (linear, arith-size p a b, arith-size p x y, at-most k))
 
-pub arith-shorter : (t : Change) (p : Operator) {a b x y : Expr} → Shorter a x → Shorter b y → Shorter (arith-changed t p a b) (arith p x y)
+pub arith-shorter : (t : Change) (p : Operator) {a b x y : Expr} → Shorter a x → Shorter b y
+    → Shorter (arith-changed t p a b) (arith p x y)
 unfolding expr-words
 arith-shorter Simplify.kept p h k = both-parts p h k
 arith-shorter Simplify.first p {a} {b} {x} {y} h k = inr (omega (linear, arith-size p x y, at-most h))
 arith-shorter Simplify.second p {a} {b} {x} {y} h k = inr (omega (linear, arith-size p x y, at-most k))
-arith-shorter Simplify.negated-second p {a} {b} {x} {y} h k = inr (omega (linear, arith-size p x y, at-most k, some-words x))
+arith-shorter Simplify.negated-second p {a} {b} {x} {y} h k =
+    inr (omega (linear, arith-size p x y, at-most k, some-words x))
 
 join-shorter : (t : Truth-change) (c : Connective) {a b x y : Formula} → Shorterᶠ a x → Shorterᶠ b y
     → Shorterᶠ (join-changed t c a b) (join c x y)
 unfolding formula-words
 join-shorter Simplify.kept c (inl d) (inl e) = inl (λ i. join c (d i) (e i))
-join-shorter Simplify.kept c {a} {b} {x} {y} (inl d) (inr h) = inr (omega (linear, join-size c a b, join-size c x y, ap sizeᶠ d))
-join-shorter Simplify.kept c {a} {b} {x} {y} (inr h) k = inr (omega (linear, join-size c a b, join-size c x y, at-mostᶠ k))
+join-shorter Simplify.kept c {a} {b} {x} {y} (inl d) (inr h) =
+    inr (omega (linear, join-size c a b, join-size c x y, ap sizeᶠ d))
+join-shorter Simplify.kept c {a} {b} {x} {y} (inr h) k =
+    inr (omega (linear, join-size c a b, join-size c x y, at-mostᶠ k))
 join-shorter Simplify.first c {a} {b} {x} {y} h k = inr (omega (linear, join-size c x y, at-mostᶠ h))
 join-shorter Simplify.second c {a} {b} {x} {y} h k = inr (omega (linear, join-size c x y, at-mostᶠ k))
 join-shorter (Simplify.value t) c {a} {b} {x} {y} h k = inr (omega (linear, join-size c x y, some-wordsᶠ x))
@@ -106,7 +112,8 @@ unfolding expr-words
 neg-shorter (inl e) = inl (ap neg e)
 neg-shorter (inr h) = inr (omega linear)
 
-choose-shorter : {f g : Formula} {a b x y : Expr} → Shorterᶠ f g → Shorter a x → Shorter b y → Shorter (choose f a b) (choose g x y)
+choose-shorter : {f g : Formula} {a b x y : Expr} → Shorterᶠ f g → Shorter a x → Shorter b y
+    → Shorter (choose f a b) (choose g x y)
 choose-shorter (inl c) (inl d) (inl e) = inl (λ i. choose (c i) (d i) (e i))
 choose-shorter {f} {g} {a} {b} {x} {y} (inl c) (inl d) (inr h) =
     inr (omega (linear, choose-size f a b, choose-size g x y, ap sizeᶠ c, ap size d))
@@ -138,7 +145,8 @@ module _ (o : Order) where
     as-it-wasᶠ (cmp r a b) = cmp-shorter r (as-it-was a) (as-it-was b)
     as-it-wasᶠ (not f) = not-shorter (shortenᶠ o f) (as-it-wasᶠ f)
     as-it-wasᶠ (join c f g) =
-        join-shorter (join-change c (truth-shape (shortenᶠ o f)) (truth-shape (shortenᶠ o g))) c (as-it-wasᶠ f) (as-it-wasᶠ g)
+        join-shorter (join-change c (truth-shape (shortenᶠ o f)) (truth-shape (shortenᶠ o g))) c
+        (as-it-wasᶠ f) (as-it-wasᶠ g)
 
   pub never-longer : (f : Formula) → sizeᶠ (shortenᶠ o f) ≤ sizeᶠ f
   never-longer f = at-mostᶠ (as-it-wasᶠ f)

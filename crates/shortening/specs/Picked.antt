@@ -1,5 +1,5 @@
--- What is known of the rule picked at a node (`picked`): what holds where no rule fits, and of each rule where it fits, holds
--- of the pick. And what it tells that a part fits. Assumes nothing.
+-- What is known of the rule picked at a node (`picked`): what holds where no rule fits, and of each rule where it fits,
+-- holds of the pick. And what it tells that a part fits. Assumes nothing.
 use Prim.Native.Nat.{zero, suc}
 use mathlib.Core.Path.{_≡_, refl}
 use mathlib.Core.List.{List, [], _∷_}
@@ -13,11 +13,13 @@ abbrev pub Each : {R : Type 0} → (R → Type 0) → List (Rule R) → Shape �
 Each P [] x y = Unit {0}
 Each P (r ∷ rs) x y = (fits (r .left) x ≡ true → fits (r .right) y ≡ true → P (r .gives)) × Each P rs x y
 
-pub picked : {R : Type 0} (P : R → Type 0) (k : R) (rs : List (Rule R)) (x y : Shape) → P k → Each P rs x y → P (pick k rs x y)
+pub picked : {R : Type 0} (P : R → Type 0) (k : R) (rs : List (Rule R)) (x y : Shape) → P k → Each P rs x y
+    → P (pick k rs x y)
 picked P k [] x y p h = p
 picked P k (r ∷ rs) x y p h = chosen (fits (r .left) x) (fits (r .right) y) (h .0) (picked P k rs x y p (h .1))
   where
-    chosen : (a b : Bool) → (a ≡ true → b ≡ true → P (r .gives)) → P (pick k rs x y) → P (cond (a && b) (r .gives) (pick k rs x y))
+    chosen : (a b : Bool) → (a ≡ true → b ≡ true → P (r .gives)) → P (pick k rs x y)
+        → P (cond (a && b) (r .gives) (pick k rs x y))
     chosen true true f g = f refl refl
     chosen true false f g = g
     chosen false b f g = g

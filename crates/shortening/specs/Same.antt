@@ -1,7 +1,7 @@
--- "Each new condition holds in the same states as its old one": `holds-same`, for any arithmetic, in the states of its values;
--- `same-everywhere`, in every state, where every number is a value; `whole-same`, for the whole numbers. Of an arithmetic it asks six
--- laws, on the values that its states, constants and results can be (`Laws.Lawful`). Argument: each rule keeps the value at a node,
--- so the rule picked does; then by induction. Assumes nothing.
+-- "Each new condition holds in the same states as its old one": `holds-same`, for any arithmetic, in the states of its
+-- values; `same-everywhere`, in every state, where every number is a value; `whole-same`, for the whole numbers. Of an
+-- arithmetic it asks six laws, on the values that its states, constants and results can be (`Laws.Lawful`). Argument:
+-- each rule keeps the value at a node, so the rule picked does; then by induction. Assumes nothing.
 use mathlib.Core.Path.{_≡_, refl, sym, ap, _∙_, subst}
 use mathlib.Core.Bool.{Bool, true, false, cond, _&&_, _||_}
 use mathlib.Core.Bool as Bool
@@ -139,8 +139,9 @@ module _ (𝔸 : Arithmetic) (In : ℤ → Type 0) (law : Lawful 𝔸 In) (s : S
       value-same (arith p a b) k =
           let x = value-same a (k .0) in
           let y = value-same b (k .1) in
-          arith-same (shorten o a) (shorten o b) (subst In (sym x) (value-in a (k .0))) (subst In (sym y) (value-in b (k .1))) o p
-          ∙ λ i. 𝔸 .op p (x i) (y i)
+          let ha = subst In (sym x) (value-in a (k .0)) in
+          let hb = subst In (sym y) (value-in b (k .1)) in
+          arith-same (shorten o a) (shorten o b) ha hb o p ∙ λ i. 𝔸 .op p (x i) (y i)
       value-same (neg a) k = λ i. 𝔸 .neg (value-same a k i)
       value-same (choose f a b) k = λ i. cond (holds-same f (k .0) i) (value-same a (k .1) i) (value-same b (k .2) i)
 
@@ -168,7 +169,8 @@ mutual
   any-constantsᶠ (not f) = any-constantsᶠ f
   any-constantsᶠ (join c f g) = (any-constantsᶠ f, any-constantsᶠ g)
 
-pub same-everywhere : (𝔸 : Arithmetic) → Lawful 𝔸 All → (o : Order) (s : State) (f : Formula) → holds 𝔸 s (shortenᶠ o f) ≡ holds 𝔸 s f
+pub same-everywhere : (𝔸 : Arithmetic) → Lawful 𝔸 All → (o : Order) (s : State) (f : Formula)
+    → holds 𝔸 s (shortenᶠ o f) ≡ holds 𝔸 s f
 same-everywhere 𝔸 law o s f = holds-same 𝔸 All law s (record { vars = λ v. tt; marks = λ m. tt }) o f (any-constantsᶠ f)
 
 pub whole-same : (o : Order) (s : State) (f : Formula) → holds whole s (shortenᶠ o f) ≡ holds whole s f

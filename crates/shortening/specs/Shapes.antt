@@ -1,5 +1,5 @@
--- The shape of a shortened node, from the shapes of its shortened parts alone (`arith-shape`, `join-shape`, `not-shape`): what the code
--- keeps of a part when it has read it. Assumes nothing.
+-- The shape of a shortened node, from the shapes of its shortened parts alone (`arith-shape`, `join-shape`, `not-shape`):
+-- what the code keeps of a part when it has read it. Assumes nothing.
 use mathlib.Core.Path.{_≡_, refl}
 use mathlib.Core.Bool.{Bool, true, false, cond}
 use Rattle.script.specs.declared.Operator.{Operator}
@@ -43,17 +43,20 @@ arith-shape o p a b = of-change (arith-change o p (shape a) (shape b))
     of-change Simplify.negated-second = refl
 
 pub join-shape : (c : Connective) (f g : Formula)
-    → truth-shape (join-node c f g) ≡ truth-changed-shape (join-change c (truth-shape f) (truth-shape g)) (truth-shape f) (truth-shape g)
+    → truth-shape (join-node c f g)
+    ≡ truth-changed-shape (join-change c (truth-shape f) (truth-shape g)) (truth-shape f) (truth-shape g)
 unfolding join-node
 join-shape c f g = of-change (join-change c (truth-shape f) (truth-shape g))
   where
-    of-change : (t : Truth-change) → truth-shape (join-changed t c f g) ≡ truth-changed-shape t (truth-shape f) (truth-shape g)
+    of-change : (t : Truth-change)
+        → truth-shape (join-changed t c f g) ≡ truth-changed-shape t (truth-shape f) (truth-shape g)
     of-change Simplify.kept = refl
     of-change Simplify.first = refl
     of-change Simplify.second = refl
     of-change (Simplify.value b) = refl
 
-pub not-shape : (f : Formula) → truth-shape (not-node f) ≡ truth-changed-shape (not-change (truth-shape f)) (truth-shape f) other
+pub not-shape : (f : Formula)
+    → truth-shape (not-node f) ≡ truth-changed-shape (not-change (truth-shape f)) (truth-shape f) other
 unfolding not-node
 not-shape (truth true) = refl
 not-shape (truth false) = refl

@@ -1,5 +1,6 @@
--- 02, P6: "Add a pass over one list that writes another": its number, the words used and the whole buffer, for every words
--- and every length of the output. Then the entry over two lists: its number, and the part of which list. Assumes nothing.
+-- 02, P6: "Add a pass over one list that writes another": its number, the words used and the whole buffer, for every
+-- words and every length of the output. Then the entry over two lists: its number, and the part of which list. Assumes
+-- nothing.
 use Prim.Native.Nat.{ℕ, _-_}
 use mathlib.Core.Option.{Option, none, some}
 use mathlib.Core.List.{List, _++_}

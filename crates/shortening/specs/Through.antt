@@ -1,9 +1,9 @@
--- Demand 3 and the solvers' verdicts, through the shortened list. The words that the pass leaves are valid exactly where the old list is
--- (`list-valid-iff`), so demand 3 holds with them in the old list's place: of any answer that keeps it (`through`), of what the generator
--- leaves (`generated-through`), and for any arithmetic with the laws that the rules use (`keeps-through`). From verdicts: where no script
--- of P1 for the shortened list has a model (`solved-through`), and where for every index below the count a text was written for the
--- shortened list whose script has none (`verdicts-through`); these verdicts ask no more than those on the old list (`verdicts-iff`).
--- Assumes nothing.
+-- Demand 3 and the solvers' verdicts, through the shortened list. The words that the pass leaves are valid exactly where
+-- the old list is (`list-valid-iff`), so demand 3 holds with them in the old list's place: of any answer that keeps it
+-- (`through`), of what the generator leaves (`generated-through`), and for any arithmetic with the laws that the rules
+-- use (`keeps-through`). From verdicts: where no script of P1 for the shortened list has a model (`solved-through`), and
+-- where for every index below the count a text was written for the shortened list whose script has none
+-- (`verdicts-through`); these verdicts ask no more than those on the old list (`verdicts-iff`). Assumes nothing.
 use Prim.Native.Nat.{ℕ, _<_}
 use mathlib.Core.Path.{_≡_, sym, ap, _∙_, subst}
 use mathlib.Core.Logic.{_↔_}
@@ -49,8 +49,8 @@ module _ (o : Order) where
   -- ---- demand 3
 
   -- of an answer and the list left with it, as the generator's contract has them
-  pub through : (table : List ℤ) (answer : Answer) (list : List ℤ) (room : ℕ) → Demand-3 table answer list → answer .number ≡ 0
-      → let r = written o (take (answer .words) list) room in
+  pub through : (table : List ℤ) (answer : Answer) (list : List ℤ) (room : ℕ) → Demand-3 table answer list
+      → answer .number ≡ 0 → let r = written o (take (answer .words) list) room in
       r .number ≡ 0 → List-valid whole (used-words r)
       → (s : State) → T (holds whole s (tree table .pre)) → Total-correctness whole (tree table) s
   unfolding Demand-3

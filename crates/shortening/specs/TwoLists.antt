@@ -1,6 +1,6 @@
 -- What the entry over two lists hands back: the shorter formula, the old one if equal (`two-lists`); over a list and its
--- shortened list, always the words of the shortened formula (`own-list`), also where these are the words that the pass left
--- (`own-written`); its refusals (`old-refused`, `new-refused`). Assumes nothing.
+-- shortened list, always the words of the shortened formula (`own-list`), also where these are the words that the pass
+-- left (`own-written`); its refusals (`old-refused`, `new-refused`). Assumes nothing.
 use Prim.Native.Nat.{ℕ, zero, suc, _-_}
 use mathlib.Core.Path.{_≡_, refl, sym, ap, _∙_}
 use mathlib.Core.Logic.{_≢_, ⊎-elim}
@@ -49,13 +49,15 @@ module _ (us vs : List ℤ) (i : ℤ) where
 
   found-in-both : line-at us i .number ≡ 0 → line-at vs i .number ≡ 0
       → part-words us vs (shorter us vs i)
-      ≡ cond (ltb (line-at vs i .end - line-at vs i .start) (line-at us i .end - line-at us i .start)) (part-at vs i) (part-at us i)
+      ≡ cond (ltb (line-at vs i .end - line-at vs i .start) (line-at us i .end - line-at us i .start))
+      (part-at vs i) (part-at us i)
   unfolding shorter
   found-in-both h k =
       rw (h, k) (of-test (ltb (line-at vs i .end - line-at vs i .start) (line-at us i .end - line-at us i .start)))
     where
       of-test : (t : Bool)
-          → part-words us vs (cond t (part new (line-at vs i)) (part old (line-at us i))) ≡ cond t (part-at vs i) (part-at us i)
+          → part-words us vs (cond t (part new (line-at vs i)) (part old (line-at us i)))
+          ≡ cond t (part-at vs i) (part-at us i)
       of-test true = refl
       of-test false = refl
 
@@ -84,12 +86,12 @@ shortened-at o (d ∷ cs) zero c q = ap (λ x. some (shorten-condition o x)) (so
 shortened-at o (d ∷ cs) (suc i) c q = shortened-at o cs i c q
 
 -- over a list and the list that the pass makes of it
-pub own-list : (o : Order) (us : List ℤ) (cs : List Condition) → Well-formed us cs → (i : ℕ) (c : Condition) → getElem? cs i ≡ some c
-    → let vs = list-words (shorten-all o cs) in
+pub own-list : (o : Order) (us : List ℤ) (cs : List Condition) → Well-formed us cs
+    → (i : ℕ) (c : Condition) → getElem? cs i ≡ some c → let vs = list-words (shorten-all o cs) in
     part-words us vs (shorter us vs (pos i)) ≡ formula-words (shortenᶠ o (c .claim))
 own-list o us cs w i c q =
-    two-lists us (list-words (shorten-all o cs)) cs (shorten-all o cs) w (well-formed-shortened o us cs w) i c (shorten-condition o c) q
-    (shortened-at o cs i c q)
+    let ds = shorten-all o cs in
+    two-lists us (list-words ds) cs ds w (well-formed-shortened o us cs w) i c (shorten-condition o c) q (shortened-at o cs i c q)
     ∙ of-test (ltb (sizeᶠ (shortenᶠ o (c .claim))) (sizeᶠ (c .claim))) refl
   where
     of-test : (t : Bool) → ltb (sizeᶠ (shortenᶠ o (c .claim))) (sizeᶠ (c .claim)) ≡ t

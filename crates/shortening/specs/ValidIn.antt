@@ -1,6 +1,6 @@
--- "P6 must hold in both" (02, P12, which cites this): for an arithmetic whose states hold some numbers only, a shortened condition is true
--- in all states of the arithmetic exactly where the old one is (`valid-in-iff`), and so is the list that the pass leaves, where each word
--- of the old list is such a number (`list-valid-in-iff`). Assumes nothing.
+-- "P6 must hold in both" (02, P12, which cites this): for an arithmetic whose states hold some numbers only, a shortened
+-- condition is true in all states of the arithmetic exactly where the old one is (`valid-in-iff`), and so is the list
+-- that the pass leaves, where each word of the old list is such a number (`list-valid-in-iff`). Assumes nothing.
 use Prim.Native.Nat.{ℕ}
 use mathlib.Core.Path.{_≡_, sym, _∙_, subst}
 use mathlib.Core.Logic.{_↔_}

@@ -1,6 +1,7 @@
--- The pass with what a wrong turn changes as arguments: the rules (`Rules`), which form of a part they look at (`Seen`), the trailer
--- (`Trailed`), and the answer (`Answering`). With the right ones it is the pass defined (`right-pass`). A wrong turn is a change of one of
--- them (`Wrong`, `WrongAnswers`), and is told from the pass defined by another answer at one list and room (`all-told`). Assumes nothing.
+-- The pass with what a wrong turn changes as arguments: the rules (`Rules`), which form of a part they look at (`Seen`),
+-- the trailer (`Trailed`), and the answer (`Answering`). With the right ones it is the pass defined (`right-pass`). A
+-- wrong turn is a change of one of them (`Wrong`, `WrongAnswers`), and is told from the pass defined by another answer at
+-- one list and room (`all-told`). Assumes nothing.
 use Prim.Native.Nat.{ℕ}
 use mathlib.Core.Path.{_≡_, refl, sym, ap, subst}
 use mathlib.Core.Logic.{_≢_}
@@ -55,8 +56,9 @@ module _ (R : Rules) (S : Seen) where
     shorten-by (mark m) = mark m
     shorten-by (arith p a b) =
         arith-changed
-        (pick Simplify.kept (R .of-arith p) (shape (S .expression a (shorten-by a))) (shape (S .expression b (shorten-by b)))) p
-        (shorten-by a) (shorten-by b)
+        (pick Simplify.kept (R .of-arith p)
+        (shape (S .expression a (shorten-by a))) (shape (S .expression b (shorten-by b))))
+        p (shorten-by a) (shorten-by b)
     shorten-by (neg a) = R .of-neg (shorten-by a)
     shorten-by (choose f a b) = choose (shorten-byᶠ f) (shorten-by a) (shorten-by b)
 
@@ -66,8 +68,9 @@ module _ (R : Rules) (S : Seen) where
     shorten-byᶠ (not f) = R .of-not (shorten-byᶠ f)
     shorten-byᶠ (join c f g) =
         join-changed
-        (pick Simplify.kept (R .of-join c) (truth-shape (S .claim f (shorten-byᶠ f))) (truth-shape (S .claim g (shorten-byᶠ g)))) c
-        (shorten-byᶠ f) (shorten-byᶠ g)
+        (pick Simplify.kept (R .of-join c)
+        (truth-shape (S .claim f (shorten-byᶠ f))) (truth-shape (S .claim g (shorten-byᶠ g))))
+        c (shorten-byᶠ f) (shorten-byᶠ g)
 
   abbrev pub condition-by : Condition → Condition
   condition-by c = condition (c .rule) (c .row) (shorten-byᶠ (c .claim))
@@ -126,12 +129,14 @@ right-list : (cs : List Condition) → list-by right-rules right-seen right-trai
 unfolding list-words
 right-list cs = let count = sym (count-same order cs) in λ i. right-lines cs i ++ (pos (count i) ∷ [])
 
-pub right-pass : (ws : List ℤ) (room : ℕ) → pass-by right-rules right-seen right-trailed right-answer ws room ≡ written order ws room
+pub right-pass : (ws : List ℤ) (room : ℕ)
+    → pass-by right-rules right-seen right-trailed right-answer ws room ≡ written order ws room
 unfolding pass-by written
 right-pass ws room = of-list (read-list ws)
   where
     of-list : (l : Option (List Condition))
-        → right-answer ws (l >>= λ cs. some (list-by right-rules right-seen right-trailed cs)) room ≡ written-for order l room
+        → right-answer ws (l >>= λ cs. some (list-by right-rules right-seen right-trailed cs)) room
+        ≡ written-for order l room
     of-list none = refl
     of-list (some cs) = ap (λ us. fit us room) (right-list cs)
 
@@ -170,10 +175,17 @@ pub record Wrong : Type 0 where
   pub words : List ℤ
   pub room : ℕ
 
+-- what it answers, and what is to be answered
+abbrev given : Wrong → Written
+given w = w .pass (w .words) (w .room)
+
+abbrev due : Wrong → Written
+due w = written order (w .words) (w .room)
+
 -- each answers otherwise than the pass defined
 abbrev pub Other-answers : List Wrong → Type 0
 Other-answers [] = Unit {0}
-Other-answers (w ∷ ws) = (w .pass (w .words) (w .room) ≢ written order (w .words) (w .room)) × Other-answers ws
+Other-answers (w ∷ ws) = (given w ≢ due w) × Other-answers ws
 
 abbrev answer-words : Written → List ℤ
 answer-words r = pos (r .number) ∷ pos (r .used) ∷ r .list
@@ -181,10 +193,10 @@ answer-words r = pos (r .number) ∷ pos (r .used) ∷ r .list
 -- tested, for all of them
 abbrev pub differ : List Wrong → Bool
 differ [] = true
-differ (w ∷ ws) = other answer-words (w .pass (w .words) (w .room)) (written order (w .words) (w .room)) && differ ws
+differ (w ∷ ws) = other answer-words (given w) (due w) && differ ws
 
 pub all-told : (ws : List Wrong) → T (differ ws) → Other-answers ws
 all-told [] h = tt
 all-told (w ∷ ws) h =
-    let k = both (other answer-words (w .pass (w .words) (w .room)) (written order (w .words) (w .room))) (differ ws) h in
+    let k = both (other answer-words (given w) (due w)) (differ ws) h in
     (told answer-words _ _ (k .0), all-told ws (k .1))

@@ -1,7 +1,8 @@
--- The hypotheses of `generated-through`, `solved-through` and `verdicts-through` can hold, with a list that does shorten and a loop whose body
--- is begun: for `rows`, a list of 76 words is left, and its shortened list has 57 (`shortened`). The four shortened conditions are true in
--- all states (`valid`), so for each of them a text is written whose script has no model (`refuted`), and every run keeps the promise
--- (`promised`, `solved-promised`, `refuted-promised`); from the start with v0 = 1 the body is begun (`run`). Assumes nothing.
+-- The hypotheses of `generated-through`, `solved-through` and `verdicts-through` can hold, with a list that does shorten
+-- and a loop whose body is begun: for `rows`, a list of 76 words is left, and its shortened list has 57 (`shortened`).
+-- The four shortened conditions are true in all states (`valid`), so for each of them a text is written whose script has
+-- no model (`refuted`), and every run keeps the promise (`promised`, `solved-promised`, `refuted-promised`); from the
+-- start with v0 = 1 the body is begun (`run`). Assumes nothing.
 use Prim.Native.Nat.{ℕ, zero, suc, _-_, _<_}
 use native.Mathlib.Omega.{arith as linear}
 use mathlib.Core.Path.{_≡_, refl, sym, _∙_, subst}

@@ -1,6 +1,6 @@
--- Wrong rules of 02, P6: each of its rules lost, rules exchanged or changed, rules that it does not have, and rules that look at parts as
--- they were; each told from the right ones at one formula (`other-answers`). To look at a rule's result again is no wrong turn, since no
--- rule fits there: `Done.shorten-again`. Assumes nothing.
+-- Wrong rules of 02, P6: each of its rules lost, rules exchanged or changed, rules that it does not have, and rules that
+-- look at parts as they were; each told from the right ones at one formula (`other-answers`). To look at a rule's result
+-- again is no wrong turn, since no rule fits there: `Done.shorten-again`. Assumes nothing.
 use Prim.Native.Nat.{ℕ, zero, suc}
 use mathlib.Core.List.{List, [], _∷_}
 use mathlib.Core.Bool.{Bool, true, false, cond}

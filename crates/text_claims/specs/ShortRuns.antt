@@ -1,8 +1,9 @@
--- From a text to the runs of its script, through the shortened list (02, P6). If the text is read, the generator plans its table in some
--- room and scratch, and the pass over the list left has room enough, then every run of the text's script, begun where its precondition
--- holds, keeps demand 3's promise: where every condition of the shortened list is true in all states (`short-text-runs`), where none of
--- their scripts of P1 has a model (`solved-short-text-runs`), and where for each index below the count a text was written for the
--- shortened list whose script has none (`refuted-short-text-runs`). Assumes nothing.
+-- From a text to the runs of its script, through the shortened list (02, P6). If the text is read, the generator plans
+-- its table in some room and scratch, and the pass over the list left has room enough, then every run of the text's
+-- script, begun where its precondition holds, keeps demand 3's promise: where every condition of the shortened list is
+-- true in all states (`short-text-runs`), where none of their scripts of P1 has a model (`solved-short-text-runs`), and
+-- where for each index below the count a text was written for the shortened list whose script has none
+-- (`refuted-short-text-runs`). Assumes nothing.
 use Prim.Native.Nat.{ℕ, _<_}
 use mathlib.Core.Path.{_≡_, subst}
 use mathlib.Core.List.{List}
@@ -38,7 +39,8 @@ module _ (o : Order) (room : ℕ) (bytes : List ℕ) (table : List ℤ) (read : 
       subst (Keeps-promise 𝔸) (same-script room bytes table read x r)
       (keeps-through o table list scratch output planned fits 𝔸 law valid)
 
-  pub solved-short-text-runs : List-unsatisfiable new-list → (x : Phrase) → Reading bytes x → Keeps-promise whole (text-tree x)
+  pub solved-short-text-runs : List-unsatisfiable new-list
+      → (x : Phrase) → Reading bytes x → Keeps-promise whole (text-tree x)
   solved-short-text-runs unsatisfiable x r =
       subst (Keeps-promise whole) (same-script room bytes table read x r)
       (solved-through o table list scratch output planned fits unsatisfiable)

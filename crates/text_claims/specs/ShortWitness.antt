@@ -1,7 +1,7 @@
--- The hypotheses of `short-text-runs`, `solved-short-text-runs` and `refuted-short-text-runs` can hold, with a list that does shorten and a
--- loop whose body is begun: the text is read into the rows of the `Witness` of `shortening`, whose list of 76 words is shortened to 57. So
--- every run of its script keeps the promise (`promised`, `solved-promised`, `refuted-promised`); from the start with v0 = 1 the body is
--- begun (`run`). Assumes nothing.
+-- The hypotheses of `short-text-runs`, `solved-short-text-runs` and `refuted-short-text-runs` can hold, with a list that
+-- does shorten and a loop whose body is begun: the text is read into the rows of the `Witness` of `shortening`, whose
+-- list of 76 words is shortened to 57. So every run of its script keeps the promise (`promised`, `solved-promised`,
+-- `refuted-promised`); from the start with v0 = 1 the body is begun (`run`). Assumes nothing.
 use Prim.Native.Nat.{ℕ}
 use mathlib.Core.Path.{_≡_, refl, subst}
 use mathlib.Core.List.{List}
