@@ -7,6 +7,8 @@ pub mod Leaves
 pub mod Constants
 pub mod Laws
 pub mod Picked
+pub mod Sentences
+pub mod Stays
 pub mod Same
 pub mod Never
 pub mod Done
