@@ -1,27 +1,41 @@
--- 02, P6: shorter conditions. First the definitions, in the order in which they are best read: the rules (`Simplify`),
--- what the two entries leave (`Shortened`). Then the theorems.
+-- 02, P6: shorter conditions. First what is to be believed: the rules, and what the two entries answer and leave. Then that
+-- the rules say 02's sentences; that conditions hold in the same states, and are never longer; what the entries answer, by
+-- occasions; demand 3 and verdicts through the shortened list, with a witness; last figures, and wrong turns.
+
+-- ---- the rules, and the answers
+
 pub mod Simplify
 pub mod Shortened
-pub mod Shapes
-pub mod Leaves
-pub mod Constants
-pub mod Laws
+-- ---- the rules as equations; shapes, for the code
+
 pub mod Picked
 pub mod Sentences
 pub mod Stays
+pub mod Shapes
+-- ---- the same states, no new number, never longer, nothing left to shorten
+
+pub mod Laws
+pub mod Leaves
+pub mod Constants
 pub mod Same
 pub mod Never
 pub mod Done
+-- ---- lists, and the entry over two
+
 pub mod Lists
 pub mod Answers
 pub mod TwoLists
 pub mod Handed
+-- ---- from conditions and verdicts to runs
+
 pub mod Through
 pub mod ValidIn
+pub mod Witness
+-- ---- figures and wrong turns
+
 pub mod Figures
 pub mod ListFigures
 pub mod Variants
 pub mod Wrong
 pub mod WrongAnswers
 pub mod WrongParts
-pub mod Witness

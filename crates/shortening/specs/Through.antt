@@ -3,33 +3,35 @@
 -- (`through`), of what the generator leaves (`generated-through`), and for any arithmetic with the laws that the rules
 -- use (`keeps-through`). From verdicts: where no script of P1 for the shortened list has a model (`solved-through`), and
 -- where for every index below the count a text was written for the shortened list whose script has none
--- (`verdicts-through`); these verdicts ask no more than those on the old list (`verdicts-iff`). Assumes nothing.
-use Prim.Native.Nat.{ℕ, _<_}
+-- (`verdicts-through`); that is so exactly where the shortened list is true in all states (`verdicts-iff`). An output of
+-- as many words as the generator's answer tells is long enough for all this (`long-enough`). Assumes nothing.
+use Prim.Native.Nat.{ℕ, _≤_, _<_}
 use mathlib.Core.Path.{_≡_, sym, ap, _∙_, subst}
 use mathlib.Core.Logic.{_↔_}
 use mathlib.Core.Option.{some}
 use mathlib.Core.List.{List}
+use native.Mathlib.Omega.{arith as linear}
 use lib.IntN.{ℤ}
 use lib.Dec.{T}
-use lib.ListN.{length, take}
+use lib.ListN.{length, length-take, take}
 use Rattle.script.specs.declared.Answer.{Answer}
 use Rattle.script.specs.Meaning.{State, Arithmetic, whole, holds}
 use Rattle.script.specs.Run.{Total-correctness}
-use Rattle.script.specs.Conditions.{Condition}
+use Rattle.script.specs.Conditions.{Condition, conditions}
 use Rattle.script.specs.Trees.{tree}
 use Rattle.script.specs.Listing.{read-list}
 use Rattle.script.specs.Generated.{Outcome, outcome}
 use Rattle.script.specs.Promise.{All-valid, List-valid, Demand-3}
 use Rattle.theorems.specs.Options.{some-inj}
-use Rattle.theorems.specs.ReadBack.{read-written}
+use Rattle.theorems.specs.ReadBack.{read-written, written-read}
 use Rattle.theorems.specs.Demand.{keeps, planned-list}
 use Rattle.smt.specs.Verdicts.{List-unsatisfiable, unsatisfiable-iff}
 use Rattle.smt.specs.Refutations.{Refuted, refuted-iff}
 use Rattle.shortening.specs.Simplify.{Order, shorten-all}
 use Rattle.shortening.specs.Laws.{Lawful, All, whole-law}
-use Rattle.shortening.specs.Shortened.{written, used-words}
+use Rattle.shortening.specs.Shortened.{Written, written, used-words}
 use Rattle.shortening.specs.Lists.{count-same, all-valid-iff}
-use Rattle.shortening.specs.Answers.{new-list}
+use Rattle.shortening.specs.Answers.{room-enough, new-list}
 
 -- what is read from the words is one list of conditions
 valid-of : (𝔸 : Arithmetic) (ws : List ℤ) (cs : List Condition) → read-list ws ≡ some cs → List-valid 𝔸 ws ↔ All-valid 𝔸 cs
@@ -70,6 +72,13 @@ module _ (o : Order) where
 
     abbrev Promised : Arithmetic → Type 0
     Promised 𝔸 = (s : State) → T (holds 𝔸 s (tree table .pre)) → Total-correctness 𝔸 (tree table) s
+
+    -- an output of as many words as the generator's answer tells is long enough
+    pub long-enough : left .answer .number ≡ 0 → left .answer .words ≤ room → written o old-words room .number ≡ 0
+    long-enough planned h =
+        let w = written-read old-words (conditions (tree table)) (planned-list table list scratch planned .reads) in
+        let short : length old-words ≤ room = omega (linear, length-take (left .answer .words) (left .list)) in
+        ap (λ (r : Written). r .number) (room-enough o old-words room (conditions (tree table)) w short)
 
     -- the generator planned the table, and the output was long enough
     module _ (planned : left .answer .number ≡ 0) (fits : written o old-words room .number ≡ 0) where
