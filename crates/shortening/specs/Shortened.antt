@@ -23,11 +23,11 @@ pub record Written : Type 0 where
   pub used : ℕ
   pub list : List ℤ
 
--- "refusing, it leaves zeros in all it writes and gives zeros for counts"
+-- 01: "refusing, it leaves zeros in all it writes and gives zeros for counts"
 abbrev pub refuse : ℕ → ℕ → Written
 refuse n room = record { number = n; used = 0; list = zeros room }
 
--- "it gives 0 and the words or bytes used, with zeros after them"
+-- 01: "it gives 0 and the words or bytes used, with zeros after them"
 abbrev pub filled : List ℤ → ℕ → Written
 filled ws room = record { number = 0; used = length ws; list = ws ++ zeros (room - length ws) }
 
@@ -35,7 +35,7 @@ filled ws room = record { number = 0; used = length ws; list = ws ++ zeros (room
 abbrev pub fit : List ℤ → ℕ → Written
 fit ws room = cond (ltb room (length ws)) (refuse 31 room) (filled ws room)
 
--- "after 20"; "Trailers get the new lengths."
+-- "after 20"; the words of the shortened conditions, so that "trailers get the new lengths"
 abbrev pub written-for : Order → Option (List Condition) → ℕ → Written
 written-for o none room = refuse 20 room
 written-for o (some cs) room = fit (list-words (shorten-all o cs)) room
