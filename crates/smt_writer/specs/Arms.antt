@@ -15,10 +15,10 @@ use Rattle.theorems.specs.Writing.{Wrote, then, wrote-as, wrote-length, wrote-w
 use Rattle.smt_writer.specs.declared.terms.Reached.{Reached}
 use Rattle.smt_writer.specs.declared.terms.Shape.{Shape}
 use Rattle.smt_writer.specs.declared.terms.Shape.the-variants.{Leaf, Truth, Single, Pair, Division, Choice}
-use Rattle.smt_writer.specs.Standing.{Stands, stands-as, inside, word, past, front, behind}
-use Rattle.smt_writer.specs.Nodes.{Node, expression, words-of, text-of, size, Node-at, at-place}
+use Rattle.theorems.specs.WordsAt.{Stands, stands-as, inside, word, past, front, behind, Node, expression, words-of, size, node-inside}
+use Rattle.smt_writer.specs.Nodes.{text-of, Node-at, at-place}
 use Rattle.smt_writer.specs.Openings.{opening, leaf-text, truth-name, closes}
-use Rattle.smt_writer.specs.Shapes.{shape-of, A-leaf, A-truth, A-single, A-pair, A-division, A-choice, view, as-leaf, as-truth, as-single, as-pair, as-division, as-choice, node-inside}
+use Rattle.smt_writer.specs.Shapes.{shape-of, A-leaf, A-truth, A-single, A-pair, A-division, A-choice, view, as-leaf, as-truth, as-single, as-pair, as-division, as-choice}
 use Rattle.smt_writer.specs.Turns.{Begins, Written, Turns, leaf, onward}
 use Rattle.smt_writer.specs.Divisions.{Division-at, Divides, Divided, divisor-at}
 
@@ -61,7 +61,7 @@ module _ {ws : List ℤ} {at k : ℕ} {x : Node} (s : Node-at ws at x) where
 
 module _ {ws : List ℤ} {first p₀ at p closing : ℕ} {l₀ l : List ℕ} (g : Turns ws first l₀ p₀ at p closing l) (room : p ≤ length l) where
   pub within : at < length ws
-  within = let b = g .here room in node-inside (b .node) (b .stands)
+  within = let b = g .here room in node-inside (b .node) (b .stands .words)
 
   module _ {k : ℕ} (read : k ≡ field-number (getD ws at (pos 0))) {s : Shape} (told : s ≡ shape-of k) where
     -- ---- a constant, a variable or a mark

@@ -12,10 +12,9 @@ use Rattle.theorems.specs.Reading.{expr-back}
 use Rattle.theorems.specs.Writing.{Wrote}
 use Rattle.list_reader.specs.Ends.{rest-of, after-expression, Expression-ends, ends-past}
 use Rattle.smt_writer.specs.declared.terms.Reached.{Reached}
-use Rattle.smt_writer.specs.Standing.{Stands, front, behind, past}
-use Rattle.smt_writer.specs.Nodes.{expression, Node-at, at-place}
+use Rattle.theorems.specs.WordsAt.{Stands, front, behind, past, expression, node-inside}
+use Rattle.smt_writer.specs.Nodes.{Node-at, at-place}
 use Rattle.smt_writer.specs.Openings.{by-zero-text, before-divisor}
-use Rattle.smt_writer.specs.Shapes.{node-inside}
 use Rattle.smt_writer.specs.Turns.{Begins}
 
 -- n divided by d stands at a place
@@ -48,7 +47,7 @@ module _ {ws : List ℤ} {at k : ℕ} {n d : Expr} (s : Division-at ws at k n d)
   divisor-at = record { words = behind (expr-words n) (past (s .words)); range = s .ranges .1 }
 
   pub division-inside : at + 1 < length ws
-  division-inside = node-inside (expression n) dividend-at
+  division-inside = node-inside (expression n) (dividend-at .words)
 
   pub division-begins : Begins ws (at + 1)
   division-begins = record { node = expression n; stands = dividend-at }

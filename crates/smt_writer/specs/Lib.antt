@@ -1,4 +1,3 @@
-pub mod Standing
 pub mod Openings
 pub mod Nodes
 pub mod Turns

@@ -1,23 +1,13 @@
--- Expressions and formulas alike, as nodes: their words, their text, and that one stands at a place of some words. Assumes
--- nothing.
+-- The text of a node, and that a node stands at a place of some words. Assumes nothing.
 use Prim.Native.Nat.{ℕ}
 use mathlib.Core.Path.{_≡_, sym, _∙_}
 use mathlib.Core.List.{List}
 use lib.IntN.{ℤ}
-use lib.ListN.{length}
-use Rattle.script.specs.Syntax.{Expr, Formula}
-use Rattle.script.specs.Words.{expr-words, formula-words}
+use Rattle.script.specs.Syntax.{Formula}
+use Rattle.script.specs.Words.{formula-words}
 use Rattle.script.specs.WellFormed.{In-range, In-rangeᶠ}
 use Rattle.smt.specs.Pieces.{expr-text, formula-text}
-use Rattle.smt_writer.specs.Standing.{Stands, stands-as, whole-words}
-
-pub data Node : Type 0 where
-  expression : Expr → Node
-  formula : Formula → Node
-
-abbrev pub words-of : Node → List ℤ
-words-of (expression e) = expr-words e
-words-of (formula f) = formula-words f
+use Rattle.theorems.specs.WordsAt.{Stands, stands-as, whole-words, Node, expression, formula, words-of}
 
 abbrev pub text-of : Node → List ℕ
 text-of (expression e) = expr-text e
@@ -26,9 +16,6 @@ text-of (formula f) = formula-text f
 abbrev pub Ranged : Node → Type 0
 Ranged (expression e) = In-range e
 Ranged (formula f) = In-rangeᶠ f
-
-abbrev pub size : Node → ℕ
-size x = length (words-of x)
 
 pub record Node-at (ws : List ℤ) (at : ℕ) (x : Node) : Type 0 where
   pub words : Stands ws at (words-of x)

@@ -22,7 +22,7 @@ use Rattle.script.specs.Listing.{row-limit}
 use Rattle.script.specs.Words.{op-word, rel-word, conn-word, expr-words, formula-words}
 use Rattle.script.specs.WellFormed.{In-range, In-rangeᶠ}
 use Rattle.smt.specs.Translate.{Reference, variable, mark, expr-references, references}
-use Rattle.smt_writer.specs.Standing.{first-inside, first-word, after-first}
+use Rattle.theorems.specs.WordsAt.{first-inside, first-word, after-first}
 use Rattle.smt_writer.specs.Nodes.{Spells}
 use Rattle.smt_writer.specs.Noted.{place-of, variable-place, mark-place, noted, past-place, top-of}
 

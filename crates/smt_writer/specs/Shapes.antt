@@ -1,6 +1,6 @@
 -- What the kind word of a node tells: what it opens (`shape-of`), and so the words and the text of its parts (`view`).
 -- Assumes nothing.
-use Prim.Native.Nat.{ℕ, _<_}
+use Prim.Native.Nat.{ℕ}
 use mathlib.Core.Path.{_≡_, refl, sym, ap, _∙_, subst}
 use mathlib.Core.Bool.{cond}
 use mathlib.Core.Bool as Bool
@@ -8,7 +8,7 @@ use mathlib.Core.List.{List, [], _∷_, _++_}
 use borrow.Author.Tests.{ne-eqb}
 use lib.Dec.{eqb}
 use lib.IntN.{ℤ, pos}
-use lib.ListN.{length, getD}
+use lib.ListN.{getD}
 use Rattle.script.specs.declared.Operator.the-variants.{Plus, Minus, Times, Div, Mod}
 use Rattle.script.specs.declared.Relation.the-variants.{Less, AtMost, Equal, Unequal}
 use Rattle.script.specs.declared.Connective.the-variants.{And, Or, Implies}
@@ -19,8 +19,8 @@ use Rattle.text.specs.Ascii.{bytes}
 use Rattle.smt.specs.Pieces.{expr-text, around-two, const-text, var-text, mark-text, arith-text, neg-text, truth-text, cmp-text, not-text, join-text}
 use Rattle.smt_writer.specs.declared.terms.Shape.{Shape}
 use Rattle.smt_writer.specs.declared.terms.Shape.the-variants.{Leaf, Truth, Single, Pair, Division, Choice}
-use Rattle.smt_writer.specs.Standing.{Stands, inside, word}
-use Rattle.smt_writer.specs.Nodes.{Node, expression, formula, words-of, text-of, Ranged, Node-at}
+use Rattle.theorems.specs.WordsAt.{Stands, word, Node, expression, formula, words-of}
+use Rattle.smt_writer.specs.Nodes.{text-of, Ranged, Node-at}
 use Rattle.smt_writer.specs.Openings.{opening, leaf-text, truth-name, closes, in-turn, before-second, before-third, choose-turn, before-divisor, div-turn, mod-turn}
 
 unfoldable pub shape-of : ℕ → Shape
@@ -150,16 +150,3 @@ module _ {k : ℕ} {x : Node} where
 
   pub as-choice : View k x Choice → A-choice k x
   as-choice (a-choice v) = v
-
-pub node-inside : (x : Node) {ws : List ℤ} {at : ℕ} → Node-at ws at x → at < length ws
-unfolding expr-words
-node-inside (expression (const z)) s = inside (s .words)
-node-inside (expression (var v)) s = inside (s .words)
-node-inside (expression (mark m)) s = inside (s .words)
-node-inside (expression (arith o a b)) s = inside (s .words)
-node-inside (expression (neg a)) s = inside (s .words)
-node-inside (expression (choose f a b)) s = inside (s .words)
-node-inside (formula (truth b)) s = inside (s .words)
-node-inside (formula (cmp r a b)) s = inside (s .words)
-node-inside (formula (not f)) s = inside (s .words)
-node-inside (formula (join c f g)) s = inside (s .words)

@@ -10,7 +10,8 @@ use lib.IntN.{ℤ}
 use lib.ListN.{length, replicate-append-replicate}
 use Rattle.theorems.specs.Writing.{Wrote, stopped, then, past-end, wrote-as}
 use Rattle.smt_writer.specs.declared.terms.Reached.{Reached}
-use Rattle.smt_writer.specs.Nodes.{Node, text-of, size, Node-at}
+use Rattle.theorems.specs.WordsAt.{Node, size}
+use Rattle.smt_writer.specs.Nodes.{text-of, Node-at}
 use Rattle.smt_writer.specs.Openings.{closes}
 
 -- ---- what the writer asks and leaves

@@ -12,6 +12,7 @@ pub mod Induction
 pub mod Sets
 pub mod Writing
 pub mod Clearing
+pub mod WordsAt
 -- ---- div and mod; the rules are sound
 
 pub mod Division

@@ -2,7 +2,8 @@
 use borrow.Author.Needs.{needs}
 use Rattle.theorems.specs.Writing.{then}
 use Rattle.smt.specs.Pieces.{script-pieces}
-use Rattle.smt_writer.specs.Nodes.{formula, at-front}
+use Rattle.theorems.specs.WordsAt.{formula}
+use Rattle.smt_writer.specs.Nodes.{at-front}
 use Rattle.smt_writer.proofs.write_script.Statement.{statement}
 use Rattle.smt_writer.proofs.write_script.Tie as tie
 

@@ -4,7 +4,7 @@ use borrow.Author.Needs.{needs}
 use borrow.Author.Tests.{eq-eqb, ne-eqb}
 use native.Mathlib.Omega.{arith}
 use Rattle.theorems.specs.Writing.{then}
-use Rattle.smt_writer.specs.Nodes.{expression}
+use Rattle.theorems.specs.WordsAt.{expression}
 use Rattle.smt_writer.specs.Openings.{by-zero-text}
 use Rattle.smt_writer.specs.Divisions.{dividend-at, division-inside, division-begins}
 use Rattle.smt_writer.proofs.terms.write_by_zero.Reads as reads

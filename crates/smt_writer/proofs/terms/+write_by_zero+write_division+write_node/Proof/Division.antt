@@ -3,7 +3,7 @@ use Prim.Native.Nat.{ℕ}
 use borrow.Author.Needs.{needs}
 use native.Mathlib.Omega.{arith}
 use Rattle.theorems.specs.Writing.{then}
-use Rattle.smt_writer.specs.Nodes.{expression}
+use Rattle.theorems.specs.WordsAt.{expression}
 use Rattle.smt_writer.specs.Divisions.{dividend-at, division-inside, division-begins, divisor-place, divisor-stands}
 use Rattle.smt_writer.proofs.terms.write_division.Reads as reads
 use Rattle.smt_writer.proofs.terms.+write_by_zero+write_division+write_node.Lts-write_division as lts

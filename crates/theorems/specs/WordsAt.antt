@@ -1,4 +1,5 @@
--- Words that stand at a place of others, and what then stands at the places of their parts. Assumes nothing.
+-- Words that stand at a place of others, and what then stands at the places of their parts; expressions and formulas alike, as
+-- nodes, with their words. Assumes nothing.
 use Prim.Native.Nat.{ℕ, suc, _+_, _<_}
 use mathlib.Core.Path.{_≡_, refl, sym, ap, _∙_}
 use mathlib.Core.Bool.{Bool, true, false}
@@ -10,6 +11,8 @@ use lib.Dec.{ltb}
 use lib.IntN.{ℤ, pos}
 use lib.ListN.{length, getD, drop, drop-of-length-le}
 use lib.Seq.{drop-cons, drop-drop, drop-append-seam}
+use Rattle.script.specs.Syntax.{Expr, const, var, mark, arith, neg, choose, Formula, truth, cmp, not, join}
+use Rattle.script.specs.Words.{expr-words, formula-words}
 
 -- ---- the words from a place on: the first, and those after it
 
@@ -77,3 +80,43 @@ module _ {ws : List ℤ} {at : ℕ} where
 
 pub whole-words : (ws : List ℤ) → Stands ws 0 ws
 whole-words ws = record { rest = []; is = sym (append-nil ws) }
+
+-- ---- nodes
+
+pub data Node : Type 0 where
+  expression : Expr → Node
+  formula : Formula → Node
+
+abbrev pub words-of : Node → List ℤ
+words-of (expression e) = expr-words e
+words-of (formula f) = formula-words f
+
+abbrev pub size : Node → ℕ
+size x = length (words-of x)
+
+-- a node has a word at least
+pub node-inside : (x : Node) {ws : List ℤ} {at : ℕ} → Stands ws at (words-of x) → at < length ws
+unfolding expr-words
+node-inside (expression (const z)) s = inside s
+node-inside (expression (var v)) s = inside s
+node-inside (expression (mark m)) s = inside s
+node-inside (expression (arith o a b)) s = inside s
+node-inside (expression (neg a)) s = inside s
+node-inside (expression (choose f a b)) s = inside s
+node-inside (formula (truth b)) s = inside s
+node-inside (formula (cmp r a b)) s = inside s
+node-inside (formula (not f)) s = inside s
+node-inside (formula (join c f g)) s = inside s
+
+pub node-size : (x : Node) → 0 < size x
+unfolding expr-words
+node-size (expression (const z)) = omega linear
+node-size (expression (var v)) = omega linear
+node-size (expression (mark m)) = omega linear
+node-size (expression (arith o a b)) = omega linear
+node-size (expression (neg a)) = omega linear
+node-size (expression (choose f a b)) = omega linear
+node-size (formula (truth b)) = omega linear
+node-size (formula (cmp r a b)) = omega linear
+node-size (formula (not f)) = omega linear
+node-size (formula (join c f g)) = omega linear

@@ -1,0 +1,23 @@
+-- `shortener::rules::and_change` meets its contract: the rules are tried in their order. Assumes nothing.
+use native.Mathlib.Omega.{arith}
+use Rattle.shortener.specs.Codes.{is-not}
+use Rattle.shortener.proofs.rules.and_change.Statement.{statement}
+use Rattle.shortener.proofs.rules.and_change.Tie as tie
+
+returns : tie.Need-returns
+returns c = rw (c .if1 .taken)
+
+returns-2 : tie.Need-returns-2
+returns-2 c = rw (is-not (c .before .before .args .x) 2 (omega arith) (c .before .if1 .left), c .if2 .taken)
+
+returns-3 : tie.Need-returns-3
+returns-3 c = rw (is-not (c .before .before .before .args .x) 2 (omega arith) (c .before .before .if1 .left), is-not (c .before .before .before .args .y) 2 (omega arith) (c .before .if2 .left), c .if3 .taken)
+
+returns-4 : tie.Need-returns-4
+returns-4 c = rw (is-not (c .before .before .before .before .args .x) 2 (omega arith) (c .before .before .before .if1 .left), is-not (c .before .before .before .before .args .y) 2 (omega arith) (c .before .before .if2 .left), is-not (c .before .before .before .before .args .x) 3 (omega arith) (c .before .if3 .left), c .if4 .taken)
+
+returns-5 : tie.Need-returns-5
+returns-5 c = rw (is-not (c .before .before .before .before .args .x) 2 (omega arith) (c .before .before .before .if1 .left), is-not (c .before .before .before .before .args .y) 2 (omega arith) (c .before .before .if2 .left), is-not (c .before .before .before .before .args .x) 3 (omega arith) (c .before .if3 .left), is-not (c .before .before .before .before .args .y) 3 (omega arith) (c .if4 .left))
+
+pub and-change-spec : {M : Type 1} → statement M
+and-change-spec = tie.close (tie.spec returns returns-2 returns-3 returns-4 returns-5)

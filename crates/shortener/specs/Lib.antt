@@ -1,0 +1,10 @@
+pub mod Codes
+pub mod Entries
+pub mod Planned
+pub mod Known
+pub mod Heads
+pub mod Tasks
+pub mod Turns
+pub mod Arms
+pub mod Moves
+pub mod Lines

@@ -1,0 +1,43 @@
+// The lines of a list, each with its formula shortened and its trailer, and the count.
+
+use crate::writing::write_formula;
+use formula_writer::push;
+use formula_writer::push_two;
+ghost use Rattle.shortener.specs.Lines.{Trailing, Trailed, Ready, All-written};
+
+// Writes the trailer of a formula that was written from `start` to `past`: kind and row as they stand in the list at a place, and
+// how many words the formula has now.
+fn write_trailer(list: &[i32], at: usize, short: &mut [i32], start: usize, past: usize) -> usize
+    requires { ⌜ Trailing (now list) at (now short) start past ⌝ }
+    ensures { λ p. ⌜ Trailed (now (list .entry)) at (now (short .entry)) start past p (now (short .exit)) ⌝ }
+{
+    if short.len() < past {
+        return past;
+    }
+    let p = push_two(short, past, list[at], list[at + 1]);
+    push(short, p, (past - start) as i32)
+}
+
+// Writes all lines of a list, which has so many, and the count.
+pub fn write_lines(
+    list: &[i32],
+    count: usize,
+    ends: &[usize],
+    changes: &mut [u8],
+    short: &mut [i32],
+) -> usize
+    requires { ⌜ Ready (now list) count (now ends) (now changes) ⌝ }
+    ensures { λ p. ⌜ All-written (now (list .entry)) count (now (short .entry)) p (now (short .exit)) ⌝ }
+{
+    let mut at = 0;
+    let mut p = 0;
+    let mut left = count;
+    while 0 < left {
+        let end = ends[at];
+        let past = write_formula(list, at, end, ends, changes, short, p);
+        p = write_trailer(list, end, short, p, past);
+        at = end + 3;
+        left = left - 1;
+    }
+    push(short, p, list[at])
+}

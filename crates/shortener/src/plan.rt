@@ -1,0 +1,157 @@
+// What becomes of each word of a list, taken as the kind of a node: where the node ends, its shape when it is shortened, and what it
+// becomes. All words are gone through from the last one back, so that the parts of a node are known before it. What is found at a
+// word that is no kind is of no use, and does no harm: nothing looks there.
+
+use crate::rules::IS_FALSE;
+use crate::rules::IS_TRUE;
+use crate::rules::KEPT;
+use crate::rules::KEPT_WITH_NUMBER;
+use crate::rules::ONE;
+use crate::rules::OTHER;
+use crate::rules::ZERO;
+use crate::rules::changed_shape;
+use crate::rules::not_change;
+use crate::rules::pair_change;
+use script::field_number;
+use script::kinds;
+ghost use mathlib.Core.Path.{_≡_};
+ghost use Prim.Native.Nat.{_≤_, _<_};
+ghost use lib.IntN.{pos};
+ghost use lib.ListN.{length, getD};
+ghost use Rattle.shortener.specs.Entries.{number-code, pair-entry, not-entry, entry-at};
+ghost use Rattle.shortener.specs.Known.{Roomy, Planned};
+
+// Of a node: the place past it, its shape when it is shortened, and what it becomes.
+pub struct Entry {
+    pub end: usize,
+    pub shape: u8,
+    pub change: u8,
+}
+
+// The place past the part that begins at a place.
+fn end_at(ends: &[usize], at: usize) -> usize
+    ensures { λ r. ⌜ r ≡ getD (now (ends .entry)) at 0 ⌝ }
+{
+    if at < ends.len() { ends[at] } else { 0 }
+}
+
+// The shape of the part that begins at a place.
+fn shape_at(shapes: &[u8], at: usize) -> u8
+    ensures { λ r. ⌜ r ≡ getD (now (shapes .entry)) at 0 ⌝ }
+{
+    if at < shapes.len() { shapes[at] } else { 0 }
+}
+
+// The shape of the constant whose number stands at a place.
+fn number_shape(words: &[i32], at: usize) -> u8
+    ensures { λ r. ⌜ r ≡ number-code (getD (now (words .entry)) at (pos 0)) ⌝ }
+{
+    if words.len() <= at {
+        return ZERO;
+    }
+    let number = words[at];
+    match number {
+        0 => ZERO,
+        1 => ONE,
+        _ => OTHER,
+    }
+}
+
+// The entry of a not at a place.
+fn not_entry(at: usize, ends: &[usize], shapes: &[u8]) -> Entry
+    requires { ⌜ at < 16384 ⌝ }
+    ensures { λ r. ⌜ r ≡ not-entry (now (ends .entry)) (now (shapes .entry)) at ⌝ }
+{
+    let end = end_at(ends, at + 1);
+    let x = shape_at(shapes, at + 1);
+    let change = not_change(x);
+    let shape = changed_shape(change, x, OTHER);
+    Entry { end, shape, change }
+}
+
+// The entry of a node with two parts at a place.
+fn pair_entry(kind: usize, at: usize, ends: &[usize], shapes: &[u8]) -> Entry
+    requires { ⌜ at < 16384 ⌝ }
+    ensures { λ r. ⌜ r ≡ pair-entry kind (now (ends .entry)) (now (shapes .entry)) at ⌝ }
+{
+    let middle = end_at(ends, at + 1);
+    let end = end_at(ends, middle);
+    let x = shape_at(shapes, at + 1);
+    let y = shape_at(shapes, middle);
+    let change = pair_change(kind, x, y);
+    let shape = changed_shape(change, x, y);
+    Entry { end, shape, change }
+}
+
+// The entry of the word at a place, with those of all words after it.
+pub fn entry_at(words: &[i32], at: usize, ends: &[usize], shapes: &[u8]) -> Entry
+    requires { ⌜ (at < length (now words)) × (at < 16384) ⌝ }
+    ensures { λ r. ⌜ r ≡ entry-at (now (words .entry)) (now (ends .entry)) (now (shapes .entry)) at ⌝ }
+{
+    let kind = field_number(words[at]);
+    match kind {
+        kinds::CONSTANT => {
+            let shape = number_shape(words, at + 1);
+            Entry {
+                end: at + 2,
+                shape,
+                change: KEPT_WITH_NUMBER,
+            }
+        }
+        kinds::VARIABLE => Entry {
+            end: at + 2,
+            shape: OTHER,
+            change: KEPT_WITH_NUMBER,
+        },
+        kinds::MARK => Entry {
+            end: at + 2,
+            shape: OTHER,
+            change: KEPT_WITH_NUMBER,
+        },
+        kinds::TRUE => Entry {
+            end: at + 1,
+            shape: IS_TRUE,
+            change: KEPT,
+        },
+        kinds::FALSE => Entry {
+            end: at + 1,
+            shape: IS_FALSE,
+            change: KEPT,
+        },
+        kinds::NEGATE => {
+            let end = end_at(ends, at + 1);
+            Entry {
+                end,
+                shape: OTHER,
+                change: KEPT,
+            }
+        }
+        kinds::CHOOSE => {
+            let formula = end_at(ends, at + 1);
+            let chosen = end_at(ends, formula);
+            let end = end_at(ends, chosen);
+            Entry {
+                end,
+                shape: OTHER,
+                change: KEPT,
+            }
+        }
+        kinds::NOT => not_entry(at, ends, shapes),
+        _ => pair_entry(kind, at, ends, shapes),
+    }
+}
+
+// Finds the entries of all words.
+pub fn plan(words: &[i32], ends: &mut [usize], shapes: &mut [u8], changes: &mut [u8])
+    requires { ⌜ Roomy (now words) (now ends) (now shapes) (now changes) ⌝ }
+    ensures { λ _. ⌜ Planned (now (words .entry)) (now (ends .exit)) (now (shapes .exit)) (now (changes .exit)) ⌝ }
+{
+    let mut at = words.len();
+    while 0 < at {
+        at = at - 1;
+        let entry = entry_at(words, at, ends, shapes);
+        ends[at] = entry.end;
+        shapes[at] = entry.shape;
+        changes[at] = entry.change;
+    }
+}
