@@ -4,7 +4,7 @@ use mathlib.Core.Path.{_≡_, refl, sym, ap, _∙_}
 use mathlib.Core.Bool.{Bool, true, false, cond}
 use mathlib.Core.List.{List, _∷_, _++_, append-assoc}
 use native.Mathlib.Omega.{arith}
-use native.Mathlib.Nat.{sub-zero, zero-sub, suc-sub-suc, zero-add, le-trans, mul-le-mul}
+use native.Mathlib.Nat.{zero-add, le-trans, mul-le-mul}
 use borrow.Author.Tests.{lt-ltb, le-ltb}
 use lib.Dec.{ltb, lit≤}
 use mir.Val.{Fits}
@@ -19,6 +19,7 @@ use Rattle.script.specs.Trees.{tree, nesting}
 use Rattle.script.specs.Refusals.{verdict, accepted, refused}
 use Rattle.script.specs.declared.Answer.{Answer}
 use Rattle.theorems.specs.Accepted.{passed}
+use Rattle.theorems.specs.Clearing.{drop-replicate}
 use Rattle.line_writer.specs.declared.Progress.{Progress}
 use Rattle.line_writer.specs.Spelled.{Whole, whole, cut}
 use Rattle.script.specs.Generated.{Outcome, zeros, refusal, refuse, plan, room, scratch-need, outcome-for, outcome, outcome-within}
@@ -61,17 +62,12 @@ take-zeros zero m h = refl
 take-zeros (suc n) zero h = absurd (omega arith)
 take-zeros (suc n) (suc m) h = ap (λ (l : List ℤ). pos 0 ∷ l) (take-zeros n m (omega arith))
 
-drop-zeros : (n m : ℕ) → drop n (zeros m) ≡ zeros (m - n)
-drop-zeros zero m = rw sub-zero
-drop-zeros (suc n) zero = rw zero-sub
-drop-zeros (suc n) (suc m) = rw suc-sub-suc (drop-zeros n m)
-
 -- the words vs in the first n of m cleared words
 front-written : (l : List ℤ) (n m : ℕ) (vs : List ℤ) → l ≡ zeros m → n ≤ m → length vs ≤ n
     → sets (take n l) 0 vs ++ drop n l ≡ vs ++ zeros (m - length vs)
 front-written l n m vs e h k =
     let rest : n - length vs + (m - n) ≡ m - length vs = omega arith in
-    rw (e, take-zeros n m h, drop-zeros n m, sets-eq vs (zeros n) 0 fits, zero-add, drop-zeros (length vs) n)
+    rw (e, take-zeros n m h, drop-replicate (pos 0) n m, sets-eq vs (zeros n) 0 fits, zero-add, drop-replicate (pos 0) (length vs) n)
     (append-assoc vs (zeros (n - length vs)) (zeros (m - n))
     ∙ ap (λ (z : List ℤ). vs ++ z) (replicate-append-replicate (n - length vs) (m - n) (pos 0))
     ∙ ap (λ (i : ℕ). vs ++ zeros i) rest)

@@ -8,3 +8,4 @@ pub mod Turns
 pub mod Arms
 pub mod Moves
 pub mod Lines
+pub mod Entry

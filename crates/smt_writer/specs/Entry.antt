@@ -1,22 +1,21 @@
 -- What is written for a list and an index, by the line that the list reader finds there: its refusal (`refused-written`), or the
 -- text of the condition that stands there, where it fits (`found-written`). Assumes nothing.
-use Prim.Native.Nat.{ℕ, zero, suc, _+_, _-_, _≤_, _<_}
+use Prim.Native.Nat.{ℕ, _≤_, _<_}
 use mathlib.Core.Path.{_≡_, refl, sym, ap, _∙_}
 use mathlib.Core.Logic.{_≢_}
 use mathlib.Core.Option.{Option, none, some}
-use mathlib.Core.List.{List, _++_}
-use native.Mathlib.Nat.{sub-zero, zero-sub, suc-sub-suc}
+use mathlib.Core.List.{List}
 use native.Mathlib.Omega.{arith as linear}
 use lib.IntN.{ℤ, pos, negsuc}
-use lib.ListN.{length, length-replicate, getElem?, drop, replicate}
-use lib.Seq.{sets-eq}
+use lib.ListN.{length, getElem?, replicate}
 use borrow.Author.Tests.{lt-ltb, le-ltb}
 use Rattle.script.specs.declared.Line.{Line}
 use Rattle.script.specs.Syntax.{Formula}
 use Rattle.script.specs.Listing.{Found, lines, read-list, no-line, line-of, line-at, line-at-within, part-at}
 use Rattle.theorems.specs.ReadBack.{conditions-of, written-read}
 use Rattle.theorems.specs.Lookup.{part-at-index, condition-of, range-at}
-use Rattle.theorems.specs.Writing.{Wrote, wrote-whole, wrote-short}
+use Rattle.theorems.specs.Writing.{Wrote, wrote-short}
+use Rattle.theorems.specs.Clearing.{wrote-cleared}
 use Rattle.smt.specs.Translate.{script}
 use Rattle.smt.specs.Text.{script-text}
 use Rattle.smt.specs.Written.{Written, refuse, fit, fit-found, written, written-within}
@@ -67,28 +66,12 @@ pub record Answered (w : Written) (r : TextAnswer) (l : List ℕ) : Type 0 where
 abbrev cleared : ℕ → List ℕ
 cleared n = replicate n 0
 
-pub all-cleared : {l : List ℕ} (n : ℕ) → l ≡ cleared n → l ≡ cleared (length l)
-all-cleared n e = e ∙ ap cleared (sym (ap length e ∙ length-replicate n 0))
-
-drop-cleared : (n m : ℕ) → drop n (cleared m) ≡ cleared (m - n)
-drop-cleared zero m = rw sub-zero
-drop-cleared (suc n) zero = rw zero-sub
-drop-cleared (suc n) (suc m) = rw suc-sub-suc (drop-cleared n m)
-
 -- a text, written into a run that is cleared
 module _ {l ts l′ : List ℕ} {p : ℕ} (zeros : l ≡ cleared (length l)) (w : Wrote l 0 ts p l′) where
   pub fitting : p ≤ length l → Answered (fit ts (length l)) (record { number = 0; used = p }) l′
   fitting h =
-      let whole = wrote-whole w h in
-      let room = le-ltb (length l) (length ts) (whole .0) in
-      rw room (record {
-        number = refl;
-        used = whole .1;
-        text =
-            whole .2
-            ∙ sets-eq ts l 0 (omega (linear, whole .0))
-            ∙ ap (λ (k : List ℕ). ts ++ k) (ap (drop (0 + length ts)) zeros ∙ drop-cleared (0 + length ts) (length l) ∙ ap (λ n. cleared (length l - n)) (omega linear));
-      })
+      let whole = wrote-cleared 0 zeros w h in
+      rw (le-ltb (length l) (length ts) (whole .0)) (record { number = refl; used = whole .1; text = whole .2 })
 
   pub too-long : length l < p → Answered (fit ts (length l)) (record { number = 30; used = 0 }) (cleared (length l))
   too-long h = rw (lt-ltb (length l) (length ts) (wrote-short w h)) (record { number = refl; used = refl; text = refl })

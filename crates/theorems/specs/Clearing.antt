@@ -1,10 +1,14 @@
--- A loop that fills a run with one element from the front on, one place a turn. Assumes nothing.
-use mathlib.Core.Path.{_≡_, refl, ap}
-use mathlib.Core.List.{List, [], _∷_}
-use Prim.Native.Nat.{ℕ, zero, suc, _+_, _≤_, _<_}
+-- A loop that fills a run with one element from the front on, one place a turn; and what was written into a run that is cleared
+-- (`wrote-cleared`). Assumes nothing.
+use mathlib.Core.Path.{_≡_, refl, sym, ap, _∙_}
+use mathlib.Core.List.{List, [], _∷_, _++_}
+use Prim.Native.Nat.{ℕ, zero, suc, _+_, _-_, _≤_, _<_}
+use native.Mathlib.Nat.{sub-zero, zero-sub, suc-sub-suc}
 use native.Mathlib.Omega.{arith}
 use native.Mathlib.Numerals.{add-one}
-use lib.ListN.{length, set, replicate}
+use lib.ListN.{length, length-replicate, set, drop, replicate}
+use lib.Seq.{sets-eq}
+use Rattle.theorems.specs.Writing.{Wrote, wrote-whole}
 
 module _ {A : Type 0} (z : A) where
   -- n places filled
@@ -32,3 +36,25 @@ module _ {A : Type 0} (z : A) where
   cleared-all zero (w ∷ l) h = absurd (omega arith)
   cleared-all (suc n) [] h = refl
   cleared-all (suc n) (w ∷ l) h = ap (λ (k : List A). z ∷ k) (cleared-all n l (omega arith))
+
+  -- ---- a run that is cleared
+
+  pub drop-replicate : (n m : ℕ) → drop n (replicate m z) ≡ replicate (m - n) z
+  drop-replicate zero m = rw sub-zero
+  drop-replicate (suc n) zero = rw zero-sub
+  drop-replicate (suc n) (suc m) = rw suc-sub-suc (drop-replicate n m)
+
+  pub all-cleared : {l : List A} (n : ℕ) → l ≡ replicate n z → l ≡ replicate (length l) z
+  all-cleared n e = e ∙ ap (λ k. replicate k z) (sym (ap length e ∙ length-replicate n z))
+
+  -- what was written stands at its front
+  pub wrote-cleared : {l ts l′ : List A} {p : ℕ} → l ≡ replicate (length l) z → Wrote l 0 ts p l′ → p ≤ length l
+      → (length ts ≤ length l) × (p ≡ length ts) × (l′ ≡ ts ++ replicate (length l - length ts) z)
+  wrote-cleared {l} {ts} zeros w h =
+      let whole = wrote-whole w h in (
+        whole .0,
+        whole .1,
+        whole .2
+            ∙ sets-eq ts l 0 (omega (arith, whole .0))
+            ∙ ap (λ (k : List A). ts ++ k) (ap (drop (0 + length ts)) zeros ∙ drop-replicate (0 + length ts) (length l) ∙ ap (λ n. replicate (length l - n) z) (omega arith)),
+      )

@@ -8,10 +8,11 @@ use lib.Seq.{slice}
 use mir.Facts.{toZ-ofZ}
 use Rattle.script.specs.declared.Line.{Line}
 use Rattle.script.specs.Listing.{line-at, part-at}
+use Rattle.theorems.specs.Clearing.{all-cleared}
 use Rattle.list_reader.proofs.Part.{part-is}
 use Rattle.list_reader.proofs.Fitting.{Fits, line-at-fits}
 use Rattle.smt_writer.specs.Nodes.{spells-as, spelled-as}
-use Rattle.smt_writer.specs.Entry.{refused-answered, found-answered, found-spelled, all-cleared}
+use Rattle.smt_writer.specs.Entry.{refused-answered, found-answered, found-spelled}
 use Rattle.smt_writer.proofs.write_condition.Statement.{statement}
 use Rattle.smt_writer.proofs.write_condition.Tie as tie
 
@@ -53,7 +54,7 @@ write-fitting-requires c κs =
     let start = Start (arm .before) in (
       spelled-as (sym (part (arm .before)))
           (found-spelled (start .args .list .now) (start .args .index) (sym (number (arm .before)) ∙ arm .if1 .left)),
-      all-cleared (length (start .args .text .now)) (zeros (arm .before)),
+      all-cleared 0 (length (start .args .text .now)) (zeros (arm .before)),
     )
 
 returns-2 : tie.Need-returns-2
