@@ -1,5 +1,5 @@
-// The entries for other languages: the reader of text, the check, the list reader, the generator and the writer of solver scripts, with their
-// answers as numbers that the caller lends. A slice is its place and its length.
+// The entries for other languages: the reader of text, the check, the list reader, the generator, the pass that shortens lists, and the
+// writer of solver scripts, with their answers as numbers that the caller lends. A slice is its place and its length.
 
 use editor::Record;
 use script::Answer;
@@ -12,9 +12,12 @@ ghost use Rattle.editor.specs.Flat.{flat};
 ghost use Rattle.script.specs.Listing.{line-at, first-place, step-back, next-place};
 ghost use Rattle.script.specs.Promise.{Demand-3};
 ghost use Rattle.smt.specs.Written.{written};
+ghost use Rattle.shortening.specs.Simplify.{order};
+ghost use Rattle.shortening.specs.Shortened.{written as written-short, shorter};
 ghost use Rattle.grammar.specs.Answer.{answer};
 ghost use Rattle.exports.specs.Told.{Told, answer-of};
 ghost use Rattle.exports.specs.Verdicts.{number-of, row-of};
+ghost use Rattle.exports.specs.Sides.{side-number};
 
 // The verdict on a table: number and row, both 0 where it is accepted.
 #[no_mangle]
@@ -194,4 +197,48 @@ pub extern "C" fn leqwarti_read(
     *number = reading.number;
     *place = reading.place;
     *used = reading.used;
+}
+
+// Writes a list whose conditions are shortened: number, and how many words of the new list were used.
+#[no_mangle]
+pub extern "C" fn leqwarti_shorten(
+    list: &[i32],
+    short: &mut [i32],
+    number: &mut usize,
+    used: &mut usize,
+)
+    ensures number { λ _. ⌜ now (number .exit) ≡ written-short order (now (list .entry)) (length (now (short .entry))) .number ⌝ }
+    ensures used { λ _. ⌜ now (used .exit) ≡ written-short order (now (list .entry)) (length (now (short .entry))) .used ⌝ }
+    ensures short { λ _. ⌜ now (short .exit) ≡ written-short order (now (list .entry)) (length (now (short .entry))) .list ⌝ }
+{
+    let answer = shortener::shorten(list, short);
+    *number = answer.number;
+    *used = answer.used;
+}
+
+// The shorter of the two formulas at an index: number, in which list it stands (0 the old, 1 the new), and from where to where.
+#[no_mangle]
+pub extern "C" fn leqwarti_shorter(
+    old: &[i32],
+    new: &[i32],
+    index: i32,
+    number: &mut usize,
+    side: &mut usize,
+    start: &mut usize,
+    end: &mut usize,
+)
+    ensures number { λ _. ⌜ now (number .exit) ≡ shorter (now (old .entry)) (now (new .entry)) index .number ⌝ }
+    ensures side { λ _. ⌜ now (side .exit) ≡ side-number (shorter (now (old .entry)) (now (new .entry)) index .which) ⌝ }
+    ensures start { λ _. ⌜ now (start .exit) ≡ shorter (now (old .entry)) (now (new .entry)) index .start ⌝ }
+    ensures end { λ _. ⌜ now (end .exit) ≡ shorter (now (old .entry)) (now (new .entry)) index .end ⌝ }
+{
+    let part = shortener::shorter_part(old, new, index);
+    *number = part.number;
+    *start = part.start;
+    *end = part.end;
+    if part.in_new {
+        *side = 1;
+    } else {
+        *side = 0;
+    }
 }

@@ -9,3 +9,4 @@ pub mod Arms
 pub mod Moves
 pub mod Lines
 pub mod Entry
+pub mod Parts

@@ -18,6 +18,7 @@ ghost use Rattle.script.specs.Generated.{zeros};
 ghost use Rattle.shortening.specs.Simplify.{order};
 ghost use Rattle.shortening.specs.Shortened.{written, shorter, part-for, part-words};
 ghost use Rattle.shortener.specs.Entry.{Written-short};
+ghost use Rattle.shortener.specs.Parts.{Ordered, Told, chosen};
 
 // What is answered beside the new list: the number, and how many words were used.
 pub struct ShortAnswer {
@@ -61,4 +62,76 @@ pub fn shorten(list: &[i32], short: &mut [i32]) -> ShortAnswer
         };
     }
     ShortAnswer { number: 0, used }
+}
+
+// Which of two lists, and from where to where in it; with the number of a refusal, or 0.
+pub struct Part {
+    pub number: usize,
+    pub in_new: bool,
+    pub start: usize,
+    pub end: usize,
+}
+
+// The shorter of two lines, the old one if they are of one length.
+fn shorter_of(old: Line, new: Line) -> Part
+    requires { ⌜ Ordered old × Ordered new ⌝ }
+    ensures { λ r. ⌜ Told (part-for old new) r ⌝ }
+{
+    if old.number != 0 {
+        return Part {
+            number: old.number,
+            in_new: false,
+            start: 0,
+            end: 0,
+        };
+    }
+    if new.number != 0 {
+        return Part {
+            number: new.number,
+            in_new: false,
+            start: 0,
+            end: 0,
+        };
+    }
+    if new.end - new.start < old.end - old.start {
+        return Part {
+            number: 0,
+            in_new: true,
+            start: new.start,
+            end: new.end,
+        };
+    }
+    Part {
+        number: 0,
+        in_new: false,
+        start: old.start,
+        end: old.end,
+    }
+}
+
+// Where the shorter of the two formulas at an index stands: 20 and 21 for the old list, then for the new.
+pub fn shorter_part(old: &[i32], new: &[i32], index: i32) -> Part
+    ensures { λ r. ⌜ Told (shorter (now (old .entry)) (now (new .entry)) index) r ⌝ }
+{
+    let a = list_reader::line_at(old, index);
+    let b = list_reader::line_at(new, index);
+    shorter_of(a, b)
+}
+
+// The shorter of the two formulas at an index, where it stands, and the number; refused, the empty part at the old list's front.
+pub fn shorter<'a>(old: &'a [i32], new: &'a [i32], index: i32, number: &mut usize) -> &'a [i32]
+    ensures number { λ r. ⌜ now (number .exit) ≡ shorter (now (old .entry)) (now (new .entry)) index .number ⌝ }
+    ensures words { λ r. ⌜ now r ≡ part-words (now (old .entry)) (now (new .entry)) (shorter (now (old .entry)) (now (new .entry)) index) ⌝ }
+    ensures block { λ r. ⌜ ptr r .0 ≡ ptr (chosen (shorter (now (old .entry)) (now (new .entry)) index) (old .entry) (new .entry)) .0 ⌝ }
+    ensures place { λ r. ⌜ ptr r .1 ≡ 4 * (shorter (now (old .entry)) (now (new .entry)) index .start)
+        + ptr (chosen (shorter (now (old .entry)) (now (new .entry)) index) (old .entry) (new .entry)) .1 ⌝ }
+{
+    let part = shorter_part(old, new, index);
+    *number = part.number;
+    let start = part.start;
+    let end = part.end;
+    if part.in_new {
+        return &new[start..end];
+    }
+    &old[start..end]
 }
