@@ -211,9 +211,9 @@ pub extern "C" fn leqwarti_shorten(
     ensures used { λ _. ⌜ now (used .exit) ≡ written-short order (now (list .entry)) (length (now (short .entry))) .used ⌝ }
     ensures short { λ _. ⌜ now (short .exit) ≡ written-short order (now (list .entry)) (length (now (short .entry))) .list ⌝ }
 {
-    let answer = shortener::shorten(list, short);
-    *number = answer.number;
-    *used = answer.used;
+    let shortened = shortener::shorten(list, short);
+    *number = shortened.number;
+    *used = shortened.used;
 }
 
 // The shorter of the two formulas at an index: number, in which list it stands (0 the old, 1 the new), and from where to where.

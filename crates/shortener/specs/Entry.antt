@@ -5,7 +5,7 @@ use mathlib.Core.Option.{Option, none, some}
 use mathlib.Core.List.{List, _++_}
 use native.Mathlib.Omega.{arith as linear}
 use lib.IntN.{ℤ, pos}
-use lib.ListN.{length, length-map}
+use lib.ListN.{length, length-map, length-replicate, replicate}
 use Rattle.script.specs.Conditions.{Condition}
 use Rattle.script.specs.Words.{list-words}
 use Rattle.script.specs.Generated.{zeros}
@@ -19,7 +19,7 @@ use Rattle.shortening.specs.Shortened.{Written, refuse, filled, written}
 use Rattle.shortening.specs.Answers.{only-answer, torn, too-short, fits}
 use Rattle.shortener.specs.declared.ShortAnswer.{ShortAnswer}
 use Rattle.shortener.specs.Planned.{Known}
-use Rattle.shortener.specs.Known.{Planned}
+use Rattle.shortener.specs.Known.{Roomy, Planned}
 use Rattle.shortener.specs.Tasks.{Told}
 use Rattle.shortener.specs.Turns.{Ended}
 use Rattle.shortener.specs.Lines.{Listed, Ready, All-written}
@@ -67,6 +67,12 @@ uncounted ws e cs w = of-lines (lines ws) refl
 
 -- ---- what the pass has before it
 
+-- runs of n entries, for a list that is no longer
+pub roomy : {ws : List ℤ} {count : ℕ} (n : ℕ) → Counted ws count → length ws ≤ n → Roomy ws (replicate n 0) (replicate n 0) (replicate n 0)
+roomy n c h =
+    let m = length-replicate {A = ℕ} n 0 in
+    record { short = c .well .short; ends = omega (linear, m); shapes = omega (linear, m); changes = omega (linear, m) }
+
 pub ready : {ws : List ℤ} {count : ℕ} {es ss ks : List ℕ} → Counted ws count → Planned ws es ss ks → Ready ws count es ks
 ready c p = record {
   conditions = c .conditions;
@@ -75,6 +81,13 @@ ready c p = record {
   ended = record { room = p .roomy .ends; end = λ at x s. p .known .right at x (omega linear) s .end };
   told = record { told = λ at x h i s. p .known .right at x (omega linear) s .change };
   room = p .roomy .changes;
+}
+
+pub written-short : {ws l l′ : List ℤ} {count p : ℕ} → Counted ws count → All-written ws count l p l′ → Written-short ws l p l′
+written-short c w = record {
+  conditions = c .conditions;
+  well = c .well;
+  wrote = w (c .conditions) (record { spells = c .well .spells; counted = c .many });
 }
 
 -- ---- the answer

@@ -10,14 +10,12 @@ use lines::write_lines;
 use plan::plan;
 use script::Line;
 ghost use mathlib.Core.Path.{_≡_};
-ghost use Prim.Native.Nat.{_+_, _*_, _<_};
+ghost use Prim.Native.Nat.{_+_, _*_, _≤_};
 ghost use lib.ListN.{length};
 ghost use denote.Ref.{ptr};
-ghost use Rattle.script.specs.Listing.{condition-count};
-ghost use Rattle.script.specs.Generated.{zeros};
 ghost use Rattle.shortening.specs.Simplify.{order};
 ghost use Rattle.shortening.specs.Shortened.{written, shorter, part-for, part-words};
-ghost use Rattle.shortener.specs.Entry.{Written-short};
+ghost use Rattle.shortener.specs.Entry.{Counted, Written-short};
 ghost use Rattle.shortener.specs.Parts.{Ordered, Told, chosen};
 
 // What is answered beside the new list: the number, and how many words were used.
@@ -26,9 +24,9 @@ pub struct ShortAnswer {
     pub used: usize,
 }
 
-// Writes the list, which has so many conditions, shortened, into a run that is cleared; gives the place past it.
-fn write_short(list: &[i32], count: usize, short: &mut [i32]) -> usize
-    requires { ⌜ (count ≡ condition-count (now list)) × (0 < count) ⌝ }
+// Writes the list, which has so many conditions, shortened; gives the place past it.
+fn write_long(list: &[i32], count: usize, short: &mut [i32]) -> usize
+    requires { ⌜ Counted (now list) count ⌝ }
     ensures { λ p. ⌜ Written-short (now (list .entry)) (now (short .entry)) p (now (short .exit)) ⌝ }
 {
     let mut ends = [0usize; 16384];
@@ -36,6 +34,29 @@ fn write_short(list: &[i32], count: usize, short: &mut [i32]) -> usize
     let mut changes = [0u8; 16384];
     plan(list, &mut ends, &mut shapes, &mut changes);
     write_lines(list, count, &ends, &mut changes, short)
+}
+
+// The same for a list that fits shorter runs, which are cleared sooner.
+fn write_brief(list: &[i32], count: usize, short: &mut [i32]) -> usize
+    requires { ⌜ Counted (now list) count × (length (now list) ≤ 512) ⌝ }
+    ensures { λ p. ⌜ Written-short (now (list .entry)) (now (short .entry)) p (now (short .exit)) ⌝ }
+{
+    let mut ends = [0usize; 512];
+    let mut shapes = [0u8; 512];
+    let mut changes = [0u8; 512];
+    plan(list, &mut ends, &mut shapes, &mut changes);
+    write_lines(list, count, &ends, &mut changes, short)
+}
+
+// Writes the list, which has so many conditions, shortened; gives the place past it.
+fn write_short(list: &[i32], count: usize, short: &mut [i32]) -> usize
+    requires { ⌜ Counted (now list) count ⌝ }
+    ensures { λ p. ⌜ Written-short (now (list .entry)) (now (short .entry)) p (now (short .exit)) ⌝ }
+{
+    if list.len() <= 512 {
+        return write_brief(list, count, short);
+    }
+    write_long(list, count, short)
 }
 
 // Writes a list whose conditions are shortened, with zeros behind it: 20 where the words are no list, 31 where the new list is longer

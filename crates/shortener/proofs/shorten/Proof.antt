@@ -9,7 +9,7 @@ use lib.ListN.{length, length-replicate}
 use Rattle.script.specs.Generated.{zeros}
 use Rattle.theorems.specs.Writing.{wrote-length}
 use Rattle.theorems.specs.Clearing.{all-cleared}
-use Rattle.shortener.specs.Entry.{no-list, no-room, fitting}
+use Rattle.shortener.specs.Entry.{counted, no-list, no-room, fitting}
 use Rattle.shortener.proofs.shorten.Statement.{statement}
 use Rattle.shortener.proofs.shorten.Tie as tie
 
@@ -39,7 +39,8 @@ returns c =
 write-short-requires : tie.Need-write-short-requires
 write-short-requires c κs =
     let arm = c .before in
-    (arm .before .condition-count .ensures, positive (arm .before .condition-count .result) (arm .if1 .left))
+    let count = arm .before in
+    counted (Start count .args .list .now) (count .condition-count .result) (count .condition-count .ensures) (positive (count .condition-count .result) (arm .if1 .left))
   where
     positive : (n : ℕ) → (n ≡ 0 → ⊥) → 0 < n
     positive zero h = absurd (h refl)
