@@ -29,7 +29,7 @@ fn write_long(list: &[i32], count: usize, short: &mut [i32]) -> usize
     requires { ⌜ Counted (now list) count ⌝ }
     ensures { λ p. ⌜ Written-short (now (list .entry)) (now (short .entry)) p (now (short .exit)) ⌝ }
 {
-    let mut ends = [0usize; 16384];
+    let mut ends = [0u16; 16384];
     let mut shapes = [0u8; 16384];
     let mut changes = [0u8; 16384];
     plan(list, &mut ends, &mut shapes, &mut changes);
@@ -41,7 +41,7 @@ fn write_brief(list: &[i32], count: usize, short: &mut [i32]) -> usize
     requires { ⌜ Counted (now list) count × (length (now list) ≤ 512) ⌝ }
     ensures { λ p. ⌜ Written-short (now (list .entry)) (now (short .entry)) p (now (short .exit)) ⌝ }
 {
-    let mut ends = [0usize; 512];
+    let mut ends = [0u16; 512];
     let mut shapes = [0u8; 512];
     let mut changes = [0u8; 512];
     plan(list, &mut ends, &mut shapes, &mut changes);

@@ -1,5 +1,6 @@
 // The lines of a list, each with its formula shortened and its trailer, and the count.
 
+use crate::plan::place;
 use crate::writing::write_formula;
 use formula_writer::push;
 use formula_writer::push_two;
@@ -22,7 +23,7 @@ fn write_trailer(list: &[i32], at: usize, short: &mut [i32], start: usize, past:
 pub fn write_lines(
     list: &[i32],
     count: usize,
-    ends: &[usize],
+    ends: &[u16],
     changes: &mut [u8],
     short: &mut [i32],
 ) -> usize
@@ -33,7 +34,7 @@ pub fn write_lines(
     let mut p = 0;
     let mut left = count;
     while 0 < left {
-        let end = ends[at];
+        let end = place(ends[at]);
         let past = write_formula(list, at, end, ends, changes, short, p);
         p = write_trailer(list, end, short, p, past);
         at = end + 3;

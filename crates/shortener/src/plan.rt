@@ -23,13 +23,20 @@ ghost use Rattle.shortener.specs.Known.{Roomy, Planned};
 
 // Of a node: the place past it, its shape when it is shortened, and what it becomes.
 pub struct Entry {
-    pub end: usize,
+    pub end: u16,
     pub shape: u8,
     pub change: u8,
 }
 
+// A place, which the runs have in 16 bits: the longest list has 16,384 words.
+pub fn place(end: u16) -> usize
+    ensures { λ r. ⌜ r ≡ end ⌝ }
+{
+    end as usize
+}
+
 // The place past the part that begins at a place.
-fn end_at(ends: &[usize], at: usize) -> usize
+fn end_at(ends: &[u16], at: usize) -> u16
     ensures { λ r. ⌜ r ≡ getD (now (ends .entry)) at 0 ⌝ }
 {
     if at < ends.len() { ends[at] } else { 0 }
@@ -58,7 +65,7 @@ fn number_shape(words: &[i32], at: usize) -> u8
 }
 
 // The entry of a not at a place.
-fn not_entry(at: usize, ends: &[usize], shapes: &[u8]) -> Entry
+fn not_entry(at: usize, ends: &[u16], shapes: &[u8]) -> Entry
     requires { ⌜ at < 16384 ⌝ }
     ensures { λ r. ⌜ r ≡ not-entry (now (ends .entry)) (now (shapes .entry)) at ⌝ }
 {
@@ -70,11 +77,11 @@ fn not_entry(at: usize, ends: &[usize], shapes: &[u8]) -> Entry
 }
 
 // The entry of a node with two parts at a place.
-fn pair_entry(kind: usize, at: usize, ends: &[usize], shapes: &[u8]) -> Entry
+fn pair_entry(kind: usize, at: usize, ends: &[u16], shapes: &[u8]) -> Entry
     requires { ⌜ at < 16384 ⌝ }
     ensures { λ r. ⌜ r ≡ pair-entry kind (now (ends .entry)) (now (shapes .entry)) at ⌝ }
 {
-    let middle = end_at(ends, at + 1);
+    let middle = place(end_at(ends, at + 1));
     let end = end_at(ends, middle);
     let x = shape_at(shapes, at + 1);
     let y = shape_at(shapes, middle);
@@ -84,7 +91,7 @@ fn pair_entry(kind: usize, at: usize, ends: &[usize], shapes: &[u8]) -> Entry
 }
 
 // The entry of the word at a place, with those of all words after it.
-pub fn entry_at(words: &[i32], at: usize, ends: &[usize], shapes: &[u8]) -> Entry
+pub fn entry_at(words: &[i32], at: usize, ends: &[u16], shapes: &[u8]) -> Entry
     requires { ⌜ (at < length (now words)) × (at < 16384) ⌝ }
     ensures { λ r. ⌜ r ≡ entry-at (now (words .entry)) (now (ends .entry)) (now (shapes .entry)) at ⌝ }
 {
@@ -93,28 +100,28 @@ pub fn entry_at(words: &[i32], at: usize, ends: &[usize], shapes: &[u8]) -> Entr
         kinds::CONSTANT => {
             let shape = number_shape(words, at + 1);
             Entry {
-                end: at + 2,
+                end: (at + 2) as u16,
                 shape,
                 change: KEPT_WITH_NUMBER,
             }
         }
         kinds::VARIABLE => Entry {
-            end: at + 2,
+            end: (at + 2) as u16,
             shape: OTHER,
             change: KEPT_WITH_NUMBER,
         },
         kinds::MARK => Entry {
-            end: at + 2,
+            end: (at + 2) as u16,
             shape: OTHER,
             change: KEPT_WITH_NUMBER,
         },
         kinds::TRUE => Entry {
-            end: at + 1,
+            end: (at + 1) as u16,
             shape: IS_TRUE,
             change: KEPT,
         },
         kinds::FALSE => Entry {
-            end: at + 1,
+            end: (at + 1) as u16,
             shape: IS_FALSE,
             change: KEPT,
         },
@@ -127,8 +134,8 @@ pub fn entry_at(words: &[i32], at: usize, ends: &[usize], shapes: &[u8]) -> Entr
             }
         }
         kinds::CHOOSE => {
-            let formula = end_at(ends, at + 1);
-            let chosen = end_at(ends, formula);
+            let formula = place(end_at(ends, at + 1));
+            let chosen = place(end_at(ends, formula));
             let end = end_at(ends, chosen);
             Entry {
                 end,
@@ -142,7 +149,7 @@ pub fn entry_at(words: &[i32], at: usize, ends: &[usize], shapes: &[u8]) -> Entr
 }
 
 // Finds the entries of all words.
-pub fn plan(words: &[i32], ends: &mut [usize], shapes: &mut [u8], changes: &mut [u8])
+pub fn plan(words: &[i32], ends: &mut [u16], shapes: &mut [u8], changes: &mut [u8])
     requires { ⌜ Roomy (now words) (now ends) (now shapes) (now changes) ⌝ }
     ensures { λ _. ⌜ Planned (now (words .entry)) (now (ends .exit)) (now (shapes .exit)) (now (changes .exit)) ⌝ }
 {

@@ -1,5 +1,6 @@
 // A formula written anew, word after word, as its entries say: each word once at most, and none moved.
 
+use crate::plan::place;
 use crate::rules::FALSE;
 use crate::rules::FIRST;
 use crate::rules::KEPT;
@@ -22,7 +23,7 @@ pub fn write_formula(
     words: &[i32],
     first: usize,
     end: usize,
-    ends: &[usize],
+    ends: &[u16],
     changes: &mut [u8],
     short: &mut [i32],
     start: usize,
@@ -44,24 +45,24 @@ pub fn write_formula(
                 at = at + 2;
             }
             FIRST => {
-                let dropped = ends[at + 1];
+                let dropped = place(ends[at + 1]);
                 changes[dropped] = PASSED;
                 at = at + 1;
             }
-            SECOND => at = ends[at + 1],
+            SECOND => at = place(ends[at + 1]),
             NEGATED_SECOND => {
                 p = push_kind(short, p, kinds::NEGATE);
-                at = ends[at + 1];
+                at = place(ends[at + 1]);
             }
             TRUE => {
                 p = push_kind(short, p, kinds::TRUE);
-                at = ends[at];
+                at = place(ends[at]);
             }
             FALSE => {
                 p = push_kind(short, p, kinds::FALSE);
-                at = ends[at];
+                at = place(ends[at]);
             }
-            _ => at = ends[at],
+            _ => at = place(ends[at]),
         }
     }
     p

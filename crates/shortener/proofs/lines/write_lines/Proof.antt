@@ -1,9 +1,10 @@
 -- `shortener::lines::write_lines` meets its contract: whatever writes the lines that are left, and the count, writes the list. Assumes
 -- nothing.
-use mathlib.Core.Path.{ap, _∙_}
+use mathlib.Core.Path.{_≡_, ap, _∙_}
 use mathlib.Core.List.{[], _∷_}
 use native.Mathlib.Omega.{arith}
 use borrow.Author.Needs.{needs}
+use lib.ListN.{getD}
 use Rattle.script.specs.Laws.{back}
 use Rattle.theorems.specs.Writing.{wrote-as, wrote-length}
 use Rattle.shortener.specs.Lines.{Lining, lining, end-read, trailer-inside, begins, trailing, lined, count-inside, all-lined}
@@ -20,21 +21,38 @@ abbrev μ-loop : tie.MeasureT-loop
 
 write-formula-requires : tie.Need-write-formula-requires Inv-loop μ-loop
 write-formula-requires c κs =
-    let turn = c .before .before .before in
-    begins (turn .before .loop .inv) (turn .loop-test .taken)
+    let end = c .before .before in
+    let turn = end .before .before in
+    rw (end .place .ensures) (begins (turn .before .loop .inv) (turn .loop-test .taken))
+
+-- the formula of the line was written, up to its end
+module _ (c : tie.After-write-formula Inv-loop μ-loop) where
+  abbrev Turn : tie.In-loop Inv-loop μ-loop
+  Turn = c .before .before .before .before .before
+
+  end-is : c .before .before .before .place .result ≡ getD (Turn .before .before .before .before .args .ends .now) (Turn .before .loop .at) 0
+  end-is = c .before .before .before .place .ensures
 
 write-trailer-requires : tie.Need-write-trailer-requires Inv-loop μ-loop
 write-trailer-requires c κs =
     let wrote = c .before .before .before .before in
-    let turn = wrote .before .before .before .before in
-    trailing (turn .before .loop .inv) (turn .loop-test .taken) (wrote .write-formula .ensures)
+    let turn = Turn wrote in
+    rw (end-is wrote) (trailing (turn .before .loop .inv) (turn .loop-test .taken) (rw (end-is wrote) at (wrote .write-formula .ensures)))
 
 loop-again : tie.Need-loop-again Inv-loop μ-loop
 loop-again c =
     let ended = c .before in
     let wrote = ended .before .before .before .before .before in
-    let turn = wrote .before .before .before .before in
-    lined (turn .before .loop .inv) (turn .loop-test .taken) (wrote .write-formula .ensures) (ended .write-trailer .ensures)
+    let turn = Turn wrote in
+    rw (end-is wrote)
+    (lined (turn .before .loop .inv) (turn .loop-test .taken) (rw (end-is wrote) at (wrote .write-formula .ensures))
+    (rw (end-is wrote) at (ended .write-trailer .ensures)))
+
+add-at : tie.Need-add-at Inv-loop μ-loop
+add-at c =
+    let wrote = c .before .before .before .before .before .before in
+    let turn = Turn wrote in
+    omega (arith, end-is wrote, trailer-inside (turn .before .loop .inv) (turn .loop-test .taken))
 
 -- ---- the count
 
@@ -55,11 +73,10 @@ write-lines-spec =
     (λ c. lining (c .before .before .pre))
     (λ c. omega (arith, end-read (c .before .loop .inv) (c .loop-test .taken)))
     (λ c. end-read (c .before .before .loop .inv) (c .before .loop-test .taken))
+    (λ c κs. search needs)
     write-formula-requires
     write-trailer-requires
-    (λ c.
-    let turn = c .before .before .before .before .before .before .before .before .before .before in
-    omega (arith, trailer-inside (turn .before .loop .inv) (turn .loop-test .taken)))
+    add-at
     (λ c. search needs)
     (λ c. search needs)
     loop-again

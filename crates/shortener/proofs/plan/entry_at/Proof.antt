@@ -45,7 +45,11 @@ returns-6 c = rw (sym (kind (c .before .before)) ∙ c .before .match .keys6, c 
 
 returns-7 : tie.Need-returns-7
 unfolding entry-of
-returns-7 c = rw (sym (kind (c .before .before .before .before)) ∙ c .before .before .before .match .keys7, c .end-at4 .ensures, c .before .end-at3 .ensures, c .before .before .end-at2 .ensures)
+returns-7 c =
+    let chosen = c .before in
+    let formula = chosen .before .before in
+    let arm = formula .before .before in
+    rw (sym (kind (arm .before)) ∙ arm .match .keys7, c .end-at4 .ensures, chosen .place2 .ensures, chosen .before .end-at3 .ensures, formula .place .ensures, formula .before .end-at2 .ensures)
 
 returns-8 : tie.Need-returns-8
 unfolding entry-of
@@ -75,8 +79,15 @@ entry-at-spec =
     (λ c. search needs)
     (λ c. search needs)
     (λ c. search needs)
+    (λ c. search needs)
+    (λ c. search needs)
+    (λ c. search needs)
+    (λ c. search needs)
+    (λ c. search needs)
     (λ c κs. search needs)
     (λ c. search needs)
+    (λ c κs. search needs)
+    (λ c κs. search needs)
     (λ c κs. search needs)
     (λ c κs. search needs)
     (λ c κs. search needs)

@@ -12,13 +12,14 @@ returns c =
     let x = y .before in
     let end = x .before in
     let middle = end .before in
-    rw (c .changed-shape .ensures, changed .pair-change .ensures, y .shape-at2 .ensures, x .shape-at .ensures, end .end-at2 .ensures, middle .end-at .ensures)
+    rw (c .changed-shape .ensures, changed .pair-change .ensures, y .shape-at2 .ensures, x .shape-at .ensures, end .end-at2 .ensures, middle .place .ensures, middle .before .end-at .ensures)
 
 pub pair-entry-spec : {M : Type 1} → statement M
 pair-entry-spec =
     tie.close
     (tie.spec
     (λ c. search needs)
+    (λ c κs. search needs)
     (λ c κs. search needs)
     (λ c κs. search needs)
     (λ c. search needs)

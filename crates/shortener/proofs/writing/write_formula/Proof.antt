@@ -84,43 +84,47 @@ dropped c = first-parts (At (c .before) .loop .inv) (more (c .before)) (c .match
 
 loop-again-3 : tie.Need-loop-again-3 Inv-loop μ-loop
 loop-again-3 c =
-    let arm = c .before in
-    first-turn (At (arm .before) .loop .inv) (more (arm .before)) (arm .match .keys3)
+    let arm = c .before .before in
+    rw (c .place .ensures) (first-turn (At (arm .before) .loop .inv) (more (arm .before)) (arm .match .keys3))
 
 loop-again-4 : tie.Need-loop-again-4 Inv-loop μ-loop
 loop-again-4 c =
-    let arm = c .before in
-    second-turn (At (arm .before) .loop .inv) (more (arm .before)) [] 3 (omega arith) (λ x h. h) (arm .match .keys4) (wrote-nothing _ _)
+    let arm = c .before .before in
+    rw (c .place2 .ensures)
+    (second-turn (At (arm .before) .loop .inv) (more (arm .before)) [] 3 (omega arith) (λ x h. h) (arm .match .keys4) (wrote-nothing _ _))
 
 loop-again-5 : tie.Need-loop-again-5 Inv-loop μ-loop
 loop-again-5 c =
-    let pushed = c .before .before in
+    let pushed = c .before .before .before in
     let arm = pushed .before .before in
-    second-turn (At (arm .before) .loop .inv) (more (arm .before)) (pos 8 ∷ []) 4 (omega arith) (λ x h. h) (arm .match .keys5)
-    (pushed .push-kind .ensures)
+    rw (c .place3 .ensures)
+    (second-turn (At (arm .before) .loop .inv) (more (arm .before)) (pos 8 ∷ []) 4 (omega arith) (λ x h. h) (arm .match .keys5)
+    (pushed .push-kind .ensures))
 
 -- ---- a value is written
 
 loop-again-6 : tie.Need-loop-again-6 Inv-loop μ-loop
 loop-again-6 c =
-    let pushed = c .before .before in
+    let pushed = c .before .before .before in
     let arm = pushed .before .before in
-    value-turn (At (arm .before) .loop .inv) (more (arm .before)) (pos 16) 5 (omega arith) (λ x h. h) (arm .match .keys6)
-    (pushed .push-kind2 .ensures)
+    rw (c .place4 .ensures)
+    (value-turn (At (arm .before) .loop .inv) (more (arm .before)) (pos 16) 5 (omega arith) (λ x h. h) (arm .match .keys6)
+    (pushed .push-kind2 .ensures))
 
 loop-again-7 : tie.Need-loop-again-7 Inv-loop μ-loop
 loop-again-7 c =
-    let pushed = c .before .before in
+    let pushed = c .before .before .before in
     let arm = pushed .before .before in
-    value-turn (At (arm .before) .loop .inv) (more (arm .before)) (pos 17) 6 (omega arith) (λ x h. h) (arm .match .keys7)
-    (pushed .push-kind3 .ensures)
+    rw (c .place5 .ensures)
+    (value-turn (At (arm .before) .loop .inv) (more (arm .before)) (pos 17) 6 (omega arith) (λ x h. h) (arm .match .keys7)
+    (pushed .push-kind3 .ensures))
 
 -- ---- it is passed over
 
 loop-again-8 : tie.Need-loop-again-8 Inv-loop μ-loop
 loop-again-8 c =
-    let arm = c .before in
-    passed-turn (At (arm .before) .loop .inv) (more (arm .before)) (arm .match .rest)
+    let arm = c .before .before in
+    rw (c .place6 .ensures) (passed-turn (At (arm .before) .loop .inv) (more (arm .before)) (arm .match .rest))
 
 pub write-formula-spec : {M : Type 1} → statement M
 write-formula-spec =
@@ -148,34 +152,50 @@ write-formula-spec =
     (λ c. omega (arith, inside (c .before)))
     (λ c. omega (arith, end-inside (c .before) (dropped c)))
     (λ c. end-inside (c .before .before) (dropped (c .before)))
-    (λ c. note-inside (c .before .before) (dropped (c .before)))
-    (λ c. omega (arith, inside (c .before .before)))
-    (λ c. omega (arith, more (c .before .before)))
+    (λ c κs. search needs)
+    (λ c. let arm = c .before .before in omega (arith, c .place .ensures, note-inside (arm .before) (dropped arm)))
+    (λ c. omega (arith, inside (c .before .before .before)))
+    (λ c. omega (arith, more (c .before .before .before)))
     loop-again-3
     (λ c. omega (arith, inside (c .before)))
     (λ c. omega (arith, end-inside (c .before) (second (c .before) (c .match .keys4))))
     (λ c. end-inside (c .before .before) (second (c .before .before) (c .before .match .keys4)))
-    (λ c. omega (arith, more (c .before .before), second (c .before .before) (c .before .match .keys4) .later))
+    (λ c κs. search needs)
+    (λ c.
+    let arm = c .before .before in
+    omega (arith, c .place2 .ensures, more (arm .before), second (arm .before) (arm .match .keys4) .later))
     loop-again-4
     (λ c κs. search needs)
     (λ c. omega (arith, inside (c .before .before .before .before)))
     (λ c. let arm = c .before .before .before in omega (arith, end-inside (arm .before) (negated (arm .before) (arm .match .keys5))))
     (λ c. let arm = c .before .before .before .before in end-inside (arm .before) (negated (arm .before) (arm .match .keys5)))
-    (λ c. let arm = c .before .before .before .before in omega (arith, more (arm .before), negated (arm .before) (arm .match .keys5) .later))
+    (λ c κs. search needs)
+    (λ c.
+    let arm = c .before .before .before .before .before in
+    omega (arith, c .place3 .ensures, more (arm .before), negated (arm .before) (arm .match .keys5) .later))
     loop-again-5
     (λ c κs. search needs)
     (λ c. let known = c .before .before .before .before in omega (arith, in-ends (At known .loop .inv) (more known)))
     (λ c. let known = c .before .before .before .before .before in in-ends (At known .loop .inv) (more known))
-    (λ c. let arm = c .before .before .before .before in omega (arith, more (arm .before), moves-on (At (arm .before) .loop .inv) (more (arm .before)) 5 (omega arith) (arm .match .keys6)))
+    (λ c κs. search needs)
+    (λ c.
+    let arm = c .before .before .before .before .before in
+    omega (arith, c .place4 .ensures, more (arm .before), moves-on (At (arm .before) .loop .inv) (more (arm .before)) 5 (omega arith) (arm .match .keys6)))
     loop-again-6
     (λ c κs. search needs)
     (λ c. let known = c .before .before .before .before in omega (arith, in-ends (At known .loop .inv) (more known)))
     (λ c. let known = c .before .before .before .before .before in in-ends (At known .loop .inv) (more known))
-    (λ c. let arm = c .before .before .before .before in omega (arith, more (arm .before), moves-on (At (arm .before) .loop .inv) (more (arm .before)) 6 (omega arith) (arm .match .keys7)))
+    (λ c κs. search needs)
+    (λ c.
+    let arm = c .before .before .before .before .before in
+    omega (arith, c .place5 .ensures, more (arm .before), moves-on (At (arm .before) .loop .inv) (more (arm .before)) 6 (omega arith) (arm .match .keys7)))
     loop-again-7
     (λ c. omega (arith, in-ends (At (c .before) .loop .inv) (more (c .before))))
     (λ c. in-ends (At (c .before .before) .loop .inv) (more (c .before .before)))
-    (λ c. let arm = c .before in omega (arith, more (arm .before), passes-on (At (arm .before) .loop .inv) (more (arm .before)) (arm .match .rest)))
+    (λ c κs. search needs)
+    (λ c.
+    let arm = c .before .before in
+    omega (arith, c .place6 .ensures, more (arm .before), passes-on (At (arm .before) .loop .inv) (more (arm .before)) (arm .match .rest)))
     loop-again-8
     (λ c. c .before .loop .inv .same .length)
     (λ c. c .before .loop .inv .list)
