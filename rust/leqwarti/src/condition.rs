@@ -140,6 +140,26 @@ impl Plan {
     pub fn smt(&self, index: usize) -> Result<String, Refusal> {
         crate::smt(&self.words, index_word(index))
     }
+
+    /// The plan with its conditions shortened; see [`shorten`](crate::shorten).
+    /// It has as many conditions, of the same kinds and rows in order.
+    ///
+    /// ```
+    /// use leqwarti::Plan;
+    ///
+    /// let plan = Plan::read(vec![25, 16, 18, 2, 3, 3, 1, 5, 1, 0, 4, 9, 9, 1])?;
+    /// let main = plan.conditions().next().unwrap();
+    /// assert_eq!(main.formula.to_string(), "true implies (v3 < (5 + 0))");
+    ///
+    /// let plan = plan.shortened();
+    /// let main = plan.conditions().next().unwrap();
+    /// assert_eq!(main.formula.to_string(), "v3 < 5");
+    /// # Ok::<(), leqwarti::Refusal>(())
+    /// ```
+    pub fn shortened(&self) -> Plan {
+        let words = crate::shorten(&self.words).expect("a plan has a whole list");
+        Plan::read(words).expect("what is shortened is a whole list")
+    }
 }
 
 impl<'a> IntoIterator for &'a Plan {

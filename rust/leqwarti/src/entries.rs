@@ -76,6 +76,25 @@ mod exported {
             place: *mut usize,
             used: *mut usize,
         );
+        pub fn leqwarti_shorten(
+            list: *const i32,
+            list_length: usize,
+            short: *mut i32,
+            short_length: usize,
+            number: *mut usize,
+            used: *mut usize,
+        );
+        pub fn leqwarti_shorter(
+            old: *const i32,
+            old_length: usize,
+            new: *const i32,
+            new_length: usize,
+            index: i32,
+            number: *mut usize,
+            side: *mut usize,
+            start: *mut usize,
+            end: *mut usize,
+        );
     }
 }
 
@@ -115,8 +134,8 @@ pub struct Line {
     pub end: usize,
 }
 
-/// What the writer of a condition's text answers: the text stands in the first
-/// `used` bytes.
+/// What the writers answer: a condition's text stands in the first `used` bytes,
+/// a shortened list in the first `used` words.
 #[derive(Clone, Copy, Debug, Default, PartialEq, Eq)]
 pub struct Written {
     pub number: usize,
@@ -130,6 +149,16 @@ pub struct ReadAnswer {
     pub number: usize,
     pub place: usize,
     pub used: usize,
+}
+
+/// What the shorter of two formulas is a part of: side 0 is the old list, 1 the
+/// new one, and it stands there from `start` up to `end`.
+#[derive(Clone, Copy, Debug, Default, PartialEq, Eq)]
+pub struct ShorterPart {
+    pub number: usize,
+    pub side: usize,
+    pub start: usize,
+    pub end: usize,
 }
 
 /// The check of a table.
@@ -303,4 +332,44 @@ pub fn read_text(text: &[u8], words: &mut [i32]) -> ReadAnswer {
         );
     }
     answer
+}
+
+/// A list with its conditions shortened. Whatever the buffer held before the
+/// call, after it the new list is followed by zeros; refused, the buffer is all
+/// zeros.
+pub fn shorten(list: &[i32], short: &mut [i32]) -> Written {
+    let mut written = Written::default();
+    // SAFETY: as in `check`, for all words and every length of the buffer.
+    unsafe {
+        exported::leqwarti_shorten(
+            list.as_ptr(),
+            list.len(),
+            short.as_mut_ptr(),
+            short.len(),
+            from_mut(&mut written.number),
+            from_mut(&mut written.used),
+        );
+    }
+    written
+}
+
+/// Where the shorter of two lists' formulas at an index stands, the old one if
+/// equal; refused, the empty part at the old list's front.
+pub fn shorter(old: &[i32], new: &[i32], index: i32) -> ShorterPart {
+    let mut part = ShorterPart::default();
+    // SAFETY: as in `check`, for all words of both lists and every index.
+    unsafe {
+        exported::leqwarti_shorter(
+            old.as_ptr(),
+            old.len(),
+            new.as_ptr(),
+            new.len(),
+            index,
+            from_mut(&mut part.number),
+            from_mut(&mut part.side),
+            from_mut(&mut part.start),
+            from_mut(&mut part.end),
+        );
+    }
+    part
 }

@@ -41,20 +41,22 @@
 //! assert_eq!((refusal.reason, refusal.row), (Reason::UnknownKind, 1));
 //! ```
 //!
-//! A condition is also written as a script for solvers, with [`Plan::smt`], and
+//! A condition is also written as a script for solvers, with [`Plan::smt`],
+//! [`Plan::shortened`] has shorter conditions that hold in the same states, and
 //! [`read_text`] makes a table of a script that comes as text.
 //!
-//! The check, the generator, the list reader, the writer of solvers' scripts and
-//! the reader of text are functions of a static library whose contracts are
-//! proved; this crate adds types, and the text of formulas and refusals, which
-//! are not. A stack of 512 KiB is enough for the deepest scripts and lists (a
-//! thread of Rust's has 2 MiB by default); [`smt`] takes a stack of its own where
-//! it needs more.
+//! The check, the generator, the list reader, the writer of solvers' scripts, the
+//! reader of text, the shortening of lists and the choice between two lists are
+//! functions of a static library whose contracts are proved; this crate adds
+//! types, and the text of formulas and refusals, which are not. A stack of
+//! 512 KiB is enough for the deepest scripts and lists (a thread of Rust's has
+//! 2 MiB by default); [`smt`] takes a stack of its own where it needs more.
 
 mod condition;
 pub mod entries;
 mod formula;
 mod refusal;
+mod shorten;
 mod smt;
 mod text;
 
@@ -64,6 +66,7 @@ pub use condition::{Condition, ConditionKind, Conditions, Plan};
 pub use entries::Record;
 pub use formula::Formula;
 pub use refusal::{Reason, Refusal};
+pub use shorten::{shorten, shorter};
 pub use smt::{smt, LONGEST_TEXT};
 pub use text::{read_text, TextRefusal, LONGEST_SCRIPT};
 

@@ -1,4 +1,4 @@
-//! Why there is no plan, no condition, no text, or no table.
+//! Why there is no plan, no condition, no text, no shortened list, or no table.
 
 use std::error::Error;
 use std::fmt;
@@ -44,6 +44,9 @@ pub enum Reason {
     /// The condition's text is longer than its buffer. (Document 02 gives this
     /// number no word.)
     TextTooLong = 30,
+    /// The shortened list is longer than its buffer. (This number has no word
+    /// there either.)
+    ShortenedTooLong = 31,
     /// A byte of the script's text begins no token. (Document 02 gives 40 to 44
     /// no words either.)
     NoToken = 40,
@@ -59,7 +62,7 @@ pub enum Reason {
 
 impl Reason {
     /// All reasons, by number.
-    pub const ALL: [Reason; 20] = [
+    pub const ALL: [Reason; 21] = [
         Reason::TableLength,
         Reason::UnknownKind,
         Reason::FieldOutOfRange,
@@ -75,6 +78,7 @@ impl Reason {
         Reason::TornList,
         Reason::NoSuchLine,
         Reason::TextTooLong,
+        Reason::ShortenedTooLong,
         Reason::NoToken,
         Reason::WrongToken,
         Reason::NumberOutOfRange,
@@ -132,6 +136,7 @@ impl Reason {
             Reason::TornList => "the words are no well-formed list",
             Reason::NoSuchLine => "the list has no condition at that index",
             Reason::TextTooLong => "the condition's text is longer than its buffer",
+            Reason::ShortenedTooLong => "the shortened list is longer than its buffer",
             Reason::NoToken => "no word, number or sign of scripts begins here",
             Reason::WrongToken => "no script can go on like this here",
             Reason::NumberOutOfRange => {

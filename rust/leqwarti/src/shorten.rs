@@ -1,0 +1,49 @@
+//! Shorter conditions.
+
+use crate::entries;
+use crate::{Refusal, LONGEST_LIST};
+
+/// A finished list with each condition shortened: what is added or subtracted
+/// as 0, multiplied by 1, or joined as true or false falls away, the parts of a
+/// formula first. A new condition holds in the same states as its old one, and
+/// is never longer; kinds, rows and order stay.
+///
+/// ```
+/// use leqwarti::Reason;
+///
+/// // true implies (0 <= (v0 - 0))
+/// let list = [25, 16, 19, 1, 0, 4, 2, 0, 1, 0, 4, 9, 10, 1];
+/// assert_eq!(leqwarti::shorten(&list)?, [19, 1, 0, 2, 0, 4, 9, 5, 1]);
+/// assert_eq!(leqwarti::shorten(&list[1..]).unwrap_err().reason, Reason::TornList);
+/// # Ok::<(), leqwarti::Refusal>(())
+/// ```
+pub fn shorten(words: &[i32]) -> Result<Vec<i32>, Refusal> {
+    let mut short = vec![0; words.len().min(LONGEST_LIST)];
+    let written = entries::shorten(words, &mut short);
+    Refusal::unless_zero(written.number, 0)?;
+    short.truncate(written.used);
+    Ok(short)
+}
+
+/// The shorter of the conditions at an index of two lists, as a part of the list
+/// that it stands in; the old one if both are as long. The lists need not belong
+/// together. What is wrong with the old one is told first.
+///
+/// ```
+/// use leqwarti::Reason;
+///
+/// let old = [22, 17, 1, 5, 2, 17, 4, 9, 1, 2];
+/// let new = leqwarti::shorten(&old)?;
+/// assert_eq!(new, [16, 1, 5, 1, 17, 4, 9, 1, 2]);
+/// assert_eq!(leqwarti::shorter(&old, &new, 0)?, &new[..1]);
+/// assert_eq!(leqwarti::shorter(&old, &new, 1)?, &old[5..6]);
+/// assert_eq!(leqwarti::shorter(&old, &new, 2).unwrap_err().reason, Reason::NoSuchLine);
+/// assert_eq!(leqwarti::shorter(&old, &new[1..], 0).unwrap_err().reason, Reason::TornList);
+/// # Ok::<(), leqwarti::Refusal>(())
+/// ```
+pub fn shorter<'a>(old: &'a [i32], new: &'a [i32], index: i32) -> Result<&'a [i32], Refusal> {
+    let part = entries::shorter(old, new, index);
+    Refusal::unless_zero(part.number, 0)?;
+    let list = if part.side == 0 { old } else { new };
+    Ok(&list[part.start..part.end])
+}
