@@ -1,5 +1,5 @@
-//! A yardstick for the proved library: document 01 and requests P1, P2, P4
-//! and P5 written by hand for speed.
+//! A yardstick for the proved library: document 01 and requests P1, P2, P4, P5
+//! and P6 written by hand for speed.
 //!
 //! Nothing of it is proved. `fuzz/tests/peer.rs` compares it with the proved
 //! library word for word, and the benchmark times the library beside it; it has
@@ -10,7 +10,8 @@
 //! and copies what stands in the list already; where there is a div or mod, it
 //! notes once which rows divide. The reader goes over the words
 //! of a line once. [`smt`] writes a part once and copies it where it stands
-//! again. [`read_text`] goes over the text once. Nothing is taken from the heap,
+//! again. [`read_text`] goes over the text once. [`shorten`] goes over a formula
+//! once to find its nodes and once back over these. Nothing is taken from the heap,
 //! and working memory is cleared only as far as the table has rows, or assigns to
 //! variables; the module `stack` has the only `unsafe` code.
 
@@ -21,6 +22,7 @@ mod generate;
 mod names;
 mod reader;
 mod script;
+mod shorten;
 mod spell;
 mod stack;
 mod text;
@@ -30,6 +32,7 @@ pub use check::check;
 pub use generate::generate;
 pub use reader::{first_place, line_at, step};
 pub use script::read_text;
+pub use shorten::{shorten, shorter};
 pub use text::smt;
 
 /// A row of the table: kind, first, second, third.
@@ -40,6 +43,16 @@ const MOST_ROWS: usize = 2_048;
 const LONGEST_LIST: usize = 16_384;
 
 const VARIABLES: usize = 1_024;
+
+/// The largest number after a constant, a variable and a mark; no number is as
+/// small as that of another kind.
+const LARGEST_NUMBER: [i64; 10] = {
+    let mut largest = [-1; 10];
+    largest[1] = u32::MAX as i64;
+    largest[2] = VARIABLES as i64 - 1;
+    largest[9] = 2_047;
+    largest
+};
 
 /// Whether the variable of this number is frozen.
 #[inline(always)]
@@ -73,7 +86,8 @@ pub struct Line {
     pub end: usize,
 }
 
-/// What the writer of a condition's text answers beside the text.
+/// What the writer of a condition's text answers beside the text, and the shortening
+/// of a list beside the new one.
 #[derive(Clone, Copy, Debug, Default, PartialEq, Eq)]
 pub struct Written {
     pub number: usize,
@@ -86,4 +100,13 @@ pub struct ReadAnswer {
     pub number: usize,
     pub place: usize,
     pub used: usize,
+}
+
+/// What the choice between two lists answers: side 0 is the old list, 1 the new one.
+#[derive(Clone, Copy, Debug, Default, PartialEq, Eq)]
+pub struct ShorterPart {
+    pub number: usize,
+    pub side: usize,
+    pub start: usize,
+    pub end: usize,
 }

@@ -4,17 +4,7 @@
 //! (two an expression, one a formula). An operator lowers it and a leaf does
 //! not; a formula that fills its words ends with none.
 
-use crate::{Line, LONGEST_LIST, VARIABLES};
-
-/// The largest number after a constant, a variable and a mark; no number is as
-/// small as that of another kind.
-const LARGEST: [i64; 10] = {
-    let mut largest = [-1; 10];
-    largest[1] = u32::MAX as i64;
-    largest[2] = VARIABLES as i64 - 1;
-    largest[9] = 2_047;
-    largest
-};
+use crate::{Line, LARGEST_NUMBER, LONGEST_LIST};
 
 /// Where to read on, and the slack there.
 #[derive(Clone, Copy)]
@@ -77,7 +67,7 @@ fn expressions(words: &[i32], reading: Reading, count: usize) -> Option<Reading>
             }
             _ => {
                 let number = *words.get(at + 1)? as u32;
-                if i64::from(number) > *LARGEST.get(kind as usize)? {
+                if i64::from(number) > *LARGEST_NUMBER.get(kind as usize)? {
                     return None;
                 }
                 awaited -= 1;
@@ -111,13 +101,21 @@ const fn no_line(number: usize) -> Line {
 const TORN: Line = no_line(20);
 const NO_SUCH_LINE: Line = no_line(21);
 
-/// The line whose trailer ends the words.
+/// The words before the trailer that ends the words, where its formula begins, and its
+/// kind and row.
 #[inline(always)]
-fn last_line(words: &[i32]) -> Option<Line> {
+pub fn trailer(words: &[i32]) -> Option<(&[i32], usize, [i32; 2])> {
     let (before, &[kind, row, length]) = words.split_last_chunk()?;
     let start = before.len().checked_sub(length as u32 as usize)?;
     let in_range = (1..=5).contains(&kind) && (0..=2_047).contains(&row);
-    (in_range && is_formula(&before[start..])).then_some(Line {
+    in_range.then_some((before, start, [kind, row]))
+}
+
+/// The line whose trailer ends the words.
+#[inline(always)]
+fn last_line(words: &[i32]) -> Option<Line> {
+    let (before, start, [kind, row]) = trailer(words)?;
+    is_formula(&before[start..]).then_some(Line {
         number: 0,
         kind: kind as usize,
         row: row as usize,
