@@ -5,7 +5,7 @@
 //! nodes and what each stands under; then its nodes are gone over from the last one
 //! back. A literal that the node above takes away whatever its other part is, or asks
 //! for, is not written at all; so what a rule drops is dropped by moving the place of
-//! writing, and no word is moved.
+//! writing, and no word is moved. A formula in which no rule applies is copied.
 
 use crate::reader::{line_at, trailer};
 use crate::stack::{Stack, Storage};
@@ -84,11 +84,17 @@ fn shortened<'a>(list: &[i32], memory: &'a mut Memory) -> Option<&'a [i32]> {
     writer.put(count);
     for _ in 0..count {
         let (before, start, [kind, row]) = trailer(rest)?;
+        let formula = &before[start..];
         let mut nodes = memory.nodes.stack();
-        note_nodes(&before[start..], &mut nodes, &mut memory.awaited.stack())?;
+        let is_padded = note_nodes(formula, &mut nodes, &mut memory.awaited.stack())?;
         let end = writer.at - 3;
         writer.at = end;
-        writer.write(&before[start..], &mut nodes);
+        if is_padded {
+            writer.write(formula, &mut nodes);
+        } else {
+            writer.at -= formula.len();
+            writer.new[writer.at..end].copy_from_slice(formula);
+        }
         let length = (end - writer.at) as i32;
         writer.new[end..end + 3].copy_from_slice(&[kind, row, length]);
         rest = &before[..start];
@@ -97,14 +103,15 @@ fn shortened<'a>(list: &[i32], memory: &'a mut Memory) -> Option<&'a [i32]> {
     rest.is_empty().then_some(&new[at..])
 }
 
-/// Notes the nodes of the formula that the words are; nothing where they are none.
+/// Notes the nodes of the formula that the words are, and whether a literal is asked for
+/// where it stands: else no rule applies. Nothing where they are no formula.
 #[inline(always)]
 fn note_nodes(
     words: &[i32],
     nodes: &mut Stack<Node, LONGEST_LIST>,
     awaited: &mut Stack<u8, { 2 * LONGEST_LIST }>,
-) -> Option<()> {
-    let (mut at, mut under) = (0, FORMULA);
+) -> Option<bool> {
+    let (mut at, mut under, mut asked) = (0, FORMULA, 0);
     loop {
         let kind = *words.get(at)?;
         nodes.push(Node {
@@ -131,18 +138,22 @@ fn note_nodes(
                 under = TRUTH;
                 continue;
             }
-            (16 | 17, FORMULA) => match awaited.pop() {
-                Some(next) => {
-                    under = next;
-                    continue;
+            (16 | 17, FORMULA) => {
+                asked |= under & if kind == 16 { TRUE } else { FALSE };
+                match awaited.pop() {
+                    Some(next) => {
+                        under = next;
+                        continue;
+                    }
+                    None => break,
                 }
-                None => break,
-            },
+            }
             (_, 0) => {
                 let number = *words.get(at)? as u32;
                 if i64::from(number) > *LARGEST_NUMBER.get(kind as usize)? {
                     return None;
                 }
+                asked |= under & constant(kind, number as i32);
                 at += 1;
                 match awaited.pop() {
                     Some(next) => {
@@ -157,7 +168,17 @@ fn note_nodes(
         awaited.push(second);
         under = first;
     }
-    (at == words.len()).then_some(())
+    (at == words.len()).then_some(asked != 0)
+}
+
+/// What a constant, a variable or a mark is.
+#[inline(always)]
+fn constant(kind: i32, number: i32) -> u8 {
+    match (kind, number) {
+        (1, 0) => ZERO,
+        (1, 1) => ONE,
+        _ => OTHER,
+    }
 }
 
 /// Writes the new list from its end to the front.
@@ -231,14 +252,13 @@ impl Writer<'_> {
             match kind {
                 1 | 2 | 9 => {
                     let (number, end) = (words[usize::from(at) + 1], self.at as u16);
-                    match (kind, number) {
-                        (1, 0) => self.literal(ZERO, end, under),
-                        (1, 1) => self.literal(ONE, end, under),
-                        _ => {
+                    match constant(kind, number) {
+                        OTHER => {
                             self.put(number);
                             self.put(kind);
                             self.push(end);
                         }
+                        literal => self.literal(literal, end, under),
                     }
                 }
                 16 => self.literal(TRUE, self.at as u16, under),
