@@ -147,7 +147,7 @@ impl Plan {
     /// ```
     /// use leqwarti::Plan;
     ///
-    /// let plan = Plan::read(vec![25, 16, 18, 2, 3, 3, 1, 5, 1, 0, 4, 9, 9, 1])?;
+    /// let plan = Plan::read(vec![25, 16, 18, 2, 3, 3, 1, 5, 1, 0, 4, 9, 10, 1])?;
     /// let main = plan.conditions().next().unwrap();
     /// assert_eq!(main.formula.to_string(), "true implies (v3 < (5 + 0))");
     ///
