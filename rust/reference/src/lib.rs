@@ -1,5 +1,5 @@
-//! Document 01 and requests P1, P2, P4 and P5 a second time, written from the
-//! documents alone: trees, `Vec` and `Box`, clear rather than fast.
+//! Document 01 and requests P1, P2, P4, P5 and P6 a second time, written from
+//! the documents alone: trees, `Vec` and `Box`, clear rather than fast.
 //!
 //! Whole numbers of runs are kept as `i128`. Where a value would leave that
 //! range the evaluation answers [`TooLarge`] instead of a wrong number; the
@@ -7,6 +7,8 @@
 //!
 //! Trees are walked by recursion, at most about as deep as a table has rows;
 //! a thread with a very small stack is not enough for the deepest scripts.
+//! Formulas of a list, deeper still, are checked, written for the bench (P1)
+//! and shortened (P6) without recursion.
 
 mod check;
 mod conditions;
@@ -17,6 +19,7 @@ mod list;
 mod program;
 mod run;
 mod script_text;
+mod shorten;
 mod smt;
 mod table;
 mod tree;
@@ -35,6 +38,7 @@ pub use list::{is_whole_formula, line_at, lines, Line, ListReader};
 pub use program::{output_with, program_output};
 pub use run::{run, run_observed, Arrival, End, Run};
 pub use script_text::{read_text, TextAnswer};
+pub use shorten::{shorten, shortened_formula, shorter, Shortened, ShorterPart, Side};
 pub use smt::{smt, Written};
 pub use table::{Row, Variable, VARIABLES};
 pub use tree::{formula_from_words, script_of};

@@ -28,7 +28,7 @@ impl Line {
     }
 }
 
-const TORN_LIST: u8 = 20;
+pub(crate) const TORN_LIST: u8 = 20;
 const NO_SUCH_LINE: u8 = 21;
 
 /// The condition at `index` from the front.
