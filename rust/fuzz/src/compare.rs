@@ -4,7 +4,7 @@ use std::collections::BTreeMap;
 use std::fmt;
 use std::path::PathBuf;
 
-use reference::{Line, Verdict};
+use reference::{Line, Side, Verdict};
 
 use crate::divisions::places_of_divisions;
 use crate::inputs::Input;
@@ -55,6 +55,13 @@ pub struct Tally {
     pub walk: BTreeMap<u8, u64>,
     pub smt: BTreeMap<u8, u64>,
     pub read_text: BTreeMap<u8, u64>,
+    pub shorten: BTreeMap<u8, u64>,
+    pub shorter: BTreeMap<u8, u64>,
+    /// The lists that became shorter.
+    pub shortened: u64,
+    /// The formulas that are the shorter ones, in old lists and in new ones.
+    pub shorter_old: u64,
+    pub shorter_new: u64,
     /// The tables that the check accepts, those of them that divide in code, and
     /// how many divide in each place.
     pub accepted: u64,
@@ -152,6 +159,8 @@ pub fn compare_input(
         Input::Text { list, index, room } => compare_text(subject, list, *index, *room, tally),
         Input::Bytes(bytes) => compare_program(subject, bytes),
         Input::Script { text, room } => compare_reading(subject, text, *room, tally),
+        Input::Shorten { list, room } => compare_shortening(subject, list, *room, tally),
+        Input::Shorter { old, new, index } => compare_shorter(subject, old, new, *index, tally),
     }
 }
 
@@ -313,6 +322,47 @@ fn compare_reading(
 
 /// What the check may say of a text that is read.
 pub const CHECKS_OF_TEXTS: [u8; 4] = [0, 8, 9, 10];
+
+/// Counts a shortening only where the subject shortens lists.
+fn compare_shortening(
+    subject: &mut dyn Subject,
+    list: &[i32],
+    room: usize,
+    tally: &mut Tally,
+) -> Result<(), String> {
+    let mut short = Lent::new(room);
+    let Some(found) = subject.shorten(list, short.cells()) else {
+        return Ok(());
+    };
+    let mut buffer = vec![0; room];
+    let expected = Reference.shorten(list, &mut buffer).expect("an answer");
+    count(&mut tally.shorten, expected.number);
+    tally.shortened += u64::from((1..list.len()).contains(&expected.used));
+    let name = format!("shortened in {room} words");
+    same(&name, expected, found)?;
+    short.same(&name, &buffer)
+}
+
+/// Counts a choice only where the subject makes one.
+fn compare_shorter(
+    subject: &mut dyn Subject,
+    old: &[i32],
+    new: &[i32],
+    index: i64,
+    tally: &mut Tally,
+) -> Result<(), String> {
+    let Some(found) = subject.shorter(old, new, index) else {
+        return Ok(());
+    };
+    let expected = reference::shorter(old, new, index);
+    count(&mut tally.shorter, expected.number);
+    match (expected.number, expected.side) {
+        (0, Side::Old) => tally.shorter_old += 1,
+        (0, Side::New) => tally.shorter_new += 1,
+        _ => (),
+    }
+    same(&format!("the shorter one at {index}"), expected, found)
+}
 
 fn compare_program(subject: &mut dyn Subject, bytes: &[u8]) -> Result<(), String> {
     let Some(found) = subject.program_output(bytes) else {

@@ -9,6 +9,7 @@ use crate::mutate::{change_words, list_with_length, made_up_list, random_words, 
 use crate::prng::Prng;
 use crate::script_texts::{any_room_for_table, any_script_text};
 use crate::scripts::{script_words, Shape};
+use crate::shortening::{any_index_of_pair, any_list_to_shorten, any_pair, any_room_for_list};
 use crate::texts::{any_index, any_room, dividing_list};
 
 /// What a subject and the reference are both given.
@@ -33,6 +34,15 @@ pub enum Input {
     /// A script's text and the words lent for its table. These are not among
     /// those of [`Input::any`].
     Script { text: Vec<u8>, room: usize },
+    /// A list and the words lent for its shortened one. Neither these nor the next are
+    /// among those of [`Input::any`].
+    Shorten { list: Vec<i32>, room: usize },
+    /// Two lists, and the index at which the shorter formula is wanted.
+    Shorter {
+        old: Vec<i32>,
+        new: Vec<i32>,
+        index: i64,
+    },
 }
 
 impl Input {
@@ -65,6 +75,18 @@ impl Input {
         Input::Script { text, room }
     }
 
+    /// Lists to be shortened, and pairs of lists.
+    pub fn any_shortening(random: &mut Prng) -> Input {
+        if random.once_in(3) {
+            let (old, new) = any_pair(random);
+            let index = any_index_of_pair(&old, &new, random);
+            return Input::Shorter { old, new, index };
+        }
+        let list = any_list_to_shorten(random);
+        let room = any_room_for_list(&list, random);
+        Input::Shorten { list, room }
+    }
+
     /// The whole input as text, for the file of a difference.
     pub fn text(&self) -> String {
         match self {
@@ -87,6 +109,13 @@ impl Input {
             Input::Bytes(bytes) => format!("bytes of standard input\n{}", spaced(bytes)),
             Input::Script { text, room } => {
                 format!("script's text, {room} words\n{}\n", text.escape_ascii())
+            }
+            Input::Shorten { list, room } => {
+                format!("shortened in {room} words\n{}", spaced(list))
+            }
+            Input::Shorter { old, new, index } => {
+                let (old, new) = (spaced(old), spaced(new));
+                format!("the shorter one at {index}\n{old}{new}")
             }
         }
     }

@@ -27,6 +27,7 @@ pub mod prng;
 pub mod repeated;
 pub mod script_texts;
 pub mod scripts;
+pub mod shortening;
 pub mod subject;
 pub mod templates;
 pub mod texts;

@@ -1,6 +1,6 @@
 //! What is compared with the reference.
 
-use reference::{Line, Verdict};
+use reference::{Line, ShorterPart, Verdict};
 
 /// "An answer holds: number, row, conditions, words used."
 #[derive(Clone, Copy, Debug, PartialEq, Eq)]
@@ -11,7 +11,8 @@ pub struct Answer {
     pub words: usize,
 }
 
-/// What request P1's entry answers beside its text: number and bytes used.
+/// What request P1's entry answers beside its text, and P6's beside its list: number
+/// and bytes or words used.
 #[derive(Clone, Copy, Debug, PartialEq, Eq)]
 pub struct Written {
     pub number: u8,
@@ -63,6 +64,18 @@ pub trait Subject {
     /// Request P4: the table of a script's text, into a buffer that holds anything
     /// before the call; a subject without it answers nothing.
     fn read_text(&mut self, _text: &[u8], _words: &mut [i32]) -> Option<ReadAnswer> {
+        None
+    }
+
+    /// Request P6: "a pass over one list that writes another", into a buffer that
+    /// holds anything before the call; a subject without it answers nothing.
+    fn shorten(&mut self, _list: &[i32], _short: &mut [i32]) -> Option<Written> {
+        None
+    }
+
+    /// Request P6: where the shorter of two lists' formulas at an index stands; a
+    /// subject without it answers nothing.
+    fn shorter(&mut self, _old: &[i32], _new: &[i32], _index: i64) -> Option<ShorterPart> {
         None
     }
 
@@ -131,6 +144,19 @@ impl Subject for Reference {
             place: answer.place,
             used,
         })
+    }
+
+    fn shorten(&mut self, list: &[i32], short: &mut [i32]) -> Option<Written> {
+        let shortened = reference::shorten(list, short.len());
+        short.copy_from_slice(&shortened.buffer);
+        Some(Written {
+            number: shortened.number,
+            used: shortened.used,
+        })
+    }
+
+    fn shorter(&mut self, old: &[i32], new: &[i32], index: i64) -> Option<ShorterPart> {
+        Some(reference::shorter(old, new, index))
     }
 
     fn program_output(&mut self, bytes: &[u8]) -> Option<Vec<u8>> {

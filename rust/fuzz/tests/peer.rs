@@ -16,6 +16,9 @@ const DIVIDING_CASES: u64 = 100_000;
 /// And texts of scripts.
 const SCRIPTS: u64 = 100_000;
 
+/// And lists to be shortened, and pairs of lists.
+const SHORTENINGS: u64 = 100_000;
+
 /// How often each number was given.
 type Tally = BTreeMap<usize, u64>;
 
@@ -157,6 +160,56 @@ fn not_one_difference_in_scripts() {
     assert!(scripts.keys().copied().eq([0, 40, 41, 42, 43, 44]));
 }
 
+fn compare_shortening(list: &[i32], room: usize, shortened: &mut Tally) -> Result<(), String> {
+    let (mut short, mut peer_short) = (Lent::new(room), Lent::new(room));
+    let expected = entries::shorten(list, short.cells());
+    *shortened.entry(expected.number).or_default() += 1;
+    let peer::Written { number, used } = peer::shorten(list, peer_short.cells());
+    same("shortened", expected, entries::Written { number, used })?;
+    peer_short.same("shortened", short.cells())
+}
+
+fn compare_shorter(old: &[i32], new: &[i32], index: i32, chosen: &mut Tally) -> Result<(), String> {
+    let expected = entries::shorter(old, new, index);
+    *chosen.entry(expected.number).or_default() += 1;
+    let peer::ShorterPart {
+        number,
+        side,
+        start,
+        end,
+    } = peer::shorter(old, new, index);
+    let found = entries::ShorterPart {
+        number,
+        side,
+        start,
+        end,
+    };
+    same(&format!("the shorter one at {index}"), expected, found)
+}
+
+#[test]
+fn not_one_difference_in_shortenings() {
+    let seed = seed_from_environment();
+    let (mut shortened, mut chosen) = (Tally::new(), Tally::new());
+    for case in 0..SHORTENINGS {
+        let input = Input::any_shortening(&mut Prng::for_case(seed, case));
+        let result = match &input {
+            Input::Shorten { list, room } => compare_shortening(list, *room, &mut shortened),
+            Input::Shorter { old, new, index } => {
+                let index = i32::try_from(*index).expect("an index of 32 bits");
+                compare_shorter(old, new, index, &mut chosen)
+            }
+            _ => continue,
+        };
+        if let Err(what) = result {
+            panic!("seed {seed}, case {case}: {what}\n{}", input.text());
+        }
+    }
+    tell(format!("shortened {shortened:?}, chosen {chosen:?}"));
+    assert!(shortened.keys().copied().eq([0, 20, 31]));
+    assert!(chosen.keys().copied().eq([0, 20, 21]));
+}
+
 #[test]
 fn not_one_difference() {
     let Tallies {
@@ -200,6 +253,7 @@ fn compare_cases(making: Making, cases: u64) -> Tallies {
                 compare_text(list, index, *room, &mut texts)
             }
             Input::Bytes(_) | Input::Script { .. } => Ok(()),
+            Input::Shorten { .. } | Input::Shorter { .. } => Ok(()),
         };
         if let Err(what) = result {
             panic!("seed {seed}, case {case}: {what}\n{}", input.text());

@@ -6,7 +6,7 @@ use std::process::{Command, Stdio};
 use fuzz::{Answer, ReadAnswer, Subject, Written};
 use leqwarti::entries;
 use leqwarti::Record;
-use reference::{Line, Verdict};
+use reference::{Line, ShorterPart, Side, Verdict};
 
 pub const PROGRAM: &str = concat!(env!("CARGO_MANIFEST_DIR"), "/../../target/bin/vcgen");
 
@@ -89,6 +89,29 @@ impl Subject for Proved {
             number: found.number as u8,
             place: found.place,
             used: found.used,
+        })
+    }
+
+    fn shorten(&mut self, list: &[i32], short: &mut [i32]) -> Option<Written> {
+        let found = entries::shorten(list, short);
+        Some(Written {
+            number: found.number as u8,
+            used: found.used,
+        })
+    }
+
+    fn shorter(&mut self, old: &[i32], new: &[i32], index: i64) -> Option<ShorterPart> {
+        let index = i32::try_from(index).expect("an index of 32 bits");
+        let found = entries::shorter(old, new, index);
+        Some(ShorterPart {
+            number: found.number as u8,
+            side: match found.side {
+                0 => Side::Old,
+                1 => Side::New,
+                side => panic!("no side {side}"),
+            },
+            start: found.start,
+            end: found.end,
         })
     }
 

@@ -68,6 +68,25 @@ extern "C" {
         number: Number,
         used: Number,
     );
+    fn leqwarti_shorten(
+        list: *const i32,
+        length: usize,
+        short: *mut i32,
+        short_length: usize,
+        number: Number,
+        used: Number,
+    );
+    fn leqwarti_shorter(
+        old: *const i32,
+        old_length: usize,
+        new: *const i32,
+        new_length: usize,
+        index: i32,
+        number: Number,
+        side: Number,
+        start: Number,
+        end: Number,
+    );
 }
 
 /// What a number holds before a call.
@@ -80,6 +99,7 @@ const MOST_CELLS: usize = 200_000;
 pub struct Bare {
     calls: usize,
     words: Guarded<i32>,
+    new_words: Guarded<i32>,
     records: Guarded<Record>,
     numbers: Guarded<usize>,
     pub list: Guarded<i32>,
@@ -94,6 +114,7 @@ impl Bare {
         Bare {
             calls: 0,
             words: Guarded::new(&[], Edge::End),
+            new_words: Guarded::new(&[], Edge::End),
             records: Guarded::new(&[], Edge::End),
             numbers: Guarded::new(&[], Edge::End),
             list: Guarded::new(&[], Edge::End),
@@ -255,6 +276,37 @@ impl Bare {
         // SAFETY: as in `check`.
         unsafe { leqwarti_smt(words, length, index, text, room, number, used) };
         assert!(self.text.margin_is_kept());
+        self.told()
+    }
+
+    /// Number and words used; the buffer is `list`.
+    pub fn shorten(&mut self, room: usize) -> [usize; 2] {
+        let edges = self.edges();
+        self.list.hold(&self.junk_words[..room], edges[2]);
+        let [number, used] = self.lend(None, edges[1]);
+        let (list, length) = self.words();
+        let short = self.list.as_mut_slice().as_mut_ptr();
+        // SAFETY: as in `check`.
+        unsafe { leqwarti_shorten(list, length, short, room, number, used) };
+        assert!(self.list.margin_is_kept());
+        self.told()
+    }
+
+    /// Number, side, start and end, of the words that are held and these.
+    pub fn shorter(&mut self, new: &[i32], index: i32) -> [usize; 4] {
+        let edges = self.edges();
+        self.new_words.hold(new, edges[3]);
+        let [number, side, start, end] = self.lend(None, edges[1]);
+        let (old, length) = self.words();
+        let held = self.new_words.as_slice();
+        let (new_words, new_length) = (held.as_ptr(), held.len());
+        // SAFETY: as in `check`, of both lists.
+        unsafe {
+            leqwarti_shorter(
+                old, length, new_words, new_length, index, number, side, start, end,
+            );
+        }
+        assert!(self.new_words.as_slice() == new && self.new_words.margin_is_kept());
         self.told()
     }
 }

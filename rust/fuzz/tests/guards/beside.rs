@@ -3,7 +3,7 @@
 use std::collections::BTreeMap;
 
 use fuzz::Input;
-use reference::{is_whole_formula, line_at, lines, Line, Verdict};
+use reference::{is_whole_formula, line_at, lines, Line, Side, Verdict};
 
 use crate::bare::Bare;
 
@@ -153,4 +153,39 @@ pub fn write_text(bare: &mut Bare, list: &[i32], index: i32, room: usize) -> usi
         text()
     );
     found[0]
+}
+
+pub fn shorten_list(bare: &mut Bare, list: &[i32], room: usize) -> usize {
+    let shortened = reference::shorten(list, room);
+    let expected = [usize::from(shortened.number), shortened.used];
+    bare.hold(list);
+    let found = bare.shorten(room);
+    let is_same = found == expected && bare.keeps(list) && bare.list.as_slice() == shortened.buffer;
+    let text = || text_of_list(list);
+    assert!(
+        is_same,
+        "shortened in {room} words: {expected:?}, {found:?}: {}",
+        text()
+    );
+    found[0]
+}
+
+/// The number, and the side that both answer.
+pub fn take_shorter(bare: &mut Bare, old: &[i32], new: &[i32], index: i32) -> [usize; 2] {
+    let part = reference::shorter(old, new, i64::from(index));
+    let (number, side) = (
+        usize::from(part.number),
+        usize::from(part.side == Side::New),
+    );
+    let expected = [number, side, part.start, part.end];
+    bare.hold(old);
+    let found = bare.shorter(new, index);
+    let is_same = found == expected && bare.keeps(old);
+    let text = || text_of_list(old) + &text_of_list(new);
+    assert!(
+        is_same,
+        "the shorter one at {index}: {expected:?}, {found:?}: {}",
+        text()
+    );
+    [number, side]
 }

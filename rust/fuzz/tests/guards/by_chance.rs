@@ -7,7 +7,8 @@ use fuzz::{cases_from_environment, seed_from_environment, tell, Input, Prng};
 
 use crate::bare::Bare;
 use crate::beside::{
-    check_table, count, generate_table, read_line, step_from, walk, write_text, Numbers,
+    check_table, count, generate_table, read_line, shorten_list, step_from, take_shorter, walk,
+    write_text, Numbers,
 };
 
 #[test]
@@ -78,11 +79,11 @@ fn odd_texts() {
 /// The inputs of the other tests, in guarded buffers.
 #[test]
 fn usual_inputs() {
-    let (seed, cases) = (seed_from_environment(), cases_from_environment(6_000));
+    let (seed, cases) = (seed_from_environment(), cases_from_environment(8_000));
     let (mut bare, mut numbers) = (Bare::new(), Numbers::new());
     for case in 0..cases {
         let random = &mut Prng::for_case(seed ^ 4, case);
-        let making = random.pick(&[Input::any, Input::any_dividing]);
+        let making = random.pick(&[Input::any, Input::any_dividing, Input::any_shortening]);
         let number = match making(random) {
             Input::Table {
                 words,
@@ -94,11 +95,17 @@ fn usual_inputs() {
                 let index = i32::try_from(index).expect("an index of 32 bits");
                 write_text(&mut bare, &list, index, room.min(MOST_BYTES))
             }
+            Input::Shorten { list, room } => shorten_list(&mut bare, &list, room),
+            Input::Shorter { old, new, index } => {
+                let index = i32::try_from(index).expect("an index of 32 bits");
+                let [number, _] = take_shorter(&mut bare, &old, &new, index);
+                number
+            }
             Input::Bytes(_) | Input::Script { .. } => continue,
         };
         count(&mut numbers, number);
     }
     tell(format!("{cases} usual inputs: {numbers:?}"));
-    let wanted = [0, 11, 12, 20, 21, 30];
+    let wanted = [0, 11, 12, 20, 21, 30, 31];
     assert!(wanted.iter().all(|number| numbers.contains_key(number)));
 }

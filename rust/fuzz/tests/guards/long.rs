@@ -1,7 +1,7 @@
 //! Tables, records and lists with lengths that 32 bits do not hold.
 
 use fuzz::repeated::Repeated;
-use leqwarti::entries::{self, Line, Verdict, Written};
+use leqwarti::entries::{self, Line, ShorterPart, Verdict, Written};
 use leqwarti::Record;
 
 /// One more than 32 bits hold.
@@ -58,6 +58,16 @@ fn lists() {
     };
     assert_eq!(entries::smt(list, 0, &mut text), refused);
     assert_eq!(text, [0; 100]);
+    let mut short = [7; 100];
+    assert_eq!(entries::shorten(list, &mut short), refused);
+    assert_eq!(short, [0; 100]);
+    let no_part = ShorterPart {
+        number: 20,
+        ..ShorterPart::default()
+    };
+    for (old, new) in [(list, &LIST[..]), (&LIST, list), (list, list)] {
+        assert_eq!(entries::shorter(old, new, 0), no_part);
+    }
     let main = Line {
         number: 0,
         kind: 4,

@@ -6,4 +6,5 @@ mod beside;
 mod by_chance;
 mod changed;
 mod long;
+mod shortened;
 mod small;

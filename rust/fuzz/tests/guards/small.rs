@@ -4,7 +4,10 @@ use fuzz::tell;
 use reference::{need, LONGEST_LIST};
 
 use crate::bare::Bare;
-use crate::beside::{check_table, count, generate_table, read_line, walk, write_text, Numbers};
+use crate::beside::{
+    check_table, count, generate_table, read_line, shorten_list, take_shorter, walk, write_text,
+    Numbers,
+};
 
 /// Calls with every run of so many of the values.
 fn for_each_run(values: &[i32], length: usize, call: &mut dyn FnMut(&[i32])) {
@@ -40,6 +43,8 @@ fn every_short_list() {
             if calls % 7 == 0 {
                 walk(&mut bare, list);
                 write_text(&mut bare, list, 0, 100);
+                shorten_list(&mut bare, list, 6);
+                take_shorter(&mut bare, list, &[22, 16, 4, 0, 2, 1], 0);
             }
         });
     }

@@ -1,0 +1,406 @@
+//! The proved shortening of lists, and the choice between two lists, beside the
+//! reference (request P6).
+
+mod common;
+
+use common::Proved;
+use fuzz::mutate::tear;
+use fuzz::scripts::EXAMPLE_A;
+use fuzz::shortening::{any_list_to_shorten, nested, shortening_list};
+use fuzz::shortening::{AROUND_EXPRESSIONS, AROUND_FORMULAS};
+use fuzz::{compare_counting, compare_input, seed_from_environment, tell, Input, Prng, Tally};
+use leqwarti::{entries, Plan};
+use reference::{lines, shorten, spelled_formula_is_true, Row, State, Variable};
+use reference::{LONGEST_LIST, VARIABLES};
+
+/// Two in three are lists to be shortened, one is a pair of lists.
+const CASES: u64 = 180_000;
+
+#[test]
+fn not_one_difference() {
+    let seed = seed_from_environment();
+    let mut tally = Tally::default();
+    let making = Input::any_shortening;
+    let result = compare_counting(&mut Proved, making, seed, CASES, &mut tally);
+    tell(format!(
+        "{CASES} inputs: shortened {:?}, of them shorter {}; the shorter one {:?}, {} old, {} new",
+        tally.shorten, tally.shortened, tally.shorter, tally.shorter_old, tally.shorter_new
+    ));
+    assert!(result.is_ok(), "{}", result.unwrap_err());
+    assert!(tally.shorten.keys().copied().eq([0, 20, 31]));
+    assert!(tally.shorten.values().sum::<u64>() >= 100_000);
+    assert!(tally.shorten.values().all(|times| *times >= 10_000));
+    assert!(tally.shortened >= 40_000);
+    assert!(tally.shorter.keys().copied().eq([0, 20, 21]));
+    assert!(tally.shorter.values().all(|times| *times >= 5_000));
+    assert!(tally.shorter_old >= 5_000 && tally.shorter_new >= 5_000);
+}
+
+fn compare_all(inputs: impl Iterator<Item = Input>) {
+    let mut tally = Tally::default();
+    let mut count = 0;
+    for input in inputs {
+        count += 1;
+        if let Err(what) = compare_input(&mut Proved, &input, &mut tally) {
+            panic!("{what}\n{}", input.text());
+        }
+    }
+    tell(format!(
+        "{count} inputs: shortened {:?}, the shorter one {:?}",
+        tally.shorten, tally.shorter
+    ));
+}
+
+/// Two conditions in which every rule applies, and none but after a part was shortened;
+/// what has no rule stands beside them.
+fn list_of_all() -> Vec<i32> {
+    let sums = [
+        20, 4, 3, 1, 0, 1, 0, 5, 2, 7, 4, 1, 1, 1, 0, // 0 + 0 - v7 * (1 - 0)
+        3, 8, 1, 0, 6, 9, 16, 1, 1, // -0 + m16 div 1
+    ];
+    let joins = [
+        25, 23, 22, 17, 24, 16, 17, // not false and (true or false)
+        23, 25, 22, 16, 17, 19, 1, 1, 10, 25, 17, 16, 2, 16, 2, 17, // .. when(..)
+    ];
+    let lines = [
+        &sums[..],
+        &[1, 15, sums.len() as i32],
+        &joins,
+        &[5, 2_047, joins.len() as i32],
+    ];
+    [&lines.concat()[..], &[2]].concat()
+}
+
+fn shortened(list: &[i32]) -> Vec<i32> {
+    let shortened = shorten(list, LONGEST_LIST);
+    assert_eq!(shortened.number, 0, "{list:?}");
+    shortened.buffer[..shortened.used].to_vec()
+}
+
+#[test]
+fn the_list_is_what_it_says() {
+    let list = list_of_all();
+    assert_eq!(lines(&list).expect("a list").len(), 2);
+    let sums = [20, 8, 2, 7, 3, 8, 1, 0, 6, 9, 16, 1, 1, 1, 15, 13];
+    let joins = [
+        25, 24, 16, 17, 19, 1, 1, 10, 16, 2, 16, 2, 17, 5, 2_047, 13, 2,
+    ];
+    assert_eq!(shortened(&list), [&sums[..], &joins].concat());
+}
+
+/// Values at the edges of what a word of a list may be.
+fn telling_values() -> impl Iterator<Item = i32> + Clone {
+    let edges = [1_023, 1_024, 2_047, 2_048, 16_384, i32::MAX, i32::MIN];
+    (-2..27).chain(edges)
+}
+
+/// The words with every one of them changed to every telling value, dropped and doubled,
+/// and every part of them.
+fn every_small_change(words: &[i32]) -> impl Iterator<Item = Vec<i32>> + '_ {
+    let length = words.len();
+    let changed = (0..length).flat_map(move |place| {
+        telling_values().map(move |value| {
+            let mut words = words.to_vec();
+            words[place] = value;
+            words
+        })
+    });
+    let dropped_and_doubled = (0..length).flat_map(move |place| {
+        let (before, after) = words.split_at(place);
+        [
+            [before, &after[1..]].concat(),
+            [before, &after[..1], after].concat(),
+        ]
+    });
+    let parts = (0..length)
+        .flat_map(move |start| (start..length).map(move |end| words[start..end].to_vec()));
+    changed.chain(dropped_and_doubled).chain(parts)
+}
+
+#[test]
+fn every_small_change_of_a_list() {
+    let list = list_of_all();
+    compare_all(every_small_change(&list).map(|list| {
+        let room = list.len();
+        Input::Shorten { list, room }
+    }));
+}
+
+/// Either of the lists changed, at each index.
+#[test]
+fn every_small_change_of_either_list() {
+    let old = list_of_all();
+    let new = shortened(&old);
+    for index in [0, 1, 2] {
+        compare_all(every_small_change(&old).map(|old| {
+            let new = new.clone();
+            Input::Shorter { old, new, index }
+        }));
+        compare_all(every_small_change(&new).map(|new| {
+            let old = old.clone();
+            Input::Shorter { old, new, index }
+        }));
+    }
+}
+
+#[test]
+fn every_room_up_to_the_need_and_past_it() {
+    let example_a = leqwarti::plan(&EXAMPLE_A).expect("a plan").words().to_vec();
+    let seed = seed_from_environment();
+    let by_chance = (0..50).map(|case| shortening_list(&mut Prng::for_case(seed, case)));
+    let lists = by_chance.chain([list_of_all(), example_a]);
+    compare_all(lists.flat_map(|list| {
+        let rooms = 0..list.len() + 3;
+        let rooms = rooms.chain([LONGEST_LIST, LONGEST_LIST + 1, 20_000]);
+        let input = |room| Input::Shorten {
+            list: list.clone(),
+            room,
+        };
+        rooms.map(input).collect::<Vec<_>>()
+    }));
+}
+
+/// Every index around those of a list, and every edge of words, for lists with as many
+/// conditions or fewer.
+#[test]
+fn every_index_of_lists_with_other_counts() {
+    let list = |count: usize, formula: &[i32]| {
+        let line = [formula, &[4, 0, formula.len() as i32]].concat();
+        [&line.repeat(count)[..], &[count as i32]].concat()
+    };
+    let formulas: [&[i32]; 3] = [&[16], &[22, 16], &[18, 1, 1, 2, 0]];
+    let counts = 0..4;
+    let lists = counts.flat_map(|count| formulas.map(|formula| list(count, formula)));
+    let lists: Vec<Vec<i32>> = lists.collect();
+    compare_all(lists.iter().flat_map(|old| {
+        lists.iter().flat_map(move |new| {
+            let edges = [i32::MIN, i32::MAX].map(i64::from);
+            (-2..6).chain(edges).map(move |index| Input::Shorter {
+                old: old.clone(),
+                new: new.clone(),
+                index,
+            })
+        })
+    }));
+}
+
+/// Expressions and formulas by their nodes, kind before its parts.
+struct Trees {
+    expressions: Vec<Vec<Vec<i32>>>,
+    formulas: Vec<Vec<Vec<i32>>>,
+}
+
+/// The most nodes of a formula here.
+const NODES: usize = 7;
+
+impl Trees {
+    fn up_to(nodes: usize) -> Trees {
+        let leaves = [[1, 0], [1, 1], [2, 0]].map(Vec::from);
+        let mut trees = Trees {
+            expressions: vec![Vec::new(), leaves.to_vec()],
+            formulas: vec![Vec::new(), vec![vec![16], vec![17]]],
+        };
+        for nodes in 2..=nodes {
+            let (expressions, formulas) = (trees.expressions_of(nodes), trees.formulas_of(nodes));
+            trees.expressions.push(expressions);
+            trees.formulas.push(formulas);
+        }
+        trees
+    }
+
+    fn expressions_of(&self, nodes: usize) -> Vec<Vec<i32>> {
+        let part = &self.expressions;
+        let mut all = joined(&[8], &[part], nodes - 1);
+        for kind in [3, 4, 5] {
+            all.extend(joined(&[kind], &[part, part], nodes - 1));
+        }
+        if nodes < NODES - 1 {
+            all.extend(joined(&[6], &[part, part], nodes - 1));
+            all.extend(joined(&[10], &[&self.formulas, part, part], nodes - 1));
+        }
+        all
+    }
+
+    fn formulas_of(&self, nodes: usize) -> Vec<Vec<i32>> {
+        let (part, side) = (&self.formulas, &self.expressions);
+        let mut all = joined(&[22], &[part], nodes - 1);
+        for kind in [23, 24, 25] {
+            all.extend(joined(&[kind], &[part, part], nodes - 1));
+        }
+        all.extend(joined(&[20], &[side, side], nodes - 1));
+        all
+    }
+}
+
+/// The words before, and then a part of each sort, with so many nodes together.
+fn joined(before: &[i32], sorts: &[&Vec<Vec<Vec<i32>>>], nodes: usize) -> Vec<Vec<i32>> {
+    let Some((first, others)) = sorts.split_first() else {
+        return if nodes == 0 {
+            vec![before.to_vec()]
+        } else {
+            Vec::new()
+        };
+    };
+    let sizes = 1..first.len().min(nodes + 1);
+    let parts = sizes.flat_map(|size| first[size].iter().map(move |part| (size, part)));
+    let join =
+        |(size, part): (usize, &Vec<i32>)| joined(&[before, part].concat(), others, nodes - size);
+    parts.flat_map(join).collect()
+}
+
+fn list_of(formula: &[i32]) -> Vec<i32> {
+    [formula, &[4, 9, formula.len() as i32, 1]].concat()
+}
+
+#[test]
+fn every_small_formula() {
+    let trees = Trees::up_to(NODES);
+    let formulas = trees.formulas.into_iter().flatten();
+    compare_all(formulas.map(|formula| {
+        let list = list_of(&formula);
+        let room = list.len();
+        Input::Shorten { list, room }
+    }));
+}
+
+/// Every two of what may stand around a part, in turn, as deep as a list has room for
+/// and some levels deep.
+#[test]
+fn parts_in_one_another() {
+    let words = [14, 15, 16, 17, 30, 61, LONGEST_LIST - 4];
+    let formulas = AROUND_FORMULAS.iter().flat_map(|one| {
+        AROUND_FORMULAS.iter().flat_map(move |other| {
+            let truths: [&[i32]; 3] = [&[16], &[17], &[18, 2, 0, 1, 1]];
+            truths.into_iter().flat_map(move |innermost| {
+                words.map(|words| nested(&[*one, *other], innermost, words))
+            })
+        })
+    });
+    let expressions = AROUND_EXPRESSIONS.iter().flat_map(|one| {
+        AROUND_EXPRESSIONS.iter().flat_map(move |other| {
+            let numbers: [&[i32]; 3] = [&[1, 0], &[1, 1], &[2, 0]];
+            numbers.into_iter().flat_map(move |innermost| {
+                words.map(|words| {
+                    let deep = nested(&[*one, *other], innermost, words - 3);
+                    [&[20, 2, 5], &deep[..]].concat()
+                })
+            })
+        })
+    });
+    compare_all(formulas.chain(expressions).map(|formula| {
+        let list = list_of(&formula);
+        let room = list.len();
+        Input::Shorten { list, room }
+    }));
+}
+
+/// A few states with all variables and marks, near 0 and far from it.
+fn states(random: &mut Prng) -> Vec<State> {
+    let state = |_| {
+        let most = random.pick(&[1, 3, 100, 1 << 40]);
+        let mut value = || random.below(2 * most + 1) as i128 - most as i128;
+        let mut state = State::default();
+        for number in 0..VARIABLES {
+            state.set_variable(Variable(number), value());
+        }
+        for row in 0..2_048 {
+            state.set_mark(Row(row), value());
+        }
+        state
+    };
+    (0..40).map(state).collect()
+}
+
+/// Lists that are not too long to be evaluated, with no tears.
+fn whole_list(random: &mut Prng) -> Vec<i32> {
+    loop {
+        let list = any_list_to_shorten(random);
+        if list.len() < 4_000 && lines(&list).is_some() {
+            return list;
+        }
+    }
+}
+
+/// What the library writes is a list of as many conditions, with the kinds and rows of
+/// the old ones in their order, none longer than its old one, and each true in the same
+/// states; and a second pass changes nothing.
+#[test]
+fn new_conditions_hold_in_the_same_states() {
+    let seed = seed_from_environment();
+    let states = states(&mut Prng::new(seed));
+    let (mut trues, mut falses, mut shorter) = (0, 0, 0);
+    for case in 0..20_000 {
+        let random = &mut Prng::for_case(seed ^ 8, case);
+        let old = Plan::read(whole_list(random)).expect("a list");
+        let new = old.shortened();
+        assert_eq!(old.conditions().len(), new.conditions().len());
+        assert_eq!(new.shortened(), new, "case {case}");
+        for (old, new) in old.conditions().zip(new.conditions()) {
+            assert_eq!((old.kind, old.row), (new.kind, new.row), "case {case}");
+            let (old, new) = (old.formula.words(), new.formula.words());
+            assert!(new.len() < old.len() || new == old, "case {case}");
+            shorter += u32::from(new.len() < old.len());
+            for _ in 0..4 {
+                let state = &states[random.below(states.len())];
+                let truth = |words| spelled_formula_is_true(words, state).expect("a formula");
+                if let (Ok(old_truth), Ok(new_truth)) = (truth(old), truth(new)) {
+                    assert_eq!(old_truth, new_truth, "case {case}: {old:?}, {new:?}");
+                    trues += u32::from(new_truth);
+                    falses += u32::from(!new_truth);
+                }
+            }
+        }
+    }
+    tell(format!(
+        "{shorter} shorter; {trues} times true, {falses} false"
+    ));
+    assert!(shorter > 20_000 && trues > 20_000 && falses > 20_000);
+}
+
+/// The safe functions say what the numbers do, and hand back parts of the lists given.
+#[test]
+fn safe_functions_say_what_the_numbers_do() {
+    let seed = seed_from_environment();
+    for case in 0..10_000 {
+        let random = &mut Prng::for_case(seed, case);
+        match Input::any_shortening(random) {
+            Input::Shorten { list, .. } => {
+                let expected = shorten(&list, LONGEST_LIST);
+                match leqwarti::shorten(&list) {
+                    Ok(short) => assert_eq!(short, expected.buffer[..expected.used]),
+                    Err(refusal) => assert_eq!(refusal.reason.number(), expected.number),
+                }
+            }
+            Input::Shorter { old, new, index } => {
+                let index = index as i32;
+                let expected = entries::shorter(&old, &new, index);
+                match leqwarti::shorter(&old, &new, index) {
+                    Ok(words) => {
+                        let list = [&old, &new][expected.side];
+                        let part = &list[expected.start..expected.end];
+                        assert!(std::ptr::eq(words, part), "case {case}");
+                    }
+                    Err(refusal) => {
+                        let number = usize::from(refusal.reason.number());
+                        assert_eq!(number, expected.number);
+                    }
+                }
+            }
+            input => panic!("another input: {}", input.text()),
+        }
+    }
+}
+
+/// Lists that are shortened are read by all that reads lists; torn ones by none.
+#[test]
+fn new_lists_are_read_as_any_other() {
+    let seed = seed_from_environment();
+    compare_all((0..5_000).map(|case| {
+        let random = &mut Prng::for_case(seed ^ 9, case);
+        let mut list = shortened(&whole_list(random));
+        if random.once_in(4) {
+            tear(&mut list, random);
+        }
+        Input::List(list)
+    }));
+}
