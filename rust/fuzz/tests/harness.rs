@@ -3,6 +3,7 @@
 mod misdivided;
 mod misnumbered;
 mod misread;
+mod misshortened;
 mod misspelt;
 
 use fuzz::mutate::{list_with_length, made_up_list};
@@ -12,6 +13,7 @@ use fuzz::{compare, compare_counting, faults, limits, seed_from_environment};
 use fuzz::{Answer, Input, Making, Prng, Reference, Subject, Tally};
 use misdivided::{division_faults, DivisionFault, Misdivided};
 use misread::{Misread, ReadFault};
+use misshortened::{short_faults, Misshortened, ShortFault};
 use misspelt::{Misspelt, TextFault};
 use reference::{check, lines, need, Line, Variable, Verdict};
 
@@ -355,4 +357,12 @@ fn every_mistake_about_divisions_is_found() {
     let faulty = division_faults().map(misdivided);
     let faultless = Misdivided(DivisionFault::Nothing);
     assert_all_found(faultless, faulty, Input::any_dividing, 4);
+}
+
+#[test]
+fn every_mistake_in_shortening_is_found() {
+    let misshortened = |fault| (format!("{fault:?}"), Misshortened(fault));
+    let faulty = short_faults().map(misshortened);
+    let faultless = Misshortened(ShortFault::Nothing);
+    assert_all_found(faultless, faulty, Input::any_shortening, 5);
 }
