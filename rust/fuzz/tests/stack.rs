@@ -102,7 +102,7 @@ const TABLE_ENTRIES: [Entry; 4] = [
 /// The entry that writes text.
 const TEXT_ENTRY: &str = "smt";
 
-const LIST_ENTRIES: [Entry; 5] = [
+const LIST_ENTRIES: [Entry; 8] = [
     (
         "line_at",
         OnWords(|list, number| {
@@ -131,6 +131,31 @@ const LIST_ENTRIES: [Entry; 5] = [
             if let Ok(plan) = plan {
                 write_out(&plan);
             }
+        }),
+    ),
+    (
+        "entries::shorten",
+        OnWords(|list, number| {
+            // The reference keeps a stack of its own.
+            let expected = reference::shorten(list, LONGEST_LIST);
+            let mut short = vec![7; LONGEST_LIST];
+            let written = entries::shorten(list, &mut short);
+            assert_eq!((written.number, written.used), (number, expected.used));
+            assert!(short == expected.buffer);
+        }),
+    ),
+    (
+        "entries::shorter",
+        OnWords(|list, number| {
+            assert_eq!(entries::shorter(list, list, 0).number, number);
+        }),
+    ),
+    (
+        "shorten",
+        OnWords(|list, number| {
+            let refusal = leqwarti::shorten(list).err();
+            let found = refusal.map_or(0, |refusal| refusal.reason.number());
+            assert_eq!(usize::from(found), number);
         }),
     ),
     (

@@ -56,11 +56,12 @@ const TORN_WORDS: [TornWords; 12] = [
 
 /// Formulas of at most so many words that nest as deep as words allow; padded
 /// with nots in front.
-fn whole_formulas() -> [(&'static str, Vec<i32>); 18] {
+fn whole_formulas() -> [(&'static str, Vec<i32>); 26] {
     let zeros = |count: usize| [1, 0].repeat(count);
+    let ones = |count: usize| [1, 1].repeat(count);
     let (sums, twos) = ((WORDS - 5) / 3, (WORDS - 1) / 2);
     let (by_comparison, of_a_side) = ((WORDS - 5) / 8, (WORDS - 5) / 4);
-    let of_divs = (WORDS - 5) / 11;
+    let (of_divs, of_nots) = ((WORDS - 5) / 11, (WORDS - 1) / 3);
     let formulas = [
         ("nots", [vec![22; WORDS - 1], vec![16]].concat()),
         ("ands leaning left", left(23, twos)),
@@ -77,6 +78,38 @@ fn whole_formulas() -> [(&'static str, Vec<i32>); 18] {
         (
             "pluses leaning right",
             [vec![20], [3, 1, 0].repeat(sums), zeros(2)].concat(),
+        ),
+        (
+            "minuses leaning left",
+            [vec![20], vec![4; sums], zeros(sums + 2)].concat(),
+        ),
+        (
+            "minuses leaning right",
+            [vec![20], [4, 1, 0].repeat(sums), zeros(2)].concat(),
+        ),
+        (
+            "products of ones leaning left",
+            [vec![20], vec![5; sums], ones(sums + 2)].concat(),
+        ),
+        (
+            "products of ones leaning right",
+            [vec![20], [5, 1, 1].repeat(sums), ones(2)].concat(),
+        ),
+        (
+            "sums that are read last",
+            [vec![20], vec![3; sums], vec![2, 0], zeros(sums + 1)].concat(),
+        ),
+        (
+            "truths around a comparison, leaning left",
+            [vec![23; twos - 2], vec![18, 2, 0, 2, 1], vec![16; twos - 2]].concat(),
+        ),
+        (
+            "nots of implications of false",
+            [[22, 25].repeat(of_nots), vec![16], vec![17; of_nots]].concat(),
+        ),
+        (
+            "conjunctions of a falsehood, leaning right",
+            [[23, 16].repeat(twos - 1), vec![23, 17, 16]].concat(),
         ),
         (
             "divs of divs",

@@ -58,6 +58,21 @@ impl Digest {
         self.add_words(words);
     }
 
+    pub fn add_shortened(&mut self, written: entries::Written, words: &[i32]) {
+        *self.numbers.entry(written.number).or_default() += 1;
+        for part in [written.number, written.used] {
+            self.add(part as u64);
+        }
+        self.add_words(words);
+    }
+
+    pub fn add_part(&mut self, part: entries::ShorterPart) {
+        *self.numbers.entry(part.number).or_default() += 1;
+        for part in [part.number, part.side, part.start, part.end] {
+            self.add(part as u64);
+        }
+    }
+
     pub fn add_line(&mut self, line: entries::Line) {
         *self.numbers.entry(line.number).or_default() += 1;
         for part in [line.number, line.kind, line.row, line.start, line.end] {

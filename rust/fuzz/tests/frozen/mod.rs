@@ -10,6 +10,7 @@ pub mod limits;
 pub mod lists;
 pub mod noise;
 pub mod numbers;
+pub mod shortening;
 pub mod tables;
 pub mod texts;
 
