@@ -1,4 +1,4 @@
-//! What the contestants do: generate, check, read, write text, read text.
+//! What the contestants do: generate, check, read, write text, read text, shorten.
 
 use std::hint::black_box;
 
@@ -196,6 +196,69 @@ pub fn time_reading_text(watch: &Stopwatch, name: &str, text: &[u8]) {
                 black_box(black_box(text).iter().fold(0, sum));
                 black_box(&mut floor_words).fill(0);
                 black_box(&mut floor_words)[..table.len()].copy_from_slice(&table);
+            },
+        },
+    );
+}
+
+/// A list shortened, in just the room that the new one needs, or as many words as it has
+/// where it is refused. The floor adds up the words, clears the room and copies the new
+/// list.
+pub fn time_shortening(watch: &Stopwatch, name: &str, list: &[i32]) {
+    let expected = reference::shorten(list, list.len());
+    let written = &expected.buffer[..expected.used];
+    let (outcome, room) = match expected.number {
+        0 => (
+            format!("{} to {} words", list.len(), written.len()),
+            written.len(),
+        ),
+        number => (
+            format!("{} words, refused {number}", list.len()),
+            list.len(),
+        ),
+    };
+    let buffer = || vec![0; room];
+    let (mut short, mut peer_short, mut floor_short) = (buffer(), buffer(), buffer());
+    watch.print_times(
+        &format!("{name} ({outcome})"),
+        Contestants {
+            proved: &mut || {
+                black_box(entries::shorten(black_box(list), &mut short));
+            },
+            peer: &mut || {
+                black_box(peer::shorten(black_box(list), &mut peer_short));
+            },
+            second: &mut || {
+                black_box(reference::shorten(black_box(list), room));
+            },
+            floor: &mut || {
+                add_up(list);
+                black_box(&mut floor_short).fill(0);
+                black_box(&mut floor_short)[..written.len()].copy_from_slice(written);
+            },
+        },
+    );
+}
+
+/// The shorter of two formulas. The floor adds up the words of both lists.
+pub fn time_choosing(watch: &Stopwatch, name: &str, old: &[i32], new: &[i32], index: i32) {
+    let outcome = format!("{}, {} words", old.len(), new.len());
+    watch.print_times(
+        &format!("{name} ({outcome})"),
+        Contestants {
+            proved: &mut || {
+                black_box(entries::shorter(black_box(old), black_box(new), index));
+            },
+            peer: &mut || {
+                black_box(peer::shorter(black_box(old), black_box(new), index));
+            },
+            second: &mut || {
+                let index = i64::from(index);
+                black_box(reference::shorter(black_box(old), black_box(new), index));
+            },
+            floor: &mut || {
+                add_up(old);
+                add_up(new);
             },
         },
     );

@@ -7,19 +7,21 @@
 //! The floor is what any of them must do: clear both buffers and copy the words
 //! of the list; for what only reads, add up all words once; for the text of a
 //! condition, clear its room and copy it; for a script's text, add up its bytes,
-//! clear the room of its table and copy the table.
+//! clear the room of its table and copy the table; for shortening a list, add up its
+//! words, clear the room of the new one and copy that.
 //!
 //! `--rounds N` for fewer rounds or more.
 
 mod clock;
 mod contests;
+mod lists;
 mod scripts;
 mod texts;
 mod timing;
 
 use contests::{
-    time_checking, time_generating, time_generating_at_the_need, time_reading_at,
-    time_reading_back, time_reading_text, time_writing,
+    time_checking, time_choosing, time_generating, time_generating_at_the_need, time_reading_at,
+    time_reading_back, time_reading_text, time_shortening, time_writing,
 };
 use fuzz::scripts::EXAMPLE_A;
 use leqwarti::{LARGEST_SCRATCH, LONGEST_LIST, LONGEST_SCRIPT};
@@ -37,14 +39,6 @@ fn rounds(arguments: &[String]) -> Option<usize> {
 
 fn list_of(table: &[i32]) -> Vec<i32> {
     leqwarti::plan(table).expect("a plan").words().to_vec()
-}
-
-/// As many conditions as a list holds: true, and the trailer.
-fn list_of_short_conditions() -> Vec<i32> {
-    let count = (LONGEST_LIST - 1) / 4;
-    let mut list = [16, 4, 0, 1].repeat(count);
-    list.push(count as i32);
-    list
 }
 
 fn time_lists(watch: &Stopwatch) {
@@ -163,7 +157,7 @@ fn time_readings(watch: &Stopwatch) {
         ("v256 to v606", list_of(&scripts::shifted_variables(350))),
         ("50 guards", list_of(&scripts::dividing_loops(50))),
         ("one condition", list_of(&scripts::full_list())),
-        ("4,095 conditions", list_of_short_conditions()),
+        ("4,095 conditions", lists::short_conditions()),
     ];
     for (name, list) in &lists {
         let name = format!("{name} ({} words)", list.len());
@@ -172,12 +166,41 @@ fn time_readings(watch: &Stopwatch) {
     }
 }
 
-/// A list of one condition: zero equal to quotients whose divisors are quotients
-/// in turn, so deep. Its text doubles with each.
-fn list_of_divisors(depth: usize) -> Vec<i32> {
-    let formula = [&[20, 1, 0], &[6, 2, 0].repeat(depth)[..], &[2, 1]].concat();
-    let length = formula.len() as i32;
-    [&formula[..], &[4, 0, length, 1]].concat()
+/// Lists that shorten and lists that do not, and the shorter of two formulas in the
+/// first and in the last line.
+fn time_shortenings(watch: &Stopwatch) {
+    let example_a = list_of(&EXAMPLE_A);
+    let padded = lists::padded_everywhere();
+    let shortened = [
+        ("example A", example_a.clone()),
+        ("50 loops", list_of(&scripts::loops(50))),
+        ("a full list", list_of(&scripts::full_list())),
+        ("4,095 conditions", lists::short_conditions()),
+        ("padded lines", lists::padded_lines()),
+        ("without padding", lists::without_padding()),
+        ("padded everywhere", padded.clone()),
+        ("padded by chance", lists::padded_by_chance()),
+        ("true and (true ..", lists::truths_leaning_right()),
+        ("(.. true) and true", lists::truths_leaning_left()),
+        ("0 + (0 + ..", lists::zeros_leaning_right()),
+        ("(.. + 0) + 0", lists::zeros_leaning_left()),
+        ("0 - (0 - ..", lists::negations()),
+        ("torn at the front", lists::torn(lists::padded_lines())),
+    ];
+    for (name, list) in &shortened {
+        time_shortening(watch, &format!("shorten: {name}"), list);
+    }
+    let small = lists::padded_lines();
+    let last = small[small.len() - 1] - 1;
+    let pairs = [
+        ("example A", example_a, 2),
+        ("padded lines", small, last),
+        ("one condition", padded, 0),
+    ];
+    for (name, old, index) in &pairs {
+        let new = leqwarti::shorten(old).expect("a list");
+        time_choosing(watch, &format!("shorter: {name}"), old, &new, *index);
+    }
 }
 
 fn time_texts(watch: &Stopwatch) {
@@ -185,7 +208,7 @@ fn time_texts(watch: &Stopwatch) {
         ("example A, step", list_of(&EXAMPLE_A), 2),
         ("v256 to v606", list_of(&scripts::shifted_variables(350)), 0),
         ("a full list", list_of(&scripts::full_list()), 0),
-        ("divisors 12 deep", list_of_divisors(12), 0),
+        ("divisors 12 deep", lists::divisors(12), 0),
     ];
     for (name, list, index) in &texts {
         let name = format!("{name} ({} words)", list.len());
@@ -225,6 +248,7 @@ fn main() {
     time_exponential_lists(&watch);
     time_refusals(&watch);
     time_readings(&watch);
+    time_shortenings(&watch);
     watch.print_head_of_rates("Text of a condition");
     time_texts(&watch);
     watch.print_head_of_rates("Script's text");
