@@ -28,6 +28,7 @@ pub mod repeated;
 pub mod script_texts;
 pub mod scripts;
 pub mod shortening;
+pub mod small;
 pub mod subject;
 pub mod templates;
 pub mod texts;

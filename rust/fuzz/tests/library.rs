@@ -5,6 +5,7 @@ mod common;
 use common::Proved;
 use fuzz::arena::{Arena, Order};
 use fuzz::scripts::EXAMPLE_A;
+use fuzz::small::every_small_change;
 use fuzz::texts::text_need;
 use fuzz::{compare_counting, compare_input, seed_from_environment, tell, Input, Prng, Tally};
 use leqwarti::{Plan, Refusal};
@@ -85,44 +86,10 @@ fn every_room_of(table: &[i32]) {
     }));
 }
 
-/// Values at the edges of what a word of a table or of a list may be.
-fn telling_values() -> impl Iterator<Item = i32> + Clone {
-    let edges = [127, 128, 255, 256, 1_023, 1_024, 2_047, 2_048, 16_384];
-    (-2..52).chain(edges).chain([i32::MAX, i32::MIN])
-}
-
-/// The words with every one of them changed to every telling value, dropped
-/// and doubled, and every part of them.
-fn every_small_change(words: Vec<i32>) -> impl Iterator<Item = Vec<i32>> {
-    let length = words.len();
-    let whole = words.clone();
-    let changed = (0..length).flat_map(move |place| {
-        let words = whole.clone();
-        telling_values().map(move |value| {
-            let mut words = words.clone();
-            words[place] = value;
-            words
-        })
-    });
-    let whole = words.clone();
-    let dropped_and_doubled = (0..length).flat_map(move |place| {
-        let (before, after) = whole.split_at(place);
-        [
-            [before, &after[1..]].concat(),
-            [before, &after[..1], after].concat(),
-        ]
-    });
-    let parts = (0..length).flat_map(move |start| {
-        let words = words.clone();
-        (start..length).map(move |end| words[start..end].to_vec())
-    });
-    changed.chain(dropped_and_doubled).chain(parts)
-}
-
 #[test]
 fn every_small_tear_of_a_list() {
     let list = leqwarti::plan(&EXAMPLE_A).expect("a plan").words().to_vec();
-    compare_all(every_small_change(list).map(Input::List));
+    compare_all(every_small_change(&list).map(Input::List));
 }
 
 /// A guard before an exit, and as if no loop were there.
@@ -134,7 +101,7 @@ fn every_small_tear_of_a_list_with_a_guard() {
     let exit = [25, 16, 17, 1, 9, 3];
     let list = [&guard[..], &exit, &[2]].concat();
     assert_eq!(lines(&list).expect("a list").len(), 2);
-    compare_all(every_small_change(list).map(Input::List));
+    compare_all(every_small_change(&list).map(Input::List));
 }
 
 /// A list whose one condition has every kind that is written out or renamed:
@@ -147,7 +114,7 @@ const DIVIDING_LIST: [i32; 29] = [
 #[test]
 fn every_small_tear_of_a_dividing_list() {
     assert_eq!(lines(&DIVIDING_LIST).expect("a list").len(), 1);
-    compare_all(every_small_change(DIVIDING_LIST.to_vec()).map(Input::List));
+    compare_all(every_small_change(&DIVIDING_LIST).map(Input::List));
 }
 
 /// Around all that there are.
@@ -206,19 +173,17 @@ fn every_room_up_to_the_need_of_a_text() {
 
 #[test]
 fn every_small_change_of_a_table() {
-    compare_all(
-        every_small_change(EXAMPLE_A.to_vec()).map(|words| Input::Table {
-            words,
-            list_len: 120,
-            scratch_len: 360,
-        }),
-    );
+    compare_all(every_small_change(&EXAMPLE_A).map(|words| Input::Table {
+        words,
+        list_len: 120,
+        scratch_len: 360,
+    }));
 }
 
 #[test]
 fn every_small_change_of_a_table_that_divides() {
     compare_all(
-        every_small_change(dividing_table()).map(|words| Input::Table {
+        every_small_change(&dividing_table()).map(|words| Input::Table {
             words,
             list_len: 500,
             scratch_len: 2_000,

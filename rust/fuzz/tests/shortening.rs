@@ -8,6 +8,7 @@ use fuzz::mutate::tear;
 use fuzz::scripts::EXAMPLE_A;
 use fuzz::shortening::{any_list_to_shorten, nested, shortening_list};
 use fuzz::shortening::{AROUND_EXPRESSIONS, AROUND_FORMULAS};
+use fuzz::small::{every_small_change, Kinds, Trees};
 use fuzz::{compare_counting, compare_input, seed_from_environment, tell, Input, Prng, Tally};
 use leqwarti::{entries, Plan};
 use reference::{lines, shorten, spelled_formula_is_true, Row, State, Variable};
@@ -88,35 +89,6 @@ fn the_list_is_what_it_says() {
     assert_eq!(shortened(&list), [&sums[..], &joins].concat());
 }
 
-/// Values at the edges of what a word of a list may be.
-fn telling_values() -> impl Iterator<Item = i32> + Clone {
-    let edges = [1_023, 1_024, 2_047, 2_048, 16_384, i32::MAX, i32::MIN];
-    (-2..27).chain(edges)
-}
-
-/// The words with every one of them changed to every telling value, dropped and doubled,
-/// and every part of them.
-fn every_small_change(words: &[i32]) -> impl Iterator<Item = Vec<i32>> + '_ {
-    let length = words.len();
-    let changed = (0..length).flat_map(move |place| {
-        telling_values().map(move |value| {
-            let mut words = words.to_vec();
-            words[place] = value;
-            words
-        })
-    });
-    let dropped_and_doubled = (0..length).flat_map(move |place| {
-        let (before, after) = words.split_at(place);
-        [
-            [before, &after[1..]].concat(),
-            [before, &after[..1], after].concat(),
-        ]
-    });
-    let parts = (0..length)
-        .flat_map(move |start| (start..length).map(move |end| words[start..end].to_vec()));
-    changed.chain(dropped_and_doubled).chain(parts)
-}
-
 #[test]
 fn every_small_change_of_a_list() {
     let list = list_of_all();
@@ -184,69 +156,17 @@ fn every_index_of_lists_with_other_counts() {
     }));
 }
 
-/// Expressions and formulas by their nodes, kind before its parts.
-struct Trees {
-    expressions: Vec<Vec<Vec<i32>>>,
-    formulas: Vec<Vec<Vec<i32>>>,
-}
+/// What rules look for, and what they do not.
+const KINDS: Kinds = Kinds {
+    leaves: &[[1, 0], [1, 1], [2, 0]],
+    truths: &[16, 17],
+    arithmetic: &[3, 4, 5],
+    comparisons: &[20],
+    connectives: &[23, 24, 25],
+};
 
 /// The most nodes of a formula here.
-const NODES: usize = 7;
-
-impl Trees {
-    fn up_to(nodes: usize) -> Trees {
-        let leaves = [[1, 0], [1, 1], [2, 0]].map(Vec::from);
-        let mut trees = Trees {
-            expressions: vec![Vec::new(), leaves.to_vec()],
-            formulas: vec![Vec::new(), vec![vec![16], vec![17]]],
-        };
-        for nodes in 2..=nodes {
-            let (expressions, formulas) = (trees.expressions_of(nodes), trees.formulas_of(nodes));
-            trees.expressions.push(expressions);
-            trees.formulas.push(formulas);
-        }
-        trees
-    }
-
-    fn expressions_of(&self, nodes: usize) -> Vec<Vec<i32>> {
-        let part = &self.expressions;
-        let mut all = joined(&[8], &[part], nodes - 1);
-        for kind in [3, 4, 5] {
-            all.extend(joined(&[kind], &[part, part], nodes - 1));
-        }
-        if nodes < NODES - 1 {
-            all.extend(joined(&[6], &[part, part], nodes - 1));
-            all.extend(joined(&[10], &[&self.formulas, part, part], nodes - 1));
-        }
-        all
-    }
-
-    fn formulas_of(&self, nodes: usize) -> Vec<Vec<i32>> {
-        let (part, side) = (&self.formulas, &self.expressions);
-        let mut all = joined(&[22], &[part], nodes - 1);
-        for kind in [23, 24, 25] {
-            all.extend(joined(&[kind], &[part, part], nodes - 1));
-        }
-        all.extend(joined(&[20], &[side, side], nodes - 1));
-        all
-    }
-}
-
-/// The words before, and then a part of each sort, with so many nodes together.
-fn joined(before: &[i32], sorts: &[&Vec<Vec<Vec<i32>>>], nodes: usize) -> Vec<Vec<i32>> {
-    let Some((first, others)) = sorts.split_first() else {
-        return if nodes == 0 {
-            vec![before.to_vec()]
-        } else {
-            Vec::new()
-        };
-    };
-    let sizes = 1..first.len().min(nodes + 1);
-    let parts = sizes.flat_map(|size| first[size].iter().map(move |part| (size, part)));
-    let join =
-        |(size, part): (usize, &Vec<i32>)| joined(&[before, part].concat(), others, nodes - size);
-    parts.flat_map(join).collect()
-}
+const NODES: usize = 8;
 
 fn list_of(formula: &[i32]) -> Vec<i32> {
     [formula, &[4, 9, formula.len() as i32, 1]].concat()
@@ -254,7 +174,7 @@ fn list_of(formula: &[i32]) -> Vec<i32> {
 
 #[test]
 fn every_small_formula() {
-    let trees = Trees::up_to(NODES);
+    let trees = Trees::up_to(NODES, KINDS);
     let formulas = trees.formulas.into_iter().flatten();
     compare_all(formulas.map(|formula| {
         let list = list_of(&formula);

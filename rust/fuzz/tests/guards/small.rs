@@ -1,5 +1,6 @@
 //! Every input of a few words or rows, out of telling ones.
 
+use fuzz::small::{Kinds, Trees};
 use fuzz::tell;
 use reference::{need, LONGEST_LIST};
 
@@ -71,63 +72,13 @@ fn every_table_of_a_row_or_two() {
     assert!(checked.keys().copied().eq([2, 3, 4, 5, 7]));
 }
 
-/// Expressions and formulas of so many nodes, kind before its parts: of v0 and v1, true, plus, div,
-/// mod, negate, choose, equal, not and and.
-struct Trees {
-    expressions: Vec<Vec<Vec<i32>>>,
-    formulas: Vec<Vec<Vec<i32>>>,
-}
-
-impl Trees {
-    fn up_to(nodes: usize) -> Trees {
-        let mut trees = Trees {
-            expressions: vec![Vec::new(), vec![vec![2, 0], vec![2, 1]]],
-            formulas: vec![Vec::new(), vec![vec![16]]],
-        };
-        for nodes in 2..=nodes {
-            let expressions = trees.expressions_of(nodes);
-            let formulas = trees.formulas_of(nodes);
-            trees.expressions.push(expressions);
-            trees.formulas.push(formulas);
-        }
-        trees
-    }
-
-    fn expressions_of(&self, nodes: usize) -> Vec<Vec<i32>> {
-        let mut all = joined(&[8], &[&self.expressions], nodes - 1);
-        for kind in [3, 6, 7] {
-            let both = [&self.expressions, &self.expressions];
-            all.extend(joined(&[kind], &both, nodes - 1));
-        }
-        let parts = [&self.formulas, &self.expressions, &self.expressions];
-        all.extend(joined(&[10], &parts, nodes - 1));
-        all
-    }
-
-    fn formulas_of(&self, nodes: usize) -> Vec<Vec<i32>> {
-        let mut all = joined(&[22], &[&self.formulas], nodes - 1);
-        let both = [&self.expressions, &self.expressions];
-        all.extend(joined(&[20], &both, nodes - 1));
-        all.extend(joined(&[23], &[&self.formulas, &self.formulas], nodes - 1));
-        all
-    }
-}
-
-/// The words before, and then a part of each sort, with so many nodes together.
-fn joined(before: &[i32], sorts: &[&Vec<Vec<Vec<i32>>>], nodes: usize) -> Vec<Vec<i32>> {
-    let Some((first, others)) = sorts.split_first() else {
-        return if nodes == 0 {
-            vec![before.to_vec()]
-        } else {
-            Vec::new()
-        };
-    };
-    let sizes = 1..first.len().min(nodes + 1);
-    let parts = sizes.flat_map(|size| first[size].iter().map(move |part| (size, part)));
-    let join =
-        |(size, part): (usize, &Vec<i32>)| joined(&[before, part].concat(), others, nodes - size);
-    parts.flat_map(join).collect()
-}
+const KINDS: Kinds = Kinds {
+    leaves: &[[2, 0], [2, 1]],
+    truths: &[16],
+    arithmetic: &[3, 6, 7],
+    comparisons: &[20],
+    connectives: &[23],
+};
 
 /// Adds the rows of the tree whose words begin here; its row, and the words left.
 fn add_tree<'a>(rows: &mut Vec<[i32; 4]>, words: &'a [i32]) -> (i32, &'a [i32]) {
@@ -194,7 +145,7 @@ const NODES: usize = 8;
 
 #[test]
 fn every_small_expression_and_guard_that_divides() {
-    let trees = Trees::up_to(NODES);
+    let trees = Trees::up_to(NODES, KINDS);
     let assigned = trees
         .expressions
         .iter()
