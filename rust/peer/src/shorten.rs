@@ -5,7 +5,8 @@
 //! nodes and what each stands under; then its nodes are gone over from the last one
 //! back. A literal that the node above takes away whatever its other part is, or asks
 //! for, is not written at all; so what a rule drops is dropped by moving the place of
-//! writing, and no word is moved. A formula in which no rule applies is copied.
+//! writing, and no word is moved. A node that a literal before its second part makes
+//! that part is no node from the first, and a formula in which no rule applies is copied.
 
 use crate::reader::{line_at, trailer};
 use crate::stack::{Stack, Storage};
@@ -24,6 +25,9 @@ const OTHER: u8 = 0;
 /// Beside the literals that are not written in a place: a formula stands there.
 const FORMULA: u8 = 16;
 const TRUTH: u8 = FORMULA | TRUE | FALSE;
+
+/// The words of no literal.
+const NONE: &[i32] = &[];
 
 #[derive(Clone, Copy)]
 struct Node {
@@ -119,16 +123,19 @@ fn note_nodes(
             under,
         });
         at += 1;
-        let (first, second) = match (kind, under & FORMULA) {
-            (3 | 4, 0) => (ZERO, ZERO),
-            (5, 0) => (ONE, ONE),
-            (6 | 7, 0) | (18..=21, FORMULA) => (OTHER, OTHER),
-            (23, FORMULA) => (TRUTH, TRUTH),
-            (24, FORMULA) => (FORMULA, FORMULA),
-            (25, FORMULA) => (TRUTH, FORMULA | TRUE),
+        // The first part that leaves the second one in the node's place, and what is asked
+        // for in the places of both.
+        let (literal, first, second) = match (kind, under & FORMULA) {
+            (3, 0) => (&[1, 0][..], ZERO, ZERO),
+            (4, 0) => (NONE, ZERO, ZERO),
+            (5, 0) => (&[1, 1][..], ONE, ONE),
+            (6 | 7, 0) | (18..=21, FORMULA) => (NONE, OTHER, OTHER),
+            (23, FORMULA) => (&[16][..], TRUTH, TRUTH),
+            (24, FORMULA) => (NONE, FORMULA, FORMULA),
+            (25, FORMULA) => (&[16][..], TRUTH, FORMULA | TRUE),
             (10, 0) => {
                 awaited.push(OTHER);
-                (FORMULA, OTHER)
+                (NONE, FORMULA, OTHER)
             }
             (8, 0) => {
                 under = OTHER;
@@ -165,6 +172,12 @@ fn note_nodes(
             }
             _ => return None,
         };
+        if !literal.is_empty() && words[at..].starts_with(literal) {
+            nodes.pop();
+            at += literal.len();
+            asked = TRUE;
+            continue;
+        }
         awaited.push(second);
         under = first;
     }
