@@ -37,7 +37,8 @@ fuzz::faults! {
         DirtyAfterTorn,
         UsedAfterThirtyOne,
         UsedIsTheOldLength,
-        LongListTaken,
+        LongestListTorn,
+        WordTooManyTaken,
         GuardsTorn,
     }
 }
@@ -139,8 +140,9 @@ impl Misshortened {
             lines.iter().any(|line| line.kind == 5)
         };
         let taken = match self.0 {
-            LongListTaken if list.len() > LONGEST_LIST => &[16, 4, 0, 1, 1],
-            GuardsTorn if has_guard(list) => &[][..],
+            WordTooManyTaken if list.len() == LONGEST_LIST + 1 => &[16, 4, 0, 1, 1],
+            LongestListTorn if list.len() == LONGEST_LIST => &[][..],
+            GuardsTorn if has_guard(list) => &[],
             _ => list,
         };
         match self.words(taken) {
@@ -152,7 +154,6 @@ impl Misshortened {
     /// What is wrong beside the list, where something is.
     fn spoil(&self, list: &[i32], answer: &mut Written, short: &mut [i32]) {
         let (number, used, room) = (answer.number, answer.used, short.len());
-        let torn_in = |room| number == 20 && room < list.len();
         match self.0 {
             ThirtyOneWordEarly if used == room && number == 0 => *answer = refuse(31, short),
             ThirtyOneWordLate if number == 31 => {
@@ -164,7 +165,7 @@ impl Misshortened {
             ThirtyOneByTheOldLength if number == 0 && room < list.len() => {
                 *answer = refuse(31, short);
             }
-            RoomBeforeTorn if torn_in(room) => answer.number = 31,
+            RoomBeforeTorn if number == 20 && room < list.len() => answer.number = 31,
             TornIsEmpty if number == 20 && list.is_empty() => answer.number = 0,
             WordLeftBehind if number == 0 && used < room => short[room - 1] = 16,
             BegunBeforeThirtyOne if number == 31 && room > 0 => short[0] = list[0],
