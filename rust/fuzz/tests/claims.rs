@@ -60,6 +60,54 @@ fn main_is_exact_without_loops() {
     assert!(verdicts.divided_by_zero > 5 * CASES);
 }
 
+/// The library with its lists shortened.
+struct Shortening;
+
+impl Subject for Shortening {
+    fn check(&mut self, words: &[i32]) -> Verdict {
+        Proved.check(words)
+    }
+
+    fn generate(&mut self, words: &[i32], list: &mut [i32], scratch: &mut [i32]) -> Answer {
+        let answer = Proved.generate(words, list, scratch);
+        if answer.number != 0 {
+            return answer;
+        }
+        let short = leqwarti::shorten(&list[..answer.words]).expect("a list of the generator");
+        list[..short.len()].copy_from_slice(&short);
+        list[short.len()..].fill(0);
+        Answer {
+            words: short.len(),
+            ..answer
+        }
+    }
+
+    fn line_at(&mut self, list: &[i32], index: i64) -> Line {
+        Proved.line_at(list, index)
+    }
+
+    fn walk(&mut self, list: &[i32], steps: usize) -> Vec<Line> {
+        Proved.walk(list, steps)
+    }
+}
+
+/// Shortened conditions say what the old ones say, so runs keep the claim and break it
+/// in the same cases.
+#[test]
+fn shortened_conditions_make_the_same_claim() {
+    let (seed, cases) = (seed_from_environment(), CASES / 5);
+    for making in [any_template, any_dividing_template] {
+        let of_old = run_templates(&mut Proved, making, seed, cases).unwrap();
+        let of_new = run_templates(&mut Shortening, making, seed, cases).unwrap();
+        assert_eq!(of_old, of_new);
+    }
+    let of_old = run_any(&mut Proved, seed, cases).unwrap();
+    assert_eq!(of_old, run_any(&mut Shortening, seed, cases).unwrap());
+    let of_old = run_without_loops(&mut Proved, seed, cases).unwrap();
+    let of_new = run_without_loops(&mut Shortening, seed, cases).unwrap();
+    assert_eq!(of_old, of_new);
+}
+
 /// What a list lacks.
 #[derive(Clone, Copy, Debug)]
 enum Lack {
