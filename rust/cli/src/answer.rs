@@ -3,13 +3,15 @@
 use leqwarti::{Condition, ConditionKind, Formula, Plan, Reason, Refusal};
 
 use crate::rows::RowLine;
-use crate::{Fault, Json, RefusedText, Source, Text, Unread};
+use crate::{Fault, Json, RefusedText, Shortened, Source, Text, Unread};
 
 /// What the generator says of a file.
 #[derive(Clone, Debug, PartialEq, Eq)]
 pub enum Answer {
     /// Of a file that has a table.
     Table(Source, Result<Plan, Refusal>),
+    /// The same with shorter conditions.
+    Short(Source, Shortened),
     /// Of a script's text that is not read.
     Unread(RefusedText),
 }
@@ -27,16 +29,39 @@ impl Answer {
         }
     }
 
+    /// The answer with shorter conditions; a refusal as it is.
+    pub fn shortened(self) -> Answer {
+        match self {
+            Answer::Table(source, Ok(plan)) => Answer::Short(source, Shortened::of(plan)),
+            other => other,
+        }
+    }
+
+    /// The conditions that are told.
     pub fn plan(&self) -> Option<&Plan> {
         match self {
             Answer::Table(_, answer) => answer.as_ref().ok(),
+            Answer::Short(_, shortened) => Some(&shortened.new),
             Answer::Unread(_) => None,
         }
     }
 
-    /// The answer as the proved program writes it.
+    /// What shortening did, where it was asked for.
+    pub fn shortening(&self) -> Option<&Shortened> {
+        match self {
+            Answer::Short(_, shortened) => Some(shortened),
+            Answer::Table(..) | Answer::Unread(_) => None,
+        }
+    }
+
+    /// The answer as the proved program writes it. Where conditions are shortened,
+    /// a second line has the words of the new list, and how many less they are.
     pub fn words(&self) -> String {
         let mut text = self.first_line();
+        if let Some(shortened) = self.shortening() {
+            let words = shortened.new.words().len();
+            text += &format!("shortened {words} {}\n", shortened.saved());
+        }
         for condition in self.plan().into_iter().flatten() {
             text += &condition.kind.with_row(condition.row);
             for word in condition.formula.words() {
@@ -50,10 +75,10 @@ impl Answer {
     /// The answer for a person, with what the file says at the rows it names.
     pub fn text(&self) -> String {
         let rest = match self {
-            Answer::Table(source, Ok(plan)) => plan
-                .conditions()
-                .map(|condition| condition_text(&condition, source))
-                .collect(),
+            Answer::Table(source, Ok(plan)) => conditions_text(plan, source),
+            Answer::Short(source, shortened) => {
+                format!("{shortened}\n{}", conditions_text(&shortened.new, source))
+            }
             Answer::Table(source, Err(refusal)) => refusal_text(refusal, source),
             Answer::Unread(text) => text.explanation(),
         };
@@ -64,7 +89,7 @@ impl Answer {
     /// byte of the file where a text is not read.
     pub fn refusal_json(&self) -> Option<Json> {
         let (number, place, at) = match self {
-            Answer::Table(_, Ok(_)) => return None,
+            Answer::Table(_, Ok(_)) | Answer::Short(..) => return None,
             Answer::Table(_, Err(refusal)) => (refusal.reason.number(), "row", refusal.row),
             Answer::Unread(text) => (text.refusal.reason.number(), "byte", text.place_in_file()),
         };
@@ -78,16 +103,26 @@ impl Answer {
 
     fn first_line(&self) -> String {
         match self {
-            Answer::Table(_, Ok(plan)) => {
-                let conditions = plan.conditions().len();
-                format!("planned {conditions} {}\n", plan.words().len())
-            }
+            Answer::Table(_, Ok(plan)) => planned(plan),
+            Answer::Short(_, shortened) => planned(&shortened.old),
             Answer::Table(_, Err(refusal)) => {
                 format!("refused {} {}\n", refusal.reason.number(), refusal.row)
             }
             Answer::Unread(text) => text.first_line(),
         }
     }
+}
+
+fn planned(plan: &Plan) -> String {
+    let conditions = plan.conditions().len();
+    format!("planned {conditions} {}\n", plan.words().len())
+}
+
+fn conditions_text(plan: &Plan, source: &Source) -> String {
+    let conditions = plan.conditions();
+    conditions
+        .map(|condition| condition_text(&condition, source))
+        .collect()
 }
 
 fn condition_text(condition: &Condition, source: &Source) -> String {
@@ -173,6 +208,26 @@ mod tests {
             line 7: all\n    true\n  implies\n    x = x\n";
         assert_eq!(text, expected);
         assert_eq!(words, "planned 1 11\nmain 5 25 16 20 2 0 2 0\n");
+    }
+
+    #[test]
+    fn a_shortened_plan_says_what_is_saved() {
+        let answer = Answer::to(b"pre true; v0 := v0 * 1; post v0 = v0 + 0");
+        let answer = answer.unwrap().shortened();
+        let expected = "planned 1 20\nshortened to 9 words, 11 saved\n\n\
+            main 10: the precondition gives what the script needs at its start\n\
+            line 1: pre true\n    v0 = v0\n";
+        assert_eq!(answer.text(), expected);
+        let expected = "planned 1 20\nshortened 9 11\nmain 10 20 2 0 2 0\n";
+        assert_eq!(answer.words(), expected);
+    }
+
+    #[test]
+    fn a_refusal_is_not_shortened() {
+        for refused in ["", "99 0 0 0", "pre", "pre true; v128 := 0; post true"] {
+            let answer = Answer::to(refused.as_bytes()).unwrap();
+            assert_eq!(answer.clone().shortened(), answer);
+        }
     }
 
     #[test]

@@ -8,6 +8,7 @@ mod point;
 mod proof;
 mod refused_text;
 mod rows;
+mod shortened;
 mod smt;
 pub mod solvers;
 mod source;
@@ -20,10 +21,11 @@ pub use json::Json;
 pub use names::Names;
 pub use point::Point;
 pub use proof::{
-    Asked, Contradiction, Finding, Outcome, Progress, Proof, Refutation, Report, Verdict,
+    Asked, Contradiction, Finding, Outcome, Progress, Proof, Refutation, Report, Verdict, Wording,
 };
 pub use refused_text::RefusedText;
 pub use rows::{RowLine, Rows};
+pub use shortened::Shortened;
 pub use smt::{scripts, Script};
 pub use source::{Fault, Source, Unread};
 pub use system::columns;

@@ -1,6 +1,6 @@
 //! The command: `vcgen [list] [--words] FILE`, `vcgen smt FILE [INDEX]`,
 //! `vcgen smt --into FOLDER FILE` and
-//! `vcgen prove [--timeout SECONDS] [--json] FILE`.
+//! `vcgen prove [--timeout SECONDS] [--json] FILE`, each also with `--short`.
 
 mod progress;
 mod request;
@@ -15,7 +15,7 @@ use cli::solvers::Solver;
 use cli::{scripts, Answer, Outcome, Progress, Proof, Report, Script, HELP};
 use leqwarti::Plan;
 use progress::ProgressLine;
-use request::{request, Prove, Request, Wanted};
+use request::{request, List, Prove, Request, Smt, Wanted};
 
 const REFUSED: u8 = 1;
 const UNREADABLE: u8 = 2;
@@ -43,9 +43,9 @@ fn main() -> ExitCode {
 fn carry_out(request: Request) -> Result<u8, Failure> {
     match request {
         Request::Help => print(HELP).map(|()| 0),
-        Request::List { file, as_words } => list(&answer(file)?, as_words),
-        Request::Smt { file, wanted } => smt(&answer(file)?, wanted).map(|()| 0),
-        Request::Prove(request) => prove(&answer(request.file)?, &request),
+        Request::List(request) => list(&request),
+        Request::Smt(request) => smt(&request).map(|()| 0),
+        Request::Prove(request) => prove(&request),
     }
 }
 
@@ -61,6 +61,15 @@ fn answer(file: &Path) -> Result<Answer, Failure> {
         .map_err(|fault| unreadable(format!("{name}:{}: {}\n", fault.line, fault.problem)))
 }
 
+/// The same, its conditions shortened where that is asked for.
+fn answer_with(file: &Path, is_short: bool) -> Result<Answer, Failure> {
+    let answer = answer(file)?;
+    Ok(match is_short {
+        true => answer.shortened(),
+        false => answer,
+    })
+}
+
 fn read_input() -> io::Result<Vec<u8>> {
     let mut bytes = Vec::new();
     io::stdin().read_to_end(&mut bytes).map(|_| bytes)
@@ -71,30 +80,36 @@ fn unreadable(told: String) -> Failure {
     Failure { told, status }
 }
 
-fn list(answer: &Answer, as_words: bool) -> Result<u8, Failure> {
-    let text = if as_words {
-        answer.words()
-    } else {
-        answer.text()
-    };
-    print(&text)?;
+fn list(request: &List) -> Result<u8, Failure> {
+    let answer = answer_with(request.file, request.is_short)?;
+    print(&match request.as_words {
+        true => answer.words(),
+        false => answer.text(),
+    })?;
     Ok(match answer.plan() {
         Some(_) => 0,
         None => REFUSED,
     })
 }
 
-fn smt(answer: &Answer, wanted: Wanted) -> Result<(), Failure> {
+fn smt(request: &Smt) -> Result<(), Failure> {
+    let answer = answer_with(request.file, request.is_short)?;
     let plan = answer.plan().ok_or_else(|| refused(answer.text()))?;
-    match wanted {
+    match request.wanted {
         Wanted::At { index, given } => {
             let text = leqwarti::smt(plan.words(), index);
             let given = given.display();
             print(&text.map_err(|refusal| refused(format!("index {given}: {refusal}\n")))?)
         }
-        Wanted::All => each_text(plan, |script, text| {
-            print(&format!("; {}\n{text}", script.name()))
-        }),
+        Wanted::All => {
+            let saved = answer
+                .shortening()
+                .map(|shortened| format!("; {shortened}\n"));
+            print(&saved.unwrap_or_default())?;
+            each_text(plan, |script, text| {
+                print(&format!("; {}\n{text}", script.name()))
+            })
+        }
         Wanted::Into(folder) => {
             fs::create_dir_all(folder).map_err(|error| no_file(folder, error))?;
             each_text(plan, |script, text| {
@@ -104,8 +119,9 @@ fn smt(answer: &Answer, wanted: Wanted) -> Result<(), Failure> {
     }
 }
 
-fn prove(answer: &Answer, request: &Prove) -> Result<u8, Failure> {
-    let Answer::Table(source, Ok(plan)) = answer else {
+fn prove(request: &Prove) -> Result<u8, Failure> {
+    let answer = answer(request.file)?.shortened();
+    let Answer::Short(source, shortened) = &answer else {
         let told = match answer.refusal_json() {
             Some(refusal) if request.as_json => format!("{refusal}\n"),
             _ => answer.text(),
@@ -113,16 +129,28 @@ fn prove(answer: &Answer, request: &Prove) -> Result<u8, Failure> {
         return print(&told).map(|()| REFUSED);
     };
     let solvers = solvers()?;
-    let report = Report { source };
-    let mut progress = ProgressLine::new(plan.conditions().len());
-    let proof = Proof::of(plan, &solvers, request.limit, &mut |told| {
-        progress.take(&told);
-        if let (Progress::Settled(finding), false) = (told, request.as_json) {
-            print(&report.line(finding))?;
-        }
-        progress.show();
-        Ok(())
-    });
+    let report = Report {
+        source,
+        shortened: request.is_short.then_some(shortened),
+    };
+    if !request.as_json {
+        print(&report.head())?;
+    }
+    let mut progress = ProgressLine::new(shortened.old.conditions().len());
+    let proof = Proof::of(
+        shortened,
+        report.wording(),
+        &solvers,
+        request.limit,
+        &mut |told| {
+            progress.take(&told);
+            if let (Progress::Settled(finding), false) = (told, request.as_json) {
+                print(&report.line(finding))?;
+            }
+            progress.show();
+            Ok(())
+        },
+    );
     progress.wipe();
     let proof = proof?;
     print(&if request.as_json {

@@ -9,9 +9,22 @@ use cli::HELP;
 
 pub enum Request<'a> {
     Help,
-    List { file: &'a Path, as_words: bool },
-    Smt { file: &'a Path, wanted: Wanted<'a> },
+    List(List<'a>),
+    Smt(Smt<'a>),
     Prove(Prove<'a>),
+}
+
+pub struct List<'a> {
+    pub file: &'a Path,
+    /// Whether the conditions are shortened; below too.
+    pub is_short: bool,
+    pub as_words: bool,
+}
+
+pub struct Smt<'a> {
+    pub file: &'a Path,
+    pub is_short: bool,
+    pub wanted: Wanted<'a>,
 }
 
 /// Which scripts are wanted, and where.
@@ -27,6 +40,8 @@ pub enum Wanted<'a> {
 
 pub struct Prove<'a> {
     pub file: &'a Path,
+    /// Whether what is told is told of the shortened conditions.
+    pub is_short: bool,
     /// The time that a solver has for a condition.
     pub limit: Duration,
     pub as_json: bool,
@@ -94,9 +109,13 @@ impl Subcommand {
     /// Its options, each with what has to follow it.
     fn options(self) -> &'static [(&'static str, Option<&'static str>)] {
         match self {
-            Subcommand::List => &[("--words", None)],
-            Subcommand::Smt => &[("--into", Some("FOLDER"))],
-            Subcommand::Prove => &[("--timeout", Some("SECONDS")), ("--json", None)],
+            Subcommand::List => &[("--short", None), ("--words", None)],
+            Subcommand::Smt => &[("--short", None), ("--into", Some("FOLDER"))],
+            Subcommand::Prove => &[
+                ("--short", None),
+                ("--timeout", Some("SECONDS")),
+                ("--json", None),
+            ],
         }
     }
 
@@ -149,22 +168,28 @@ impl<'a> Given<'a> {
     fn request(&self, subcommand: Subcommand) -> Result<Request<'a>, String> {
         let (file, rest) = self.operands.split_first().ok_or("no file is given")?;
         let file = Path::new(*file);
+        let is_short = self.has("--short");
         Ok(match subcommand {
             Subcommand::List => {
                 none_of(rest)?;
-                let as_words = self.options.contains_key("--words");
-                Request::List { file, as_words }
+                Request::List(List {
+                    file,
+                    is_short,
+                    as_words: self.has("--words"),
+                })
             }
-            Subcommand::Smt => {
-                let wanted = self.wanted(rest)?;
-                Request::Smt { file, wanted }
-            }
+            Subcommand::Smt => Request::Smt(Smt {
+                file,
+                is_short,
+                wanted: self.wanted(rest)?,
+            }),
             Subcommand::Prove => {
                 none_of(rest)?;
                 Request::Prove(Prove {
                     file,
+                    is_short,
                     limit: self.limit()?,
-                    as_json: self.options.contains_key("--json"),
+                    as_json: self.has("--json"),
                 })
             }
         })
@@ -199,6 +224,10 @@ impl<'a> Given<'a> {
             )
         };
         seconds(argument).ok_or_else(none)
+    }
+
+    fn has(&self, option: &str) -> bool {
+        self.options.contains_key(option)
     }
 
     /// What follows an option.
@@ -250,19 +279,32 @@ mod tests {
         match request(&split(arguments)) {
             Err(_) => "usage".to_string(),
             Ok(Request::Help) => "help".to_string(),
-            Ok(Request::List { file, as_words }) => format!("list {} {as_words}", file.display()),
-            Ok(Request::Smt { file, wanted }) => {
-                let file = file.display();
-                match wanted {
-                    Wanted::At { index, .. } => format!("smt {file} at {index}"),
-                    Wanted::All => format!("smt {file}"),
-                    Wanted::Into(folder) => format!("smt {file} into {}", folder.display()),
-                }
+            Ok(Request::List(list)) => {
+                let (short, file) = (short(list.is_short), list.file.display());
+                format!("list{short} {file} {}", list.as_words)
+            }
+            Ok(Request::Smt(smt)) => {
+                let (short, file) = (short(smt.is_short), smt.file.display());
+                let wanted = match smt.wanted {
+                    Wanted::At { index, .. } => format!(" at {index}"),
+                    Wanted::All => String::new(),
+                    Wanted::Into(folder) => format!(" into {}", folder.display()),
+                };
+                format!("smt{short} {file}{wanted}")
             }
             Ok(Request::Prove(prove)) => {
+                let (short, file) = (short(prove.is_short), prove.file.display());
                 let form = if prove.as_json { "json" } else { "text" };
-                format!("prove {} {:?} {form}", prove.file.display(), prove.limit)
+                format!("prove{short} {file} {:?} {form}", prove.limit)
             }
+        }
+    }
+
+    fn short(is_short: bool) -> &'static str {
+        if is_short {
+            " short"
+        } else {
+            ""
         }
     }
 
@@ -289,6 +331,16 @@ mod tests {
             ("prove --timeout 2 a", "prove a 2s text"),
             ("prove a --timeout 0.25 --json", "prove a 250ms json"),
             ("prove --json --timeout 86400 a", "prove a 86400s json"),
+            ("--short a", "list short a false"),
+            ("a --short --words", "list short a true"),
+            ("list --words --short a", "list short a true"),
+            ("smt --short a", "smt short a"),
+            ("smt --short a 0", "smt short a at 0"),
+            ("smt a 0 --short", "smt short a at 0"),
+            ("smt --short --into b a", "smt short a into b"),
+            ("smt --into --short a", "smt a into --short"),
+            ("prove --short a", "prove short a 10s text"),
+            ("prove --json a --short", "prove short a 10s json"),
             ("--help", "help"),
             ("smt -h", "help"),
         ] {
@@ -340,6 +392,11 @@ mod tests {
             "prove --timeout inf a",
             "prove --timeout 86401 a",
             "prove --timeout 1 --timeout 2 a",
+            "--short",
+            "--short --short a",
+            "--short prove a",
+            "smt --short a 0 --short",
+            "prove --shorter a",
         ] {
             assert_eq!(told(arguments), "usage", "{arguments}");
         }
@@ -355,14 +412,25 @@ mod tests {
     #[test]
     fn what_is_wrong_comes_before_the_usage() {
         let usage_of = |name: &str| match name {
-            "list" => "usage: ./vcgen [list] [--words] FILE",
-            "smt" => "usage: ./vcgen smt FILE [INDEX]\n       ./vcgen smt --into FOLDER FILE",
-            _ => "usage: ./vcgen prove [--timeout SECONDS] [--json] FILE",
+            "list" => "usage: ./vcgen [list] [--short] [--words] FILE",
+            "smt" => {
+                "usage: ./vcgen smt [--short] FILE [INDEX]\n       \
+                 ./vcgen smt [--short] --into FOLDER FILE"
+            }
+            _ => "usage: ./vcgen prove [--short] [--timeout SECONDS] [--json] FILE",
         };
         for (arguments, name, wanted) in [
             ("a b", "list", "`b` is an argument too many"),
             ("--word a", "list", "`--word` is no option of list"),
             ("--words --words a", "list", "--words is given twice"),
+            ("--short a --short", "list", "--short is given twice"),
+            ("smt --short a --short", "smt", "--short is given twice"),
+            ("prove --short --short a", "prove", "--short is given twice"),
+            (
+                "prove --short=yes a",
+                "prove",
+                "`--short=yes` is no option of prove",
+            ),
             ("smt", "smt", "no file is given"),
             ("smt -1", "smt", "`-1` is no option of smt"),
             ("smt a -x", "smt", "`-x` is no option of smt"),

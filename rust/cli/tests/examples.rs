@@ -140,7 +140,8 @@ fn what_cannot_be_read_has_status_2_and_its_line() {
 fn wrong_usage_is_told() {
     let usage = |problem: &str| {
         format!(
-            "vcgen: {problem}\nusage: ./vcgen [list] [--words] FILE\n./vcgen --help says more\n"
+            "vcgen: {problem}\nusage: ./vcgen [list] [--short] [--words] FILE\n\
+             ./vcgen --help says more\n"
         )
     };
     for (arguments, problem) in [

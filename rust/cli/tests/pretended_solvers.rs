@@ -802,7 +802,7 @@ fn the_time_that_is_told_is_that_of_the_solver() {
 #[test]
 fn wrong_usage_is_told() {
     let none = folder(&[]);
-    let usage = "usage: ./vcgen prove [--timeout SECONDS] [--json] FILE\n";
+    let usage = "usage: ./vcgen prove [--short] [--timeout SECONDS] [--json] FILE\n";
     let seconds = "is no number of SECONDS: more than 0, 86400 at most, as 10 or 0.5";
     for (arguments, problem) in [
         (&[][..], "no file is given"),
@@ -822,6 +822,7 @@ fn wrong_usage_is_told() {
         ),
         (&["--timeout=1", "-"], "`--timeout=1` is no option of prove"),
         (&["--json", "--json", "-"], "--json is given twice"),
+        (&["--short", "-", "--short"], "--short is given twice"),
         (&["--words", "-"], "`--words` is no option of prove"),
         (&["--into", "a", "-"], "`--into` is no option of prove"),
         (&["-", "0"], "`0` is an argument too many"),
@@ -966,6 +967,88 @@ fn solvers_see_nothing_of_standard_input() {
     let folder: PathBuf = folder(&[("z3", reads_all)]);
     let run = vcgen(&folder, &["prove", "--timeout", "3", "-"], TRUE);
     assert_open(&run, "z3 undecided after TIME");
-    let script = vcgen(&folder, &["smt", "-", "0"], TRUE).out;
+    let script = vcgen(&folder, &["smt", "--short", "-", "0"], TRUE).out;
     assert_eq!(text(&folder.join("z3.told")), script);
+}
+
+/// Shortened, it is `v0 <> 123456 * 1001`.
+const PADDED_AND_FALSE_FAR_AWAY: &str = "pre true;\nv0 := v0 * 1;\n\
+    post v0 + 0 <> 123456 * 1001 and (v1 = 5 implies true)";
+
+/// What solvers are asked has no v1, and what they say is told of the script's own
+/// condition; with `--short`, of the shortened one.
+#[test]
+fn values_of_a_short_condition_are_those_of_its_own() {
+    let solver = folder(&[("z3", "echo sat; echo '((v0 123579456))'")]);
+    let own = vcgen(&solver, &["prove", "-"], PADDED_AND_FALSE_FAR_AWAY);
+    assert_eq!(found(&own), "false where v0 = 123579456, v1 = 0 (z3 TIME)");
+    let part = "\nFalse there:\n    ((v0 * 1) + 0) <> (123456 * 1001): 123579456 on the left, ";
+    assert!(own.conclusion().contains(part), "{own:?}");
+
+    let short = vcgen(
+        &solver,
+        &["prove", "--short", "-"],
+        PADDED_AND_FALSE_FAR_AWAY,
+    );
+    let (head, rest) = short.out.split_once('\n').unwrap();
+    assert_eq!(head, "shortened to 12 words, 16 saved");
+    let line = "main 18, line 1: false where v0 = 123579456 (z3 TIME)\n\nnot proved: ";
+    assert!(without_times(rest).starts_with(line), "{short:?}");
+    let part = "\nFalse there:\n    v0 <> (123456 * 1001): 123579456 on the left, ";
+    assert!(rest.contains(part), "{short:?}");
+    assert_eq!((own.status, short.status), (Some(4), Some(4)));
+}
+
+#[test]
+fn who_lies_about_a_short_condition_is_found_out() {
+    let small = PADDED_AND_FALSE_FAR_AWAY.replace("123456 * 1001", "5");
+    let run = by_z3("echo unsat", &small);
+    assert_contradiction(
+        &run,
+        "z3 says true, and it is false where v0 = 5, v1 = 0 (z3 TIME)",
+    );
+    let run = by_z3("echo sat; echo '((v0 7))'", PADDED_AND_FALSE_FAR_AWAY);
+    assert_contradiction(
+        &run,
+        "z3 says false where v0 = 7, and it is true there (z3 TIME)",
+    );
+    for values in ["((v0 123579456) (v1 0))", "((v1 0))"] {
+        let run = by_z3(
+            &format!("echo sat; echo '{values}'"),
+            PADDED_AND_FALSE_FAR_AWAY,
+        );
+        assert_contradiction(
+            &run,
+            "z3 says false, and gave no values in time that can be read (z3 TIME)",
+        );
+    }
+    let (right, wrong) = ("echo sat; echo '((v0 123579456))'", "echo unsat");
+    let run = by(&[("z3", right), ("cvc5", wrong)], PADDED_AND_FALSE_FAR_AWAY);
+    let line = "cvc5 says true, and it is false where v0 = 123579456, v1 = 0 (z3 TIME, cvc5 TIME)";
+    assert_contradiction(&run, line);
+}
+
+/// Of each condition the first line with its assertion.
+const WRITES_ASSERTIONS: &str = "while read -r line; do case $line in\n\
+    '(assert'*) echo \"$line\" >> \"$0.asked\" ;;\n\
+    '(check-sat)') echo unsat; exit ;;\n\
+    esac; done";
+
+/// With `--short` and without.
+#[test]
+fn solvers_are_asked_about_the_short_conditions() {
+    for short in [&[][..], &["--short"]] {
+        let folder = folder(&[("z3", WRITES_ASSERTIONS)]);
+        let script = example("oil-bill.script");
+        let run = vcgen(&folder, &[&["prove"], short, &["-"]].concat(), &script);
+        assert_eq!((run.status, run.conclusion()), (Some(0), PROVED));
+        let scripts = vcgen(&folder, &["smt", "--short", "-"], &script).out;
+        let assertions = scripts.lines().filter(|line| line.starts_with("(assert"));
+        let mut wanted: Vec<&str> = assertions.collect();
+        let asked = text(&folder.join("z3.asked"));
+        let mut asked: Vec<&str> = asked.lines().collect();
+        wanted.sort();
+        asked.sort();
+        assert_eq!(asked, wanted);
+    }
 }

@@ -14,7 +14,7 @@ use std::sync::LazyLock;
 use std::{env, fs};
 
 use cli::Source;
-use files::{expected, name, rows, text, texts, top};
+use files::{each, expected, name, rows, text, texts, top};
 use fuzz::claims::changed_meaning;
 use fuzz::templates::{any_dividing_template, lay_out};
 use fuzz::{seed_from_environment, tell, Prng};
@@ -166,6 +166,36 @@ fn both_solvers_settle_every_condition_of_the_examples() {
         }
     }
     assert!(settled >= 200, "{settled} conditions");
+}
+
+/// Every example once with `--short`.
+static SHORT: LazyLock<Vec<(PathBuf, Run)>> = LazyLock::new(|| {
+    let files = each().into_iter().filter(|file| !is_refused(file));
+    let run = |file: PathBuf| {
+        let path = file.to_str().unwrap();
+        let run = prove_with(&["--short", "--timeout", time_for(&file), path], "");
+        (file, run)
+    };
+    files.map(run).collect()
+});
+
+#[test]
+fn short_conditions_have_the_verdicts_of_their_own() {
+    for (file, run) in SHORT.iter() {
+        let file_name = file.file_name().unwrap().to_str().unwrap();
+        let own = run_of(file_name);
+        assert_eq!(run.verdicts(), own.verdicts(), "{file_name}");
+        assert_eq!(run.warnings(), own.warnings(), "{file_name}");
+        assert_eq!(run.sentence(), own.sentence(), "{file_name}");
+        assert_eq!((run.status, own.saved()), (own.status, None), "{file_name}");
+
+        let arguments = ["list", "--short", file.to_str().unwrap()];
+        let listed = vcgen(real_path(), &arguments, "").out;
+        assert_eq!(run.saved(), listed.lines().nth(1), "{file_name}");
+        for truth in truths_where_false(&text(file), run) {
+            assert_eq!(truth, Some(false), "{file_name}: {}", run.out);
+        }
+    }
 }
 
 #[test]
@@ -471,6 +501,29 @@ fn a_script_needs_no_variables() {
     );
 }
 
+/// The part that is false is one of the script's own condition, or with `--short`
+/// of the shortened one.
+#[test]
+fn what_is_false_is_shown_as_it_is_asked_for() {
+    let script = "v0 is x\n\npre true;\nv0 := 0 - v0;\nassert true;\npost v0 * 1 + 0 <= 5";
+    let line = "main 15, line 3: false where x = -6 (z3 TIME, cvc5 TIME)\n";
+    let (status, out) = proved(script);
+    assert!(status == Some(4) && out.starts_with(line), "{out}");
+    let part = "\nFalse there:\n    (((0 - x) * 1) + 0) <= 5: 6 on the left, 5 on the right\n";
+    assert!(out.ends_with(part), "{out}");
+
+    let short = prove_with(&["--short", "-"], script).timeless();
+    let head = format!("shortened to 10 words, 12 saved\n{line}");
+    assert!(short.starts_with(&head), "{short}");
+    let part = "\nFalse there:\n    (-(x)) <= 5: 6 on the left, 5 on the right\n";
+    assert!(short.ends_with(part), "{short}");
+
+    let (_, json) = json_of(&["--short", "-"], script);
+    let main = &json.list("conditions")[0];
+    assert_eq!(main.text("false_part"), "(-(x)) <= 5");
+    assert_eq!(json.number("saved"), "12");
+}
+
 /// The body lowers x by 1 and its variant by 0.
 #[test]
 fn a_mark_is_explained() {
@@ -557,6 +610,29 @@ fn the_object_says_what_the_lines_say() {
             assert_condition(condition, line);
         }
         assert_eq!(json.list("warnings").len(), run.warnings().len());
+    }
+}
+
+#[test]
+fn with_short_the_object_has_what_is_saved() {
+    for file in ["oil-bill.script", "countdown.rows", "no-invariant.script"] {
+        let path = example(file);
+        let arguments = [path.to_str().unwrap()];
+        let (own_status, own) = json_of(&arguments, "");
+        let (status, json) = json_of(&[&["--short"], &arguments[..]].concat(), "");
+        assert_eq!(status, own_status);
+        match json.text("verdict") {
+            "refused" => assert_eq!(json, own),
+            _ => {
+                let names = ["verdict", "conditions", "warnings", "saved"];
+                assert_eq!(
+                    (json.names(), own.names()),
+                    (names.to_vec(), names[..3].to_vec())
+                );
+                let saved = if file.starts_with("oil") { "104" } else { "0" };
+                assert_eq!(json.number("saved"), saved);
+            }
+        }
     }
 }
 
@@ -683,10 +759,11 @@ fn the_help_names_what_the_object_has() {
         "own-mark.rows",
     ] {
         let path = example(file);
-        let (_, json) = json_of(&["--timeout", time_for(&path), path.to_str().unwrap()], "");
+        let timeout = ["--short", "--timeout", time_for(&path)];
+        let (_, json) = json_of(&[&timeout[..], &[path.to_str().unwrap()]].concat(), "");
         names_and_words(&json, &mut found);
     }
-    assert!(found.len() >= 25, "{found:?}");
+    assert!(found.len() >= 26 && found.contains("saved"), "{found:?}");
     let (_, help) = cli::HELP.split_once("--json prints one object").unwrap();
     let help = words_apart(help);
     for word in found {

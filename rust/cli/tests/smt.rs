@@ -240,7 +240,8 @@ fn what_cannot_be_read_or_written_has_status_2() {
 
 #[test]
 fn wrong_usage_is_told() {
-    let usage = "usage: ./vcgen smt FILE [INDEX]\n       ./vcgen smt --into FOLDER FILE\n";
+    let usage = "usage: ./vcgen smt [--short] FILE [INDEX]\n       \
+        ./vcgen smt [--short] --into FOLDER FILE\n";
     for (arguments, problem) in [
         (&["smt"][..], "no file is given"),
         (

@@ -12,8 +12,17 @@ use leqwarti::Plan;
 use reference::{formula_from_words, formula_is_true, Formula, Row, State, Variable};
 use solver::{contradict, verdicts, Effort, Model, Verdict};
 
-/// The conditions of all examples, as `fleet-join: exit 47`, with their texts.
-fn example_scripts() -> Vec<(String, String)> {
+/// A condition of an example.
+struct ExampleScript {
+    /// As `fleet-join: exit 47`.
+    name: String,
+    own: String,
+    /// Of the shortened condition.
+    short: String,
+}
+
+/// The conditions of all examples.
+fn example_scripts() -> Vec<ExampleScript> {
     let mut named = Vec::new();
     for file in files::each() {
         let source = Source::read(files::text(&file).as_bytes());
@@ -21,9 +30,11 @@ fn example_scripts() -> Vec<(String, String)> {
         let Some(Ok(plan)) = plan else {
             continue;
         };
-        for script in scripts(&plan) {
-            let name = format!("{}: {}", files::name(&file), script.name());
-            named.push((name, script.text().unwrap()));
+        let shortened = plan.shortened();
+        for (own, short) in scripts(&plan).zip(scripts(&shortened)) {
+            let name = format!("{}: {}", files::name(&file), own.name());
+            let [own, short] = [own, short].map(|script| script.text().unwrap());
+            named.push(ExampleScript { name, own, short });
         }
     }
     named
@@ -40,16 +51,21 @@ const FALSE: [&str; 4] = [
 /// The only condition of examples that solvers do not decide.
 const UNDECIDED: &str = "gcd: step 57";
 
+/// What is enough for all others.
+const EFFORT: Effort = Effort {
+    z3: 5_000_000,
+    cvc5: 100_000,
+};
+
 /// Of each faulty example one condition is false in some state. All others are
 /// true in every state, as far as both solvers can tell.
 #[test]
 fn the_examples_are_as_sound_as_they_say() {
-    let effort = Effort {
-        z3: 5_000_000,
-        cvc5: 100_000,
-    };
-    let (names, texts): (Vec<String>, Vec<String>) = example_scripts().into_iter().unzip();
-    let verdicts = verdicts(&texts, effort);
+    let (names, texts): (Vec<String>, Vec<String>) = example_scripts()
+        .into_iter()
+        .map(|script| (script.name, script.own))
+        .unzip();
+    let verdicts = verdicts(&texts, EFFORT);
     let is_false = |verdict: &Verdict| matches!(verdict, Verdict::Sat(_));
     let named = names.iter().zip(&verdicts);
     let false_somewhere = named.filter(|(_, both)| both.iter().any(is_false));
@@ -68,6 +84,33 @@ fn the_examples_are_as_sound_as_they_say() {
     }
 }
 
+/// Shortened, a condition has the verdict that it had.
+#[test]
+fn short_conditions_of_the_examples_have_the_same_verdicts() {
+    let mut scripts = example_scripts();
+    scripts.retain(|script| script.own != script.short);
+    let texts = |of: fn(&ExampleScript) -> &String| {
+        let texts: Vec<String> = scripts.iter().map(|script| of(script).clone()).collect();
+        texts
+    };
+    let own = verdicts(&texts(|script| &script.own), EFFORT);
+    let short = verdicts(&texts(|script| &script.short), EFFORT);
+    let words = |both: &[Verdict; 2]| both.each_ref().map(word);
+    for (script, (own, short)) in scripts.iter().zip(own.iter().zip(&short)) {
+        assert_eq!(words(own), words(short), "{}", script.name);
+    }
+    tell(format!("{} conditions are shorter", scripts.len()));
+    assert!(scripts.len() >= 20, "{} conditions", scripts.len());
+}
+
+fn word(verdict: &Verdict) -> &'static str {
+    match verdict {
+        Verdict::Sat(_) => "sat",
+        Verdict::Unsat => "unsat",
+        Verdict::Unknown => "unknown",
+    }
+}
+
 /// How many random conditions the solvers read.
 const CONDITIONS: usize = 2_000;
 
@@ -79,18 +122,25 @@ const STATES: usize = 300;
 
 struct Case {
     formula: Formula,
+    /// The formula's own text.
+    own: String,
+    /// What solvers read: its own text, or that of the shortened condition.
     text: String,
 }
 
-/// A condition of any plan.
+/// A condition of any plan, every second time shortened for solvers.
 fn any_case(random: &mut Prng) -> Case {
     loop {
         let plan = any_plan(random);
         let index = random.below(plan.conditions().len());
         let condition = plan.conditions().nth(index).unwrap();
         let formula = formula_from_words(condition.formula.words()).unwrap();
-        match plan.smt(index) {
-            Ok(text) if text.len() <= LONGEST => return Case { formula, text },
+        let asked = match random.once_in(2) {
+            true => plan.shortened(),
+            false => plan.clone(),
+        };
+        match (plan.smt(index), asked.smt(index)) {
+            (Ok(own), Ok(text)) if own.len() <= LONGEST => return Case { formula, own, text },
             _ => (),
         }
     }
@@ -107,9 +157,9 @@ impl Case {
         formula_is_true(&self.formula, state).ok()
     }
 
-    /// The names that the text declares.
+    /// The names that the formula reads.
     fn names(&self) -> impl Iterator<Item = &str> {
-        let declarations = self.text.lines();
+        let declarations = self.own.lines();
         declarations.filter_map(|line| line.strip_prefix("(declare-const ")?.strip_suffix(" Int)"))
     }
 

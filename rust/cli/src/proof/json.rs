@@ -17,11 +17,15 @@ impl Report<'_> {
             .map(|finding| self.condition_json(finding));
         let opposites = proof.opposites.iter();
         let warnings = opposites.filter_map(|opposite| self.warning_json(opposite));
-        Json::object([
+        let json = Json::object([
             ("verdict", Json::text(verdict)),
             ("conditions", Json::list(conditions)),
             ("warnings", Json::list(warnings)),
-        ])
+        ]);
+        match self.shortened {
+            Some(shortened) => json.with("saved", Json::number(shortened.saved())),
+            None => json,
+        }
     }
 
     fn condition_json(&self, finding: &Finding) -> Json {

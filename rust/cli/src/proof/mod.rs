@@ -3,6 +3,7 @@
 mod explanation;
 mod json;
 mod premise;
+mod query;
 mod report;
 mod verdict;
 
@@ -11,10 +12,12 @@ use std::time::Duration;
 use leqwarti::{Condition, ConditionKind, Plan};
 
 use crate::solvers::{ask, Event, Replied, Solver};
-use crate::{scripts, Script};
+use crate::Shortened;
 
 use premise::Premise;
+use query::Query;
 
+pub use query::Wording;
 pub use report::Report;
 pub use verdict::{Contradiction, Refutation, Verdict};
 
@@ -67,25 +70,33 @@ impl Proof {
     /// Asks about each condition, and then whether there are states for the
     /// premises of those that are not false. The first error of `watch` ends it.
     pub fn of<E>(
-        plan: &Plan,
+        shortened: &Shortened,
+        wording: Wording,
         solvers: &[Solver],
         limit: Duration,
         watch: &mut dyn FnMut(Progress) -> Result<(), E>,
     ) -> Result<Proof, E> {
-        let mut settle = |asked, questions: Vec<Script>| {
-            let mut settled = Settled::new(asked, &questions, watch);
-            let done = ask(&questions, solvers, limit, |event| settled.take(event));
+        let mut settle = |asked, queries: Vec<Query>| {
+            let mut settled = Settled {
+                asked,
+                wording,
+                queries: &queries,
+                watch,
+                findings: vec![None; queries.len()],
+                told: 0,
+            };
+            let done = ask(&queries, solvers, limit, |event| settled.take(event));
             done.map(|()| settled.findings())
         };
-        let findings = settle(Asked::Condition, scripts(plan).collect())?;
-        let opposites: Vec<Plan> = plan
-            .conditions()
-            .zip(&findings)
+        let findings = settle(Asked::Condition, Query::each(shortened).collect())?;
+        let conditions = shortened.old.conditions().zip(&findings);
+        let opposites: Vec<Shortened> = conditions
             .filter(|(_, finding)| !matches!(finding.verdict, Verdict::False(_)))
             .filter_map(|(condition, _)| opposite_of_premise(condition))
+            .map(Shortened::of)
             .collect();
-        let in_doubt = |script: &Script| script.evaluator().find_false().is_none();
-        let opposites = opposites.iter().flat_map(scripts).filter(in_doubt);
+        let in_doubt = |query: &Query| query.evaluators().own.find_false().is_none();
+        let opposites = opposites.iter().flat_map(Query::each).filter(in_doubt);
         let opposites = settle(Asked::OppositeOfPremise, opposites.collect())?;
         Ok(Proof {
             findings,
@@ -129,38 +140,25 @@ fn opposite_of_premise(condition: Condition) -> Option<Plan> {
 /// Findings, as replies come in.
 struct Settled<'a, E> {
     asked: Asked,
-    questions: &'a [Script<'a>],
+    wording: Wording,
+    queries: &'a [Query<'a>],
     watch: &'a mut dyn FnMut(Progress) -> Result<(), E>,
     findings: Vec<Option<Finding>>,
     /// How many from the front are told.
     told: usize,
 }
 
-impl<'a, E> Settled<'a, E> {
-    fn new(
-        asked: Asked,
-        questions: &'a [Script<'a>],
-        watch: &'a mut dyn FnMut(Progress) -> Result<(), E>,
-    ) -> Settled<'a, E> {
-        Settled {
-            asked,
-            questions,
-            watch,
-            findings: vec![None; questions.len()],
-            told: 0,
-        }
-    }
-
+impl<E> Settled<'_, E> {
     fn take(&mut self, event: Event) -> Result<(), E> {
         match event {
             Event::Begun { question, .. } => {
-                let condition = self.questions[question].condition();
+                let condition = self.queries[question].condition();
                 (self.watch)(Progress::Begun(self.asked, condition))
             }
             Event::Answered { question, replies } => {
-                let script = &self.questions[question];
-                (self.watch)(Progress::Answered(self.asked, script.condition()))?;
-                self.findings[question] = Some(Finding::of(script, replies));
+                let query = &self.queries[question];
+                (self.watch)(Progress::Answered(self.asked, query.condition()))?;
+                self.findings[question] = Some(Finding::of(query, self.wording, replies));
                 self.tell()
             }
         }
@@ -179,18 +177,18 @@ impl<'a, E> Settled<'a, E> {
 
     /// Where nobody has answered, the evaluator alone.
     fn findings(self) -> Vec<Finding> {
-        let findings = self.findings.into_iter().zip(self.questions);
-        let or_open = |(finding, script): (Option<Finding>, &Script)| {
-            finding.unwrap_or_else(|| Finding::of(script, Vec::new()))
+        let findings = self.findings.into_iter().zip(self.queries);
+        let or_open = |(finding, query): (Option<Finding>, &Query)| {
+            finding.unwrap_or_else(|| Finding::of(query, self.wording, Vec::new()))
         };
         findings.map(or_open).collect()
     }
 }
 
 impl Finding {
-    fn of(script: &Script, replies: Vec<Replied>) -> Finding {
-        let Condition { kind, row, .. } = script.condition();
-        let verdict = Verdict::of(&script.evaluator(), &replies);
+    fn of(query: &Query, wording: Wording, replies: Vec<Replied>) -> Finding {
+        let Condition { kind, row, .. } = query.condition();
+        let verdict = Verdict::of(&query.evaluators(), wording, &replies);
         Finding {
             kind,
             row,
@@ -213,9 +211,9 @@ mod tests {
     #[test]
     fn what_nobody_is_asked_is_not_proved() {
         let list = vec![16, 1, 7, 1, 18, 2, 0, 1, 5, 4, 9, 5, 2];
-        let plan = Plan::read(list).unwrap();
+        let shortened = Shortened::of(Plan::read(list).unwrap());
         let watch: &mut dyn FnMut(Progress) -> Result<(), ()> = &mut |_| Err(());
-        let proof = Proof::of(&plan, &[], Duration::MAX, watch).unwrap();
+        let proof = Proof::of(&shortened, Wording::Own, &[], Duration::MAX, watch).unwrap();
         assert_eq!(proof.outcome(), Outcome::NotProved);
         let [always, sometimes] = &proof.findings[..] else {
             panic!("{proof:?}");

@@ -6,20 +6,36 @@ use evaluator::{Name, State, Whole};
 use leqwarti::Formula;
 
 use super::explanation::{of_false, OF_CONTRADICTION, OF_NO_ANSWER, OF_OPEN};
-use super::{Contradiction, Finding, Outcome, Premise, Proof, Refutation, Verdict};
+use super::{Contradiction, Finding, Outcome, Premise, Proof, Refutation, Verdict, Wording};
 use crate::solvers::{Replied, Reply};
-use crate::Source;
+use crate::{Shortened, Source};
 
 /// Tells what is found, in the names of the file.
 #[derive(Clone, Copy, Debug)]
 pub struct Report<'a> {
     pub source: &'a Source,
+    /// Where it is told of the shortened conditions.
+    pub shortened: Option<&'a Shortened>,
 }
 
 const PROVED: &str = "proved: every run from a start that meets the precondition ends, \
     fails no assertion, divides by no zero and meets the postcondition\n";
 
 impl Report<'_> {
+    /// In which form what is false is told.
+    pub fn wording(&self) -> Wording {
+        match self.shortened {
+            Some(_) => Wording::Short,
+            None => Wording::Own,
+        }
+    }
+
+    /// What stands before the lines: how many words are saved, where that is told.
+    pub fn head(&self) -> String {
+        let saved = self.shortened.map(|shortened| format!("{shortened}\n"));
+        saved.unwrap_or_default()
+    }
+
     /// One line for a condition.
     pub fn line(&self, finding: &Finding) -> String {
         let (name, line) = (finding.name(), self.source.line(finding.row));
@@ -81,6 +97,10 @@ impl Report<'_> {
             }
             Contradiction::FalseSomewhere { solver, state } => {
                 format!("{solver} says true, and it is false {}", self.place(state))
+            }
+            Contradiction::ShortDiffers { own, state } => {
+                let place = self.place(state);
+                format!("it is {own} {place}, and shortened it is not")
             }
         }
     }

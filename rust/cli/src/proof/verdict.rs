@@ -2,8 +2,9 @@
 
 use std::collections::BTreeMap;
 
-use evaluator::{Evaluator, FalsePart, Name, State, Whole};
+use evaluator::{FalsePart, Name, State, Whole};
 
+use super::query::{Evaluators, Wording};
 use crate::solvers::{Replied, Reply};
 
 #[derive(Clone, Debug, PartialEq)]
@@ -24,10 +25,10 @@ pub struct Refutation {
     pub sides: Option<[Whole; 2]>,
 }
 
-/// Why a solver is not believed.
+/// Why what is found is not believed.
 #[derive(Clone, Debug, PartialEq)]
 pub enum Contradiction {
-    /// It says false, and gives no values that can be read.
+    /// A solver says false, and gives no values that can be read.
     NoValues { solver: &'static str },
     /// It says false, and its values are too long to be checked.
     TooLong { solver: &'static str },
@@ -35,27 +36,54 @@ pub enum Contradiction {
     TrueThere { solver: &'static str, values: State },
     /// It says true, and the condition is false in a state.
     FalseSomewhere { solver: &'static str, state: State },
+    /// The condition is so in a state, and shortened it is not.
+    ShortDiffers { own: bool, state: State },
 }
 
 impl Verdict {
-    /// No value is believed: the condition is evaluated in all of them. What
-    /// solvers say is true is tried in some states, and so is what they leave
-    /// open.
-    pub fn of(condition: &Evaluator, replies: &[Replied]) -> Verdict {
-        let states = match refuting(condition, replies) {
-            Ok(states) => states,
-            Err(contradiction) => return Verdict::Contradiction(contradiction),
-        };
-        let states = states.into_iter().chain(condition.find_false());
-        let refutation = Refutation::nearest(condition, states);
+    /// No value is believed: the script's own condition is evaluated in all of
+    /// them. What solvers say is true is tried in some states, and so is what they
+    /// leave open.
+    pub fn of(condition: &Evaluators, wording: Wording, replies: &[Replied]) -> Verdict {
+        let found = Verdict::found(condition, wording, replies);
+        found.unwrap_or_else(Verdict::Contradiction)
+    }
+
+    fn found(
+        condition: &Evaluators,
+        wording: Wording,
+        replies: &[Replied],
+    ) -> Result<Verdict, Contradiction> {
+        let mut states = refuting(condition, replies)?;
+        if let Some(state) = condition.own.find_false() {
+            condition.truth(&state)?;
+            states.push(state);
+        }
+        let refutation = Refutation::nearest(condition, wording, &states)?;
         let is_unsat = |replied: &&Replied| replied.reply == Reply::Unsat;
         match (replies.iter().find(is_unsat), refutation) {
             (Some(Replied { solver, .. }), Some(Refutation { state, .. })) => {
-                Verdict::Contradiction(Contradiction::FalseSomewhere { solver, state })
+                Err(Contradiction::FalseSomewhere { solver, state })
             }
-            (Some(_), None) => Verdict::True,
-            (None, Some(refutation)) => Verdict::False(refutation),
-            (None, None) => Verdict::Open,
+            (Some(_), None) => Ok(Verdict::True),
+            (None, Some(refutation)) => Ok(Verdict::False(refutation)),
+            (None, None) => Ok(Verdict::Open),
+        }
+    }
+}
+
+impl Evaluators<'_> {
+    /// Whether the script's own condition is true. The shortened one must be so
+    /// too, where both can be evaluated.
+    fn truth(&self, state: &State) -> Result<Option<bool>, Contradiction> {
+        let own = self.own.truth(state);
+        let short = self.short.as_ref().and_then(|short| short.truth(state));
+        match (own, short) {
+            (Some(own), Some(short)) if own != short => {
+                let state = state.clone();
+                Err(Contradiction::ShortDiffers { own, state })
+            }
+            _ => Ok(own),
         }
     }
 }
@@ -63,17 +91,27 @@ impl Verdict {
 impl Refutation {
     /// The one nearest to 0, after each state was brought as near as may be.
     /// Nothing where the condition is true in all of them.
-    fn nearest(condition: &Evaluator, states: impl Iterator<Item = State>) -> Option<Refutation> {
-        let simplified = states.map(|state| condition.simplified(&state));
-        let state = simplified.min_by_key(State::distance)?;
-        let FalsePart { formula, sides } = condition.false_part(&state)?;
-        let part = formula.words().to_vec();
-        Some(Refutation { state, part, sides })
+    fn nearest(
+        condition: &Evaluators,
+        wording: Wording,
+        states: &[State],
+    ) -> Result<Option<Refutation>, Contradiction> {
+        let told = condition.in_wording(wording);
+        let simplified = states.iter().map(|state| told.simplified(state));
+        let Some(state) = simplified.min_by_key(State::distance) else {
+            return Ok(None);
+        };
+        condition.truth(&state)?;
+        let part = told.false_part(&state);
+        Ok(part.map(|FalsePart { formula, sides }| {
+            let part = formula.words().to_vec();
+            Refutation { state, part, sides }
+        }))
     }
 }
 
 /// The states that solvers give, if the condition is false in all of them.
-fn refuting(condition: &Evaluator, replies: &[Replied]) -> Result<Vec<State>, Contradiction> {
+fn refuting(condition: &Evaluators, replies: &[Replied]) -> Result<Vec<State>, Contradiction> {
     let state = |replied: &Replied| match &replied.reply {
         Reply::Sat(values) => Some(falsifying(condition, replied.solver, values.as_ref())),
         _ => None,
@@ -83,14 +121,14 @@ fn refuting(condition: &Evaluator, replies: &[Replied]) -> Result<Vec<State>, Co
 
 /// The state that a solver's values are, if the condition is false there.
 fn falsifying(
-    condition: &Evaluator,
+    condition: &Evaluators,
     solver: &'static str,
     values: Option<&BTreeMap<String, String>>,
 ) -> Result<State, Contradiction> {
     let values = values
         .and_then(state)
         .ok_or(Contradiction::NoValues { solver })?;
-    match condition.truth(&values) {
+    match condition.truth(&values)? {
         Some(false) => Ok(values),
         Some(true) => Err(Contradiction::TrueThere { solver, values }),
         None => Err(Contradiction::TooLong { solver }),
@@ -117,10 +155,11 @@ fn name(constant: &str) -> Option<Name> {
 #[cfg(test)]
 mod tests {
     use super::*;
+    use evaluator::Evaluator;
     use leqwarti::Formula;
     use std::time::Duration;
 
-    use Contradiction::{FalseSomewhere, NoValues, TooLong, TrueThere};
+    use Contradiction::{FalseSomewhere, NoValues, ShortDiffers, TooLong, TrueThere};
 
     /// v0 + v0 = 24691358 implies v1 <> 5: false in one state, which is not small.
     const RARELY_FALSE: [i32; 14] = [25, 20, 3, 2, 0, 2, 0, 1, 24_691_358, 21, 2, 1, 1, 5];
@@ -128,14 +167,28 @@ mod tests {
     const OFTEN_FALSE: [i32; 5] = [20, 2, 0, 2, 1];
 
     fn verdict<const N: usize>(words: &[i32], replies: [Reply; N]) -> Verdict {
-        let condition = Evaluator::of(Formula::new(words)).unwrap();
+        verdict_in(Wording::Own, words, None, replies)
+    }
+
+    /// Of a condition and its short form, where it has one.
+    fn verdict_in<const N: usize>(
+        wording: Wording,
+        own: &[i32],
+        short: Option<&[i32]>,
+        replies: [Reply; N],
+    ) -> Verdict {
+        let evaluator = |words| Evaluator::of(Formula::new(words)).unwrap();
+        let condition = Evaluators {
+            own: evaluator(own),
+            short: short.map(evaluator),
+        };
         let replies = ["z3", "cvc5"].into_iter().zip(replies);
         let replies = replies.map(|(solver, reply)| Replied {
             solver,
             reply,
             time: Duration::ZERO,
         });
-        Verdict::of(&condition, &replies.collect::<Vec<_>>())
+        Verdict::of(&condition, wording, &replies.collect::<Vec<_>>())
     }
 
     fn sat(values: &[(&str, &str)]) -> Reply {
@@ -250,6 +303,50 @@ mod tests {
             told("z3", values([1, 0]))
         );
         assert_eq!(verdict(&RARELY_FALSE, [Reply::Unsat]), Verdict::True);
+    }
+
+    /// true and v0 + v0 = 24691358 implies v1 <> 5 + 0 * v2.
+    const RARELY_FALSE_AND_LONG: [i32; 22] = [
+        25, 23, 16, 20, 3, 2, 0, 2, 0, 1, 24_691_358, 21, 2, 1, 3, 1, 5, 5, 1, 0, 2, 2,
+    ];
+
+    #[test]
+    fn what_is_shown_is_in_the_wording_that_is_wanted() {
+        let told = |wording| {
+            let replies = [sat(&RARE), Reply::Undecided];
+            let short = Some(&RARELY_FALSE[..]);
+            match verdict_in(wording, &RARELY_FALSE_AND_LONG, short, replies) {
+                Verdict::False(refutation) => refutation,
+                verdict => panic!("{verdict:?}"),
+            }
+        };
+        let (own, short) = (told(Wording::Own), told(Wording::Short));
+        assert_eq!(own.part, RARELY_FALSE_AND_LONG[11..]);
+        assert_eq!(short.part, RARELY_FALSE[9..]);
+        assert_eq!(
+            (own.sides, short.state),
+            (short.sides, values([12_345_679, 5]))
+        );
+        assert_eq!(own.state.iter().count(), 3);
+    }
+
+    /// Whoever is wrong, what is said of the condition does not count.
+    #[test]
+    fn a_short_form_that_is_another_condition_is_told() {
+        let told = |own, state| Verdict::Contradiction(ShortDiffers { own, state });
+        for wording in [Wording::Own, Wording::Short] {
+            let verdict =
+                |own: &[i32], short: &[i32], reply| verdict_in(wording, own, Some(short), [reply]);
+            let rare = || told(false, values([12_345_679, 5]));
+            assert_eq!(verdict(&RARELY_FALSE, &NEVER_FALSE, sat(&RARE)), rare());
+            let rare = || told(true, values([12_345_679, 5]));
+            assert_eq!(verdict(&NEVER_FALSE, &RARELY_FALSE, sat(&RARE)), rare());
+            for reply in [Reply::Unsat, Reply::Undecided] {
+                let small = |short| verdict(&OFTEN_FALSE, short, reply.clone());
+                let there = || told(false, values([1, 0]));
+                assert_eq!([small(&NEVER_FALSE), small(&[16])], [there(), there()]);
+            }
+        }
     }
 
     #[test]

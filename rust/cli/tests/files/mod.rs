@@ -46,6 +46,15 @@ pub fn expected(file: &Path) -> String {
     }
 }
 
+/// What the command is to print of an example with `--short`, where that is stored.
+pub fn expected_short(file: &Path) -> Option<String> {
+    let stored = match file.extension().and_then(|extension| extension.to_str()) {
+        Some("rows") => file.with_extension("short.expected"),
+        _ => file.with_extension("script.short.expected"),
+    };
+    stored.exists().then(|| text(&stored))
+}
+
 pub fn name(file: &Path) -> &str {
     file.file_stem().unwrap().to_str().unwrap()
 }

@@ -74,7 +74,15 @@ pub fn real_path() -> OsString {
 impl Run {
     /// The line of each condition.
     pub fn lines(&self) -> Vec<Line> {
-        self.halves().0.lines().map(Line::read).collect()
+        let lines = self.halves().0.lines();
+        let lines = lines.skip(usize::from(self.saved().is_some()));
+        lines.map(Line::read).collect()
+    }
+
+    /// The line before them, with `--short`.
+    pub fn saved(&self) -> Option<&str> {
+        let first_line = self.out.lines().next()?;
+        first_line.starts_with("shortened ").then_some(first_line)
     }
 
     /// What stands behind the lines.
