@@ -89,6 +89,20 @@ fn an_example_gives_the_short_conditions_that_are_stored_beside_it() {
     assert_eq!(stored, 2);
 }
 
+/// README.md shows the first lines and the third condition of one.
+#[test]
+fn the_readme_shows_short_conditions_as_they_are() {
+    let readme = text(&top().join("README.md"));
+    let listed = printed(&["--short"], &top().join("examples/oil-bill.script"));
+    let paragraphs: Vec<&str> = listed.split("\n\n").collect();
+    for line in paragraphs[0].lines() {
+        assert!(readme.contains(&format!("`{line}`")), "{line}");
+    }
+    let step = paragraphs[3].lines();
+    let shown: String = step.map(|line| format!("    {line}\n")).collect();
+    assert!(readme.contains(&format!("\n\n{shown}\n")), "{shown}");
+}
+
 #[test]
 fn what_is_saved_is_told() {
     let mut shortened = 0;
