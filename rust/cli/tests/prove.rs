@@ -524,6 +524,18 @@ fn what_is_false_is_shown_as_it_is_asked_for() {
     assert_eq!(json.number("saved"), "12");
 }
 
+/// Shortened, main is `true` and no implication.
+#[test]
+fn a_premise_that_shortening_takes_away_is_asked_about() {
+    let script = "pre false;\nskip;\npost v0 = 5";
+    for arguments in [&["-"][..], &["--short", "-"]] {
+        let run = prove_with(arguments, script);
+        let warning = "line 1: no state meets the precondition: \
+            main 5 is true for nothing, and no run is promised anything";
+        assert_eq!((run.status, run.warnings()), (Some(0), vec![warning]));
+    }
+}
+
 /// The body lowers x by 1 and its variant by 0.
 #[test]
 fn a_mark_is_explained() {
@@ -764,8 +776,9 @@ fn the_help_names_what_the_object_has() {
         names_and_words(&json, &mut found);
     }
     assert!(found.len() >= 26 && found.contains("saved"), "{found:?}");
-    let (_, help) = cli::HELP.split_once("--json prints one object").unwrap();
-    let help = words_apart(help);
+    let mut paragraphs = cli::HELP.split("\n\n");
+    let object = paragraphs.find(|one| one.starts_with("--json prints one object"));
+    let help = words_apart(object.unwrap());
     for word in found {
         assert!(help.contains(&words_apart(&word)), "{word}");
     }

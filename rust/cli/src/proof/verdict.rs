@@ -282,6 +282,11 @@ mod tests {
         let digits = "9".repeat(10_000);
         let told = Verdict::Contradiction(TooLong { solver: "z3" });
         assert_eq!(verdict(&words, [sat(&[("v0", &digits)])]), told);
+        for wording in [Wording::Own, Wording::Short] {
+            let short = Some(&[17][..]);
+            let unchecked = verdict_in(wording, &words, short, [sat(&[("v0", &digits)])]);
+            assert_eq!(unchecked, told);
+        }
         let state = refuted(verdict(&words, [sat(&[("v0", "9")])]));
         assert_eq!(state.iter().count(), 1);
     }
@@ -347,6 +352,17 @@ mod tests {
                 assert_eq!([small(&NEVER_FALSE), small(&[16])], [there(), there()]);
             }
         }
+    }
+
+    /// v0 <> 7 and v0 < 0 are both false where v0 is 7, but not where it is 0.
+    #[test]
+    fn a_short_form_has_to_agree_where_a_state_is_told() {
+        let (own, short) = ([21, 2, 0, 1, 7], [18, 2, 0, 1, 0]);
+        let seven = sat(&[("v0", "7")]);
+        let told = verdict_in(Wording::Short, &own, Some(&short), [seven]);
+        let state = State::from_iter([(Name::Variable(0), Whole::from(0))]);
+        let own = true;
+        assert_eq!(told, Verdict::Contradiction(ShortDiffers { own, state }));
     }
 
     #[test]
