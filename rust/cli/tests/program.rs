@@ -1,10 +1,11 @@
 //! Any table, written as a file of rows, against the program of the second
-//! implementation.
+//! implementation; and with `--short`, against its shortening.
 
 use cli::Answer;
 use fuzz::mutate::change_words;
 use fuzz::scripts::{script_words, Shape};
 use fuzz::{seed_from_environment, Prng};
+use reference::shortened_formula;
 
 const TABLES: usize = 4_000;
 
@@ -40,6 +41,28 @@ fn any_table(random: &mut Prng) -> Vec<i32> {
     words
 }
 
+/// What is printed with `--short`, from what is printed without.
+fn shortened(output: &str) -> String {
+    let Some((planned, conditions)) = output.split_once('\n') else {
+        panic!("no line: {output}");
+    };
+    let mut words = 1;
+    let mut lines = String::new();
+    for condition in conditions.lines() {
+        let mut parts = condition.splitn(3, ' ');
+        let (name, row) = (parts.next().unwrap(), parts.next().unwrap());
+        let formula = parts.next().unwrap().split(' ');
+        let formula: Vec<i32> = formula.map(|word| word.parse().unwrap()).collect();
+        let formula = shortened_formula(&formula);
+        words += formula.len() + 3;
+        lines += &format!("{name} {row}");
+        lines.extend(formula.iter().map(|word| format!(" {word}")));
+        lines.push('\n');
+    }
+    let length: usize = planned.rsplit(' ').next().unwrap().parse().unwrap();
+    format!("{planned}\nshortened {words} {}\n{lines}", length - words)
+}
+
 #[test]
 fn any_file_gives_the_output_of_the_program() {
     let mut random = Prng::new(seed_from_environment());
@@ -60,9 +83,16 @@ fn any_file_gives_the_output_of_the_program() {
         let answer = Answer::Table(source, answer);
         assert_eq!(answer.words(), expected, "{words:?}");
         assert_eq!(answer.text().lines().next(), expected.lines().next());
+        let short = answer.shortened().words();
         match is_planned {
-            true => planned += 1,
-            false => refused += 1,
+            true => {
+                assert_eq!(short, shortened(&expected), "{words:?}");
+                planned += 1;
+            }
+            false => {
+                assert_eq!(short, expected, "{words:?}");
+                refused += 1;
+            }
         }
     }
     println!("{planned} planned, {refused} refused");

@@ -13,6 +13,7 @@ use evaluator::{Evaluator, State, Whole};
 use files::{expected, expected_short, name, rows, text, texts, top};
 use fuzz::{seed_from_environment, Prng};
 use leqwarti::{Formula, Plan};
+use reference::shortened_formula;
 
 fn examples() -> Vec<PathBuf> {
     [rows(), texts()].concat()
@@ -130,7 +131,8 @@ fn what_is_saved_is_told() {
     assert!(shortened >= 6, "{shortened} examples");
 }
 
-/// Name, row, meaning and place stay as they were.
+/// Name, row, meaning and place stay as they were, and formulas are those of the
+/// second implementation.
 #[test]
 fn only_formulas_are_shortened() {
     for file in planned() {
@@ -139,6 +141,8 @@ fn only_formulas_are_shortened() {
         for (own, short) in own.formulas().zip(short.formulas()) {
             let is_shorter = short.words().len() < own.words().len();
             assert!(is_shorter || own == short, "{}: {short}", file.display());
+            let wanted = shortened_formula(own.words());
+            assert_eq!(short.words(), wanted, "{}: {short}", file.display());
         }
 
         let source = Source::read(text(&file).as_bytes()).unwrap();
