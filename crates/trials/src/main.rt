@@ -1,6 +1,6 @@
 // Runs the trial rows of document 01 and writes a line for each: its name, and what the generator answers, or div and mod.
 // Then scripts that divide (02, P5), the scripts of example A's conditions (02, P1), and texts with what the reader answers
-// (02, P4).
+// (02, P4); last lists with their conditions shortened (02, P6).
 
 mod text; // numbers as the document prints them
 mod run; // one trial
@@ -11,6 +11,7 @@ mod divisions; // div and mod
 mod zero_divisors; // scripts that divide
 mod scripts; // conditions as scripts
 mod texts; // scripts as text
+mod shortening; // lists shortened
 
 fn main() {
     example::rooms();
@@ -25,4 +26,5 @@ fn main() {
     zero_divisors::shapes();
     scripts::all();
     texts::all();
+    shortening::all();
 }

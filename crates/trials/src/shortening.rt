@@ -1,0 +1,94 @@
+// Lists with their conditions shortened, and the shorter of two formulas (02, P6).
+
+use crate::run;
+use crate::text;
+
+// Says what the first n words of a list become in a run.
+fn shorten_part(name: &[u8], list: &[i32], n: usize, short: &mut [i32]) {
+    if n <= list.len() {
+        let answer = shortener::shorten(&list[..n], short);
+        if answer.number == 0 {
+            run::say_list(name, short, answer.used);
+        } else {
+            io::write_all(1, name);
+            io::write_all(1, b": refused");
+            run::say_number(answer.number);
+            io::write_all(1, b"\n");
+        }
+    }
+}
+
+// The same of a list in an array.
+fn shorten_words(name: &[u8], list: &[i32; 124], n: usize, short: &mut [i32]) {
+    shorten_part(name, list, n, short);
+}
+
+// The same of a list as the program prints it.
+fn shorten(name: &[u8], words: &[u8], short: &mut [i32]) {
+    let mut list = [0; 124];
+    let n = text::numbers(words, &mut list);
+    shorten_words(name, &list, n, short);
+}
+
+// Says the number and the shorter formula.
+fn shorter<'a>(old: &'a [i32], new: &'a [i32], index: i32) {
+    let mut number: usize = 7;
+    let formula = shortener::shorter(old, new, index, &mut number);
+    io::write_all(1, b"shorter:");
+    run::say_number(number);
+    io::write_all(1, b",");
+    run::say_words(formula);
+    io::write_all(1, b"\n");
+}
+
+// 0 - v0 = v1; v0 - 0 = v0 + 0; 0 + v0 = v0 * 1; 1 * v0 = v1.
+fn expressions() {
+    let mut short = [7; 40];
+    shorten(
+        b"expressions",
+        b"20 4 1 0 2 0 2 1 1 9 8 20 4 2 0 1 0 3 2 0 1 0 2 9 11 20 3 1 0 2 0 5 2 0 1 1 3 9 11 20 5 1 1 2 0 2 1 4 9 8 4\n",
+        &mut short,
+    );
+}
+
+// With F for v0 < v1: (true and F) or (F and true); (false and F) or (F and false); (true implies F) or ((false implies F) or
+// (F implies true)); (not true) or (not false).
+fn formulas() {
+    let mut short = [7; 40];
+    shorten(
+        b"formulas",
+        b"24 23 16 18 2 0 2 1 23 18 2 0 2 1 16 1 9 15 24 23 17 18 2 0 2 1 23 18 2 0 2 1 17 2 9 15 24 25 16 18 2 0 2 1 24 25 17 18 2 0 2 1 25 18 2 0 2 1 16 3 9 23 24 22 16 22 17 5 9 5 4\n",
+        &mut short,
+    );
+}
+
+// v0 = 0 - 0; true implies (not false and v0 + 1 * 0 = 0): rules that fit when a part was shortened. It becomes 18 words.
+fn padded() {
+    let words = b"20 2 0 4 1 0 1 0 1 7 8 25 16 23 22 17 20 3 2 0 5 1 1 1 0 1 0 4 9 16 2\n";
+    let mut exact = [7; 18];
+    let mut short = [7; 17];
+    shorten(b"padded", words, &mut exact);
+    shorten(b"padded, one word short", words, &mut short);
+    shorten(b"no list", b"16 25 16 16 4 3 3 1\n", &mut exact);
+}
+
+// true implies true, and what it becomes
+const OLD: [i32; 7] = [25, 16, 16, 4, 3, 3, 1];
+
+const NEW: [i32; 5] = [16, 4, 3, 1, 1];
+
+fn two_lists() {
+    shorter(&OLD, &NEW, 0);
+    shorter(&NEW, &OLD, 0);
+    shorter(&OLD, &OLD, 0);
+    shorter(&OLD, &[], -1);
+    shorter(&OLD, &[], 0);
+    shorter(&[], &NEW, 1);
+}
+
+pub fn all() {
+    expressions();
+    formulas();
+    padded();
+    two_lists();
+}
