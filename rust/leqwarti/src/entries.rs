@@ -336,7 +336,7 @@ pub fn read_text(text: &[u8], words: &mut [i32]) -> ReadAnswer {
 
 /// A list with its conditions shortened. Whatever the buffer held before the
 /// call, after it the new list is followed by zeros; refused, the buffer is all
-/// zeros. The deepest list takes 488 KiB of the caller's stack.
+/// zeros. The deepest list takes 400 KiB of the caller's stack.
 pub fn shorten(list: &[i32], short: &mut [i32]) -> Written {
     let mut written = Written::default();
     // SAFETY: as in `check`, for all words and every length of the buffer.
