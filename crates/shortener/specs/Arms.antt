@@ -1,21 +1,18 @@
--- The turns of the writer, one law for each number of what becomes of a node. In this order: the node that is next, what a turn
--- may read of it, the way on to what is ahead then, the turns. Assumes nothing.
-use Prim.Native.Nat.{ℕ, zero, suc, _+_, _≤_, _<_}
+-- What is ahead after a turn, one law for each number of what becomes of a node (`kept-going` to `passed-going`). First the node that
+-- is next. Assumes nothing.
+use Prim.Native.Nat.{ℕ, zero, suc, _+_, _<_}
 use mathlib.Core.Path.{_≡_, refl, sym, ap, _∙_, subst}
-use mathlib.Core.List.{List, [], _∷_, _++_, append-nil, append-assoc}
+use mathlib.Core.List.{List, [], _∷_, _++_, append-assoc}
 use native.Mathlib.Omega.{arith as linear}
 use lib.IntN.{ℤ, pos}
-use lib.ListN.{length, length-append, length-set, getD, set}
-use lib.Seq.{getD-set-same, getD-set-other}
-use Rattle.script.specs.Syntax.{Formula}
-use Rattle.script.specs.Words.{formula-words}
-use Rattle.theorems.specs.Writing.{Wrote, Left, then, wrote-nothing, wrote-as, wrote-length}
-use Rattle.theorems.specs.WordsAt.{Stands, stands-as, inside, word, past, front, behind, Node, formula, words-of, size, node-size, node-inside}
-use Rattle.shortening.specs.Simplify.{order, shortenᶠ}
-use Rattle.shortener.specs.Planned.{node-change}
+use lib.ListN.{length, length-append, getD, set}
+use lib.Seq.{getD-set-same}
+use Rattle.theorems.specs.Writing.{Wrote, then, wrote-nothing, wrote-as}
+use Rattle.theorems.specs.WordsAt.{Stands, stands-as, word, past, front, behind, Node, words-of, size, node-size}
+use Rattle.shortener.specs.Codes.{kept-code, numbered-code, passed-code}
 use Rattle.shortener.specs.Heads.{short-words, all-words, all-short, Keeps, Numbered, First, Second, Value, Head, head}
-use Rattle.shortener.specs.Tasks.{Task, write, pass, task-words, writing, writing-words, Told, Ahead, ahead-within, ahead-parts, told-set, ahead-set}
-use Rattle.shortener.specs.Turns.{Ended, Begins, Same-from, Going, Turn}
+use Rattle.shortener.specs.Tasks.{Task, write, pass, task-words, writing, writing-words, Noted, Ahead, ahead-parts, told-set, ahead-set}
+use Rattle.shortener.specs.Turns.{Ended, Going}
 
 -- ---- the node that is next
 
@@ -24,7 +21,7 @@ pub record To-write (ws : List ℤ) (ks : List ℕ) (end at : ℕ) (ts : List Ta
   pub rest : List Task
   pub is : ts ≡ write node ∷ rest
   pub stands : Stands ws at (words-of node)
-  pub told : Told ws ks at (at + size node)
+  pub told : Noted ws ks at (at + size node)
   pub ahead : Ahead ws ks end (at + size node) rest
 
 pub record To-pass (ws : List ℤ) (ks : List ℕ) (end at : ℕ) (ts : List Task) : Type 0 where
@@ -50,7 +47,7 @@ no-head (suc (suc (suc (suc (suc (suc zero)))))) x h v = h .1 refl
 no-head (suc (suc (suc (suc (suc (suc (suc n))))))) x h v = v
 
 module _ (ws : List ℤ) (ks : List ℕ) (end at : ℕ) where
-  to-write : (ts : List Task) → Ahead ws ks end at ts → at < end → (getD ks at 0 ≡ 7 → ⊥) → To-write ws ks end at ts
+  to-write : (ts : List Task) → Ahead ws ks end at ts → at < end → (getD ks at 0 ≡ passed-code → ⊥) → To-write ws ks end at ts
   to-write [] a h n = absurd (omega linear)
   to-write (write x ∷ ts) a h n = record { node = x; rest = ts; is = refl; stands = a .0; told = a .1 .0; ahead = a .1 .1 }
   to-write (pass x ∷ ts) a h n = absurd (n (a .1 .0))
@@ -78,17 +75,17 @@ module _ {ws : List ℤ} {end at : ℕ} {ks : List ℕ} {l₀ : List ℤ} {p₀ 
   onward g vs ts w e a = record { tasks = ts; ahead = a; left = λ r l″ v. g .left r l″ (wrote-as e (then w v)) }
 
   module _ (g : Going ws end at ks l₀ p₀ whole l p) (more : at < end) where
-    pub next : (k : ℕ) → k < 7 → getD ks at 0 ≡ k → To-write ws ks end at (g .tasks)
+    pub next : (k : ℕ) → k < passed-code → getD ks at 0 ≡ k → To-write ws ks end at (g .tasks)
     next k h e = to-write ws ks end at (g .tasks) (g .ahead) more (λ f. omega (linear, e, f))
 
     -- what was to be written, where the next node is x
     words-are : (w : To-write ws ks end at (g .tasks)) {vs : List ℤ} → vs ≡ short-words (w .node) → vs ++ task-words (w .rest) ≡ task-words (g .tasks)
     words-are w e = ap (λ (v : List ℤ). v ++ task-words (w .rest)) e ∙ ap task-words (sym (w .is))
 
-    pub kept-going : getD ks at 0 ≡ 0 → {q : ℕ} {l′ : List ℤ} → Wrote l p (getD ws at (pos 0) ∷ []) q l′ → Going ws end (at + 1) ks l₀ p₀ whole l′ q
+    pub kept-going : getD ks at 0 ≡ kept-code → {q : ℕ} {l′ : List ℤ} → Wrote l p (getD ws at (pos 0) ∷ []) q l′ → Going ws end (at + 1) ks l₀ p₀ whole l′ q
     kept-going e {q} {l′} w =
-        let n = next 0 (omega linear) e in
-        let h : Keeps (n .node) = headed ws ks end at n 0 e in
+        let n = next kept-code (omega linear) e in
+        let h : Keeps (n .node) = headed ws ks end at n kept-code e in
         let s = stands-as (h .words) (n .stands) in
         let m : at + size (n .node) ≡ at + 1 + length (all-words (h .parts)) = sum at (ap length (h .words)) in
         onward g (getD ws at (pos 0) ∷ []) (writing (h .parts) (n .rest)) w
@@ -102,11 +99,11 @@ module _ {ws : List ℤ} {end at : ℕ} {ks : List ℕ} {l₀ : List ℤ} {p₀ 
         sum : (a : ℕ) {b c : ℕ} → b ≡ suc c → a + b ≡ a + 1 + c
         sum a i = omega linear
 
-    pub numbered-going : getD ks at 0 ≡ 1 → {q : ℕ} {l′ : List ℤ} → Wrote l p (getD ws at (pos 0) ∷ getD ws (at + 1) (pos 0) ∷ []) q l′
+    pub numbered-going : getD ks at 0 ≡ numbered-code → {q : ℕ} {l′ : List ℤ} → Wrote l p (getD ws at (pos 0) ∷ getD ws (at + 1) (pos 0) ∷ []) q l′
         → Going ws end (at + 2) ks l₀ p₀ whole l′ q
     numbered-going e {q} {l′} w =
-        let n = next 1 (omega linear) e in
-        let h : Numbered (n .node) = headed ws ks end at n 1 e in
+        let n = next numbered-code (omega linear) e in
+        let h : Numbered (n .node) = headed ws ks end at n numbered-code e in
         let s = stands-as (h .words) (n .stands) in
         let k = word s in
         let z = word (past s) in
@@ -151,7 +148,7 @@ module _ {ws : List ℤ} {end at : ℕ} {ks : List ℕ} {l₀ : List ℤ} {p₀ 
           )
 
       pub first-going : (w : To-write ws ks end at (g .tasks)) → First (w .node) → getD es (at + 1) 0 < length ks
-          → Going ws end (at + 1) (set ks (getD es (at + 1) 0) 7) l₀ p₀ whole l p
+          → Going ws end (at + 1) (set ks (getD es (at + 1) 0) passed-code) l₀ p₀ whole l p
       first-going n h room =
           let a = h .first in
           let b = h .second in
@@ -161,12 +158,12 @@ module _ {ws : List ℤ} {end at : ℕ} {ks : List ℕ} {l₀ : List ℤ} {p₀ 
           onward g [] (write a ∷ pass b ∷ n .rest) (wrote-nothing l p) (words-are n (sym (h .short))) (
             first-part n a b (h .words),
             (
-              told-set ws {ks = ks} k 7 (λ r i j f. omega (linear, m, f)) (record { told = λ r y i j. n .told .told r y (omega linear) (omega (linear, m, e)) }),
-              subst (λ r. Ahead ws (set ks k 7) end r (pass b ∷ n .rest)) m (
+              told-set ws {ks = ks} k passed-code (λ r i j f. omega (linear, m, f)) (record { told = λ r y i j. n .told .told r y (omega linear) (omega (linear, m, e)) }),
+              subst (λ r. Ahead ws (set ks k passed-code) end r (pass b ∷ n .rest)) m (
                 second-part n a b (h .words),
                 (
-                  getD-set-same ks k 7 0 room,
-                  ahead-set ws ks end k 7 (k + size b) (n .rest) (let i = node-size b in omega linear)
+                  getD-set-same ks k passed-code 0 room,
+                  ahead-set ws ks end k passed-code (k + size b) (n .rest) (let i = node-size b in omega linear)
                       (subst (λ r. Ahead ws ks end r (n .rest)) e (n .ahead)),
                 ),
               ),

@@ -1,15 +1,13 @@
 -- Shapes and changes as small numbers, and what a node with one or two parts becomes, by its kind and the numbers of its
 -- parts' shapes. Assumes nothing.
 use Prim.Native.Nat.{ℕ, zero, suc, _<_}
-use mathlib.Core.Path.{_≡_, refl, ap}
-use mathlib.Core.Bool.{true, false, cond}
+use mathlib.Core.Path.{_≡_, refl}
+use mathlib.Core.Bool.{Bool, true, false, cond}
 use native.Mathlib.Omega.{arith}
 use borrow.Author.Tests.{ne-eqb}
 use lib.Dec.{eqb}
-use Rattle.script.specs.declared.Operator.{Operator}
-use Rattle.script.specs.declared.Operator.the-variants.{Plus, Minus, Times, Div, Mod}
-use Rattle.script.specs.declared.Connective.{Connective}
-use Rattle.script.specs.declared.Connective.the-variants.{And, Or, Implies}
+use Rattle.script.specs.declared.Operator.the-variants.{Plus, Minus, Times}
+use Rattle.script.specs.declared.Connective.the-variants.{And, Implies}
 use Rattle.shortening.specs.Simplify.{Shape, constant-0, constant-1, is-true, is-false, other, shape-number, Change, Truth-change, order, arith-change, join-change}
 use Rattle.shortening.specs.Simplify as Simplify
 use Rattle.shortening.specs.Shapes.{not-change, changed-shape, truth-changed-shape}
@@ -37,18 +35,46 @@ is-not (suc (suc zero)) k h n = ne-eqb 2 k n
 is-not (suc (suc (suc zero))) k h n = ne-eqb 3 k n
 is-not (suc (suc (suc (suc m)))) k h n = ne-eqb 4 k (λ e. omega arith)
 
--- what becomes of a node: 0 it stays, 1 it stays and has a number, 7 it is dropped
+-- ---- what becomes of a node
+
+-- it stays
+abbrev pub kept-code : ℕ
+kept-code = 0
+
+-- it stays, and has a number
+abbrev pub numbered-code : ℕ
+numbered-code = 1
+
+abbrev pub first-code : ℕ
+first-code = 2
+
+abbrev pub second-code : ℕ
+second-code = 3
+
+abbrev pub negated-code : ℕ
+negated-code = 4
+
+abbrev pub truth-code : Bool → ℕ
+truth-code b = cond b 5 6
+
+-- its parent drops it
+abbrev pub passed-code : ℕ
+passed-code = 7
+
 abbrev pub change-code : Change → ℕ
-change-code Simplify.kept = 0
-change-code Simplify.first = 2
-change-code Simplify.second = 3
-change-code Simplify.negated-second = 4
+change-code Simplify.kept = kept-code
+change-code Simplify.first = first-code
+change-code Simplify.second = second-code
+change-code Simplify.negated-second = negated-code
 
 abbrev pub truth-change-code : Truth-change → ℕ
-truth-change-code Simplify.kept = 0
-truth-change-code Simplify.first = 2
-truth-change-code Simplify.second = 3
-truth-change-code (Simplify.value b) = cond b 5 6
+truth-change-code Simplify.kept = kept-code
+truth-change-code Simplify.first = first-code
+truth-change-code Simplify.second = second-code
+truth-change-code (Simplify.value b) = truth-code b
+
+abbrev pub other-code : ℕ
+other-code = shape-number other
 
 -- of a not
 unfoldable pub not-code : ℕ → ℕ
@@ -61,11 +87,15 @@ pair-code k x y =
     (cond (eqb k 4) (change-code (arith-change order Minus (shaped x) (shaped y)))
     (cond (eqb k 5) (change-code (arith-change order Times (shaped x) (shaped y)))
     (cond (eqb k 23) (truth-change-code (join-change And (shaped x) (shaped y)))
-    (cond (eqb k 25) (truth-change-code (join-change Implies (shaped x) (shaped y))) 0))))
+    (cond (eqb k 25) (truth-change-code (join-change Implies (shaped x) (shaped y))) kept-code))))
 
 -- the shape of what a node becomes
 unfoldable pub changed-shape-code : ℕ → ℕ → ℕ → ℕ
-changed-shape-code t x y = cond (eqb t 2) x (cond (eqb t 3) y (cond (eqb t 5) 2 (cond (eqb t 6) 3 4)))
+changed-shape-code t x y =
+    cond (eqb t first-code) x
+    (cond (eqb t second-code) y
+    (cond (eqb t (truth-code true)) (shape-number is-true)
+    (cond (eqb t (truth-code false)) (shape-number is-false) other-code)))
 
 pub changed-shape-is : (t : Change) (x y : Shape)
     → changed-shape-code (change-code t) (shape-number x) (shape-number y) ≡ shape-number (changed-shape t x y)

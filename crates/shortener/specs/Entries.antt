@@ -9,9 +9,9 @@ use lib.Dec.{eqb}
 use lib.IntN.{ℤ, pos}
 use lib.ListN.{getD}
 use Rattle.script.specs.Rows.{field-number}
-use Rattle.shortening.specs.Simplify.{number-shape, shape-number}
+use Rattle.shortening.specs.Simplify.{is-true, is-false, number-shape, shape-number}
 use Rattle.shortener.specs.declared.plan.Entry.{Entry}
-use Rattle.shortener.specs.Codes.{not-code, pair-code, changed-shape-code}
+use Rattle.shortener.specs.Codes.{kept-code, numbered-code, other-code, not-code, pair-code, changed-shape-code}
 
 abbrev pub entry : ℕ → ℕ → ℕ → Entry
 entry e s t = record { end = e; shape = s; change = t }
@@ -31,7 +31,7 @@ module _ (es ss : List ℕ) where
   changed-entry e t x y = entry e (changed-shape-code t x y) t
 
   unfoldable pub not-entry : ℕ → Entry
-  not-entry at = changed-entry (end (at + 1)) (not-code (shape (at + 1))) (shape (at + 1)) 4
+  not-entry at = changed-entry (end (at + 1)) (not-code (shape (at + 1))) (shape (at + 1)) other-code
 
 module _ (k : ℕ) (es ss : List ℕ) where
   unfoldable pub pair-entry : ℕ → Entry
@@ -44,13 +44,13 @@ module _ (k : ℕ) (es ss : List ℕ) where
 -- by the kind k
 unfoldable pub entry-of : ℕ → List ℤ → List ℕ → List ℕ → ℕ → Entry
 entry-of k ws es ss at =
-    cond (eqb k 1) (entry (at + 2) (number-code (getD ws (at + 1) (pos 0))) 1)
-    (cond (eqb k 2) (entry (at + 2) 4 1)
-    (cond (eqb k 9) (entry (at + 2) 4 1)
-    (cond (eqb k 16) (entry (at + 1) 2 0)
-    (cond (eqb k 17) (entry (at + 1) 3 0)
-    (cond (eqb k 8) (entry (end es ss (at + 1)) 4 0)
-    (cond (eqb k 10) (entry (end es ss (end es ss (end es ss (at + 1)))) 4 0)
+    cond (eqb k 1) (entry (at + 2) (number-code (getD ws (at + 1) (pos 0))) numbered-code)
+    (cond (eqb k 2) (entry (at + 2) other-code numbered-code)
+    (cond (eqb k 9) (entry (at + 2) other-code numbered-code)
+    (cond (eqb k 16) (entry (at + 1) (shape-number is-true) kept-code)
+    (cond (eqb k 17) (entry (at + 1) (shape-number is-false) kept-code)
+    (cond (eqb k 8) (entry (end es ss (at + 1)) other-code kept-code)
+    (cond (eqb k 10) (entry (end es ss (end es ss (end es ss (at + 1)))) other-code kept-code)
     (cond (eqb k 22) (not-entry es ss at)
     (pair-entry k es ss at))))))))
 

@@ -1,21 +1,20 @@
 -- What the writer meets at a node, by the number of what becomes of it (`head`): the words of the node and of what it is shortened to,
 -- from those of its parts. Assumes nothing.
-use Prim.Native.Nat.{ℕ, zero, suc, _<_}
-use mathlib.Core.Path.{_≡_, refl, sym, ap, _∙_, subst}
+use Prim.Native.Nat.{ℕ, zero, suc}
+use mathlib.Core.Path.{_≡_, refl, sym, ap, _∙_}
 use mathlib.Core.Bool.{true, false, cond}
 use mathlib.Core.List.{List, [], _∷_, _++_, append-nil}
-use native.Mathlib.Omega.{arith as linear}
 use lib.IntN.{ℤ, pos}
 use Rattle.script.specs.declared.Operator.{Operator}
 use Rattle.script.specs.declared.Connective.{Connective}
 use Rattle.script.specs.Syntax.{Expr, const, var, mark, arith, neg, choose, Formula, truth, cmp, not, join}
 use Rattle.script.specs.Words.{expr-words, formula-words, op-word, rel-word, conn-word}
 use Rattle.theorems.specs.WordsAt.{Node, expression, formula, words-of}
-use Rattle.shortening.specs.Simplify.{Shape, constant-0, constant-1, is-true, is-false, other, shape, truth-shape, Change, Truth-change, order, arith-changed, join-changed, arith-node, join-node, not-node, shorten, shortenᶠ}
+use Rattle.shortening.specs.Simplify.{truth-shape, Change, Truth-change, order, arith-changed, join-changed, arith-node, join-node, not-node, shorten, shortenᶠ}
 use Rattle.shortening.specs.Simplify as Simplify
 use Rattle.shortening.specs.Shapes.{not-change}
 use Rattle.shortener.specs.Codes.{change-code, truth-change-code}
-use Rattle.shortener.specs.Planned.{arith-step, join-step, not-step, node-change}
+use Rattle.shortener.specs.NodeEntries.{arith-step, join-step, node-change}
 
 -- the words of a node when it is shortened
 abbrev pub short-words : Node → List ℤ

@@ -1,21 +1,19 @@
--- The lines of a list, written one after the other. In this order: what a trailer's writer asks and leaves, what the writer of all
--- lines asks and leaves, what holds at each of its turns (`Lines-left`), and its laws. Assumes nothing.
-use Prim.Native.Nat.{ℕ, zero, suc, _+_, _-_, _≤_, _<_}
-use mathlib.Core.Path.{_≡_, refl, sym, ap, _∙_, subst}
-use mathlib.Core.List.{List, [], _∷_, _++_, append-assoc}
-use native.Mathlib.Omega.{arith as linear}
+-- The lines of a list, written one after the other: what a trailer's writer asks and leaves (`Trailing`, `Trailed`), what the writer of all
+-- lines asks and leaves (`Ready`, `All-written`), and what holds at each of its turns (`Lines-left`, `Lining`). Its turns are in
+-- `LineTurns`. Assumes nothing.
+use Prim.Native.Nat.{ℕ, _+_, _-_, _≤_, _<_}
+use mathlib.Core.Path.{_≡_, refl, sym, ap, _∙_}
+use mathlib.Core.List.{List, [], _∷_, _++_}
 use lib.IntN.{ℤ, pos}
-use lib.ListN.{length, length-append, length-drop, getD}
-use Rattle.script.specs.Syntax.{Formula}
+use lib.ListN.{length, getD}
 use Rattle.script.specs.Conditions.{Condition}
-use Rattle.script.specs.Words.{formula-words, trailer, line-words, all-lines, list-words, rule-number}
-use Rattle.theorems.specs.Writing.{Wrote, fitted, stopped, Left, then, wrote-as, wrote-length}
-use Rattle.theorems.specs.WordsAt.{Stands, stands-as, whole-words, inside, word, past, front, behind, Node, formula, words-of, node-inside}
-use Rattle.shortening.specs.Simplify.{order, shortenᶠ, shorten-condition, shorten-all}
-use Rattle.shortening.specs.Never.{never-longer}
+use Rattle.script.specs.Words.{all-lines, list-words}
+use Rattle.theorems.specs.Writing.{Wrote, Left, wrote-as}
+use Rattle.theorems.specs.WordsAt.{Stands, stands-as, whole-words, inside, past}
+use Rattle.shortening.specs.Simplify.{order, shorten-all}
 use Rattle.shortening.specs.Lists.{count-same}
-use Rattle.shortener.specs.Tasks.{Told}
-use Rattle.shortener.specs.Turns.{Ended, Begins, Same-from, Shortened}
+use Rattle.shortener.specs.Tasks.{Noted}
+use Rattle.shortener.specs.Turns.{Ended}
 
 -- ---- a trailer
 
@@ -42,7 +40,7 @@ pub record Ready (ws : List ℤ) (count : ℕ) (es ks : List ℕ) : Type 0 where
   pub listed : Listed ws count conditions
   pub short : length ws ≤ 16384
   pub ended : Ended ws es
-  pub told : Told ws ks 0 (length ws)
+  pub told : Noted ws ks 0 (length ws)
   pub room : length ws ≤ length ks
 
 -- whatever conditions are listed, their list was written, shortened
@@ -63,7 +61,7 @@ pub record Lines-left (ws : List ℤ) (count at left : ℕ) (l₀ : List ℤ) (c
 
 pub record Lining (ws : List ℤ) (count : ℕ) (es ks₀ : List ℕ) (l₀ : List ℤ) (at left : ℕ) (ks : List ℕ) (l : List ℤ) (p : ℕ) : Type 0 where
   pub ready : Ready ws count es ks₀
-  pub told : Told ws ks at (length ws)
+  pub told : Noted ws ks at (length ws)
   pub changes : length ks ≡ length ks₀
   pub list : length l ≡ length l₀
   pub lines : (cs : List Condition) → Listed ws count cs → Lines-left ws count at left l₀ cs l p
@@ -82,155 +80,3 @@ lining {ws} {count} r = record {
     writes = λ q l′ w. wrote-as (ap (λ n. all-lines (shorten-all order cs) ++ (pos n ∷ [])) (sym (h .counted) ∙ sym (count-same order cs))) w;
   };
 }
-
--- ---- the line that is next
-
-pub record Line-next (ws : List ℤ) (count at left : ℕ) (rest : List Condition) : Type 0 where
-  pub line : Condition
-  pub others : List Condition
-  pub is : rest ≡ line ∷ others
-  pub many : length others ≡ left - 1
-  pub claim : Stands ws at (formula-words (line .claim))
-  pub trailer-at : Stands ws (at + length (formula-words (line .claim))) (trailer line ++ rest-words count others)
-
-module _ (ws : List ℤ) (count at left : ℕ) where
-  line-next : (rest : List Condition) → 0 < left → length rest ≡ left → Stands ws at (rest-words count rest) → Line-next ws count at left rest
-  unfolding all-lines line-words
-  line-next [] h m s = absurd (omega (linear, m))
-  line-next (c ∷ cs) h m s =
-      let whole =
-      stands-as
-      (append-assoc (formula-words (c .claim) ++ trailer c) (all-lines cs) (pos count ∷ [])
-      ∙ append-assoc (formula-words (c .claim)) (trailer c) (rest-words count cs)) s in
-      record {
-        line = c;
-        others = cs;
-        is = refl;
-        many = omega (linear, m);
-        claim = front (trailer c ++ rest-words count cs) whole;
-        trailer-at = behind (formula-words (c .claim)) whole;
-      }
-
-module _ {ws : List ℤ} {count : ℕ} {es ks₀ : List ℕ} {l₀ : List ℤ} {at left : ℕ} {ks : List ℕ} {l : List ℤ} {p : ℕ}
-    (t : Lining ws count es ks₀ l₀ at left ks l p) (more : 0 < left) where
-  next-of : (cs : List Condition) (h : Listed ws count cs) → Line-next ws count at left (t .lines cs h .rest)
-  next-of cs h = let g = t .lines cs h in line-next ws count at left (g .rest) more (g .many) (g .stands)
-
-  -- the line of the conditions that are listed
-  next : Line-next ws count at left (t .lines (t .ready .conditions) (t .ready .listed) .rest)
-  next = next-of (t .ready .conditions) (t .ready .listed)
-
-  end-is : (f : Formula) → Stands ws at (formula-words f) → getD es at 0 ≡ at + length (formula-words f)
-  end-is f s = t .ready .ended .end at (formula f) s
-
-  pub end-read : at < length es
-  end-read = let i = node-inside (formula (next .line .claim)) (next .claim) in let r = t .ready .ended .room in omega linear
-
-  trailer-stands : {cs : List Condition} (n : Line-next ws count at left cs)
-      → Stands ws (getD es at 0) (trailer (n .line) ++ rest-words count (n .others))
-  trailer-stands n = rw (end-is (n .line .claim) (n .claim)) (n .trailer-at)
-
-  -- the trailer's second and third word
-  pub trailer-inside : getD es at 0 + 2 < length ws
-  trailer-inside = let i = inside (past (past (trailer-stands next))) in omega linear
-
-  pub begins : Begins ws at (getD es at 0) es ks
-  begins = record {
-    claim = next .line .claim;
-    stands = next .claim;
-    ends = sym (end-is (next .line .claim) (next .claim));
-    ended = t .ready .ended;
-    told = record { told = λ q x h i. t .told .told q x h (let j = trailer-inside in omega linear) };
-    room = let r = t .ready .room in let s = t .changes in omega linear;
-  }
-
-  module _ {ks′ : List ℕ} {l′ : List ℤ} {q : ℕ} (w : Shortened ws at (getD es at 0) ks l p q ks′ l′) where
-    -- the formula of a line
-    wrote-claim : (f : Formula) → Stands ws at (formula-words f) → Wrote l p (formula-words (shortenᶠ order f)) q l′
-    wrote-claim f s = w .wrote f s (sym (end-is f s))
-
-    spanned : {vs : List ℤ} → length vs ≤ 16384 → Wrote l p vs q l′ → q ≤ length l′ → (p ≤ q) × (q - p ≤ 16384)
-    spanned m (fitted h n s) i = (omega linear, omega linear)
-    spanned m (stopped h n s) i = absurd (omega linear)
-
-    pub trailing : Trailing ws (getD es at 0) l′ p q
-    trailing =
-        let f = next .line .claim in
-        let e = end-is f (next .claim) in
-        let j = trailer-inside in
-        let m = never-longer order f in
-        let z = t .ready .short in
-        record { inside = omega linear; spans = spanned (omega linear) (wrote-claim f (next .claim)) }
-
-    module _ {l″ : List ℤ} {r : ℕ} (v : Trailed ws (getD es at 0) l′ p q r l″) where
-      placed : {vs : List ℤ} → Wrote l p vs q l′ → q ≤ length l′ → q ≡ p + length vs
-      placed (fitted h n s) i = n
-      placed (stopped h n s) i = absurd (omega linear)
-
-      -- the whole line
-      wrote-line : {cs : List Condition} (n : Line-next ws count at left cs) → Wrote l p (line-words (shorten-condition order (n .line))) r l″
-      unfolding line-words
-      wrote-line n =
-          let f = shortenᶠ order (n .line .claim) in
-          let first = wrote-claim (n .line .claim) (n .claim) in
-          let s = trailer-stands n in
-          let k = word s in
-          let m = word (past s) in
-          then first (wrote-as (λ i. k i ∷ m i ∷ pos (length (formula-words f)) ∷ []) (v (length (formula-words f)) (placed first)))
-
-      lines-on : (cs : List Condition) (h : Listed ws count cs) → Lines-left ws count (getD es at 0 + 3) (left - 1) l₀ cs l″ r
-      unfolding all-lines
-      lines-on cs h =
-          let g = t .lines cs h in
-          let n = next-of cs h in
-          let c = shorten-condition order (n .line) in
-          let ds = shorten-all order (n .others) in
-          record {
-            rest = n .others;
-            many = n .many;
-            stands = behind (trailer (n .line)) (trailer-stands n);
-            writes = λ q′ k u.
-                g .writes q′ k
-                (wrote-as
-                (sym (append-assoc (line-words c) (all-lines ds) (pos count ∷ []))
-                ∙ ap (λ (x : List Condition). rest-words count (shorten-all order x)) (sym (n .is)))
-                (then (wrote-line n) u));
-          }
-
-      pub lined : Lining ws count es ks₀ l₀ (getD es at 0 + 3) (left - 1) ks′ l″ r
-      lined = record {
-        ready = t .ready;
-        told = record {
-          told = λ k x h i s.
-              let e = end-is (next .line .claim) (next .claim) in
-              w .same .same k (omega linear) ∙ t .told .told k x (omega linear) i s;
-        };
-        changes = w .same .length ∙ t .changes;
-        list = wrote-length (wrote-line next) ∙ t .list;
-        lines = lines-on;
-      }
-
--- ---- the count
-
-module _ {ws : List ℤ} {count : ℕ} {es ks₀ : List ℕ} {l₀ : List ℤ} {at left : ℕ} {ks : List ℕ} {l : List ℤ} {p : ℕ}
-    (t : Lining ws count es ks₀ l₀ at left ks l p) (none : left ≤ 0) where
-  count-stands : (cs : List Condition) (h : Listed ws count cs) → Stands ws at (pos count ∷ [])
-  unfolding all-lines
-  count-stands cs h = of-rest (t .lines cs h .rest) (t .lines cs h .many) (t .lines cs h .stands)
-    where
-      of-rest : (rest : List Condition) → length rest ≡ left → Stands ws at (rest-words count rest) → Stands ws at (pos count ∷ [])
-      of-rest [] m s = s
-      of-rest (c ∷ rest) m s = absurd (omega (linear, m))
-
-  pub count-inside : at < length ws
-  count-inside = inside (count-stands (t .ready .conditions) (t .ready .listed))
-
-  pub all-lined : {q : ℕ} {l′ : List ℤ} → Wrote l p (getD ws at (pos 0) ∷ []) q l′ → All-written ws count l₀ q l′
-  unfolding all-lines
-  all-lined {q} {l′} w cs h =
-      let g = t .lines cs h in
-      g .writes q l′ (wrote-as (ap (λ z. z ∷ []) (word (count-stands cs h)) ∙ of-rest (g .rest) (g .many)) w)
-    where
-      of-rest : (rest : List Condition) → length rest ≡ left → (pos count ∷ []) ≡ rest-words count (shorten-all order rest)
-      of-rest [] m = refl
-      of-rest (c ∷ rest) m = absurd (omega (linear, m))

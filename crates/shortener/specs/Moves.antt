@@ -1,7 +1,7 @@
 -- The writer's turns, as its loop takes them: what may be read at the place, that the place moves on, and that the next turn holds, for
 -- each number of what becomes of a node. Assumes nothing.
-use Prim.Native.Nat.{ℕ, _+_, _≤_, _<_}
-use mathlib.Core.Path.{_≡_, refl, _∙_}
+use Prim.Native.Nat.{ℕ, _+_, _<_}
+use mathlib.Core.Path.{_≡_, _∙_}
 use mathlib.Core.List.{List, [], _∷_, _++_}
 use native.Mathlib.Omega.{arith as linear}
 use lib.IntN.{ℤ, pos}
@@ -10,12 +10,13 @@ use lib.Seq.{getD-set-other}
 use Rattle.script.specs.Words.{formula-words}
 use Rattle.script.specs.Syntax.{Formula}
 use Rattle.theorems.specs.Writing.{Wrote, wrote-length, wrote-nothing}
-use Rattle.theorems.specs.WordsAt.{Stands, stands-as, inside, past, Node, words-of, size, node-size, node-inside}
+use Rattle.theorems.specs.WordsAt.{stands-as, inside, past, Node, words-of, size, node-size, node-inside}
 use Rattle.shortening.specs.Simplify.{order, shortenᶠ}
+use Rattle.shortener.specs.Codes.{kept-code, numbered-code, first-code, passed-code}
 use Rattle.shortener.specs.Heads.{Numbered, First, Second, Value, Head}
 use Rattle.shortener.specs.Tasks.{Task, write, pass, Ahead, ahead-within}
-use Rattle.shortener.specs.Turns.{Begins, Ended, Same-from, Going, Turn}
-use Rattle.shortener.specs.Arms.{To-write, To-pass, Past-changes, headed, to-pass, next, kept-going, numbered-going, second-going, first-going, value-going, passed-going, middle, first-part, second-part, both}
+use Rattle.shortener.specs.Turns.{Ended, Going, Turn}
+use Rattle.shortener.specs.Arms.{To-write, Past-changes, headed, to-pass, next, kept-going, numbered-going, second-going, first-going, value-going, passed-going, middle, first-part, second-part, both}
 
 -- where the two parts of a node stand
 pub record Parts (ws : List ℤ) (es : List ℕ) (end at : ℕ) : Type 0 where
@@ -55,18 +56,18 @@ module _ {ws : List ℤ} {first end : ℕ} {es ks₀ : List ℕ} {l₀ : List �
       → Turn ws first end es ks₀ l₀ p₀ at′ ks l′ q
   after w g = record { begun = t .begun; same = t .same; list = wrote-length w ∙ t .list; going = λ f s e. g f (t .going f s e) }
 
-  pub kept-turn : getD ks at 0 ≡ 0 → {q : ℕ} {l′ : List ℤ} → Wrote l p (getD ws at (pos 0) ∷ []) q l′ → Turn ws first end es ks₀ l₀ p₀ (at + 1) ks l′ q
+  pub kept-turn : getD ks at 0 ≡ kept-code → {q : ℕ} {l′ : List ℤ} → Wrote l p (getD ws at (pos 0) ∷ []) q l′ → Turn ws first end es ks₀ l₀ p₀ (at + 1) ks l′ q
   kept-turn e w = after w (λ f g. kept-going g more e w)
 
   -- ---- a number
 
-  pub number-here : getD ks at 0 ≡ 1 → at + 1 < length ws
+  pub number-here : getD ks at 0 ≡ numbered-code → at + 1 < length ws
   number-here e =
-      let n = next going more 1 (omega linear) e in
-      let h : Numbered (n .node) = headed ws ks end at n 1 e in
+      let n = next going more numbered-code (omega linear) e in
+      let h : Numbered (n .node) = headed ws ks end at n numbered-code e in
       inside (past (stands-as (h .words) (n .stands)))
 
-  pub numbered-turn : getD ks at 0 ≡ 1 → {q : ℕ} {l′ : List ℤ} → Wrote l p (getD ws at (pos 0) ∷ getD ws (at + 1) (pos 0) ∷ []) q l′
+  pub numbered-turn : getD ks at 0 ≡ numbered-code → {q : ℕ} {l′ : List ℤ} → Wrote l p (getD ws at (pos 0) ∷ getD ws (at + 1) (pos 0) ∷ []) q l′
       → Turn ws first end es ks₀ l₀ p₀ (at + 2) ks l′ q
   numbered-turn e w = after w (λ f g. numbered-going g more e w)
 
@@ -85,51 +86,51 @@ module _ {ws : List ℤ} {first end : ℕ} {es ks₀ : List ℕ} {l₀ : List �
         before-end = omega (linear, e, i, s);
       }
 
-  pub first-parts : getD ks at 0 ≡ 2 → Parts ws es end at
+  pub first-parts : getD ks at 0 ≡ first-code → Parts ws es end at
   first-parts e =
-      let n = next going more 2 (omega linear) e in
-      let h : First (n .node) = headed ws ks end at n 2 e in
+      let n = next going more first-code (omega linear) e in
+      let h : First (n .node) = headed ws ks end at n first-code e in
       parts-of n (h .first) (h .second) (h .words)
 
-  pub first-turn : getD ks at 0 ≡ 2 → Turn ws first end es ks₀ l₀ p₀ (at + 1) (set ks (getD es (at + 1) 0) 7) l p
+  pub first-turn : getD ks at 0 ≡ first-code → Turn ws first end es ks₀ l₀ p₀ (at + 1) (set ks (getD es (at + 1) 0) passed-code) l p
   first-turn e =
       let k = getD es (at + 1) 0 in
       let ps = first-parts e in
       record {
         begun = t .begun;
         same = record {
-          length = length-set ks k 7 ∙ t .same .length;
-          same = λ q h. getD-set-other ks k q 7 0 (λ i. let b = ps .before-end in omega (linear, i)) ∙ t .same .same q h;
+          length = length-set ks k passed-code ∙ t .same .length;
+          same = λ q h. getD-set-other ks k q passed-code 0 (λ i. let b = ps .before-end in omega (linear, i)) ∙ t .same .same q h;
         };
         list = t .list;
         going = λ f s i.
             let g = t .going f s i in
-            let n = next g more 2 (omega linear) e in
-            first-going g more ended n (headed ws ks end at n 2 e)
+            let n = next g more first-code (omega linear) e in
+            first-going g more ended n (headed ws ks end at n first-code e)
             (let r = t .begun .room in let l = t .same .length in let b = ps .second in omega linear);
       }
 
-  pub second-parts : (before : List ℤ) (k : ℕ) → k < 7 → ((x : Node) → Head k x → Second before x) → getD ks at 0 ≡ k → Parts ws es end at
+  pub second-parts : (before : List ℤ) (k : ℕ) → k < passed-code → ((x : Node) → Head k x → Second before x) → getD ks at 0 ≡ k → Parts ws es end at
   second-parts before k i f e =
       let n = next going more k i e in
       let h = f (n .node) (headed ws ks end at n k e) in
       parts-of n (h .first) (h .second) (h .words)
 
-  pub second-turn : (before : List ℤ) (k : ℕ) → k < 7 → ((x : Node) → Head k x → Second before x) → getD ks at 0 ≡ k
+  pub second-turn : (before : List ℤ) (k : ℕ) → k < passed-code → ((x : Node) → Head k x → Second before x) → getD ks at 0 ≡ k
       → {q : ℕ} {l′ : List ℤ} → Wrote l p before q l′ → Turn ws first end es ks₀ l₀ p₀ (getD es (at + 1) 0) ks l′ q
   second-turn before k i h e w =
       after w (λ f g. let n = next g more k i e in second-going g more ended n (h (n .node) (headed ws ks end at n k e)) w)
 
   -- ---- a value
 
-  pub moves-on : (k : ℕ) → k < 7 → getD ks at 0 ≡ k → at < getD es at 0
+  pub moves-on : (k : ℕ) → k < passed-code → getD ks at 0 ≡ k → at < getD es at 0
   moves-on k i e =
       let n = next going more k i e in
       let m = ended .end at (n .node) (n .stands) in
       let s = node-size (n .node) in
       omega (linear, m, s)
 
-  pub value-turn : (v : ℤ) (k : ℕ) → k < 7 → ((x : Node) → Head k x → Value v x) → getD ks at 0 ≡ k
+  pub value-turn : (v : ℤ) (k : ℕ) → k < passed-code → ((x : Node) → Head k x → Value v x) → getD ks at 0 ≡ k
       → {q : ℕ} {l′ : List ℤ} → Wrote l p (v ∷ []) q l′ → Turn ws first end es ks₀ l₀ p₀ (getD es at 0) ks l′ q
   value-turn v k i h e w =
       after w (λ f g. let n = next g more k i e in value-going g more ended n (h (n .node) (headed ws ks end at n k e)) w)

@@ -12,7 +12,7 @@ use lib.ListN.{length}
 use Rattle.script.specs.declared.Line.{Line}
 use Rattle.script.specs.Listing.{line-at}
 use Rattle.shortening.specs.Shortened as Shortened
-use Rattle.shortening.specs.Shortened.{Which, no-part, part, shorter-of, part-for, shorter}
+use Rattle.shortening.specs.Shortened.{Which, no-part, part, part-for, shorter}
 use Rattle.shortener.specs.declared.Part.{Part}
 
 abbrev pub Ordered : Line → Type 0

@@ -1,15 +1,16 @@
 -- What the writer has before it: nodes that stand one after the other, each to be written or to be passed over (`Ahead`), and the
 -- words that are to be written of them (`task-words`). Assumes nothing.
-use Prim.Native.Nat.{ℕ, zero, suc, _+_, _≤_, _<_}
-use mathlib.Core.Path.{_≡_, refl, sym, ap, _∙_, subst}
-use mathlib.Core.List.{List, [], _∷_, _++_, append-assoc, append-nil}
+use Prim.Native.Nat.{ℕ, _+_, _≤_, _<_}
+use mathlib.Core.Path.{_≡_, refl, sym, ap, _∙_}
+use mathlib.Core.List.{List, [], _∷_, _++_, append-assoc}
 use native.Mathlib.Omega.{arith as linear}
 use lib.IntN.{ℤ}
 use lib.ListN.{length, length-append, getD, set}
 use lib.Seq.{getD-set-other}
-use Rattle.theorems.specs.WordsAt.{Stands, stands-as, front, behind, Node, words-of, size, node-size, node-inside}
-use Rattle.shortener.specs.Planned.{node-change}
-use Rattle.shortener.specs.Heads.{short-words, all-words, all-short, Head, head}
+use Rattle.theorems.specs.WordsAt.{Stands, front, behind, Node, words-of, size, node-size}
+use Rattle.shortener.specs.Codes.{passed-code}
+use Rattle.shortener.specs.NodeEntries.{node-change}
+use Rattle.shortener.specs.Heads.{short-words, all-words, all-short}
 
 pub data Task : Type 0 where
   write : Node → Task
@@ -31,14 +32,14 @@ writing-words (x ∷ xs) ts =
 
 module _ (ws : List ℤ) where
   -- the run says what becomes of each node that stands from one place to another
-  pub record Told (ks : List ℕ) (from to : ℕ) : Type 0 where
+  pub record Noted (ks : List ℕ) (from to : ℕ) : Type 0 where
     pub told : (at : ℕ) (x : Node) → from ≤ at → at < to → Stands ws at (words-of x) → getD ks at 0 ≡ node-change x
 
   module _ (ks : List ℕ) (end : ℕ) where
     abbrev pub Ahead : ℕ → List Task → Type 0
     Ahead at [] = at ≡ end
-    Ahead at (write x ∷ ts) = Stands ws at (words-of x) × (Told ks at (at + size x) × Ahead (at + size x) ts)
-    Ahead at (pass x ∷ ts) = Stands ws at (words-of x) × ((getD ks at 0 ≡ 7) × Ahead (at + size x) ts)
+    Ahead at (write x ∷ ts) = Stands ws at (words-of x) × (Noted ks at (at + size x) × Ahead (at + size x) ts)
+    Ahead at (pass x ∷ ts) = Stands ws at (words-of x) × ((getD ks at 0 ≡ passed-code) × Ahead (at + size x) ts)
 
     pub ahead-within : (at : ℕ) (ts : List Task) → Ahead at ts → at ≤ end
     ahead-within at [] a = omega linear
@@ -54,7 +55,7 @@ module _ (ws : List ℤ) where
         absurd (let i = ahead-within (at + size x) ts (a .1 .1) in let n = node-size x in omega linear)
 
     -- nodes that stand one after the other
-    pub ahead-parts : (at : ℕ) (xs : List Node) (ts : List Task) → Stands ws at (all-words xs) → Told ks at (at + length (all-words xs))
+    pub ahead-parts : (at : ℕ) (xs : List Node) (ts : List Task) → Stands ws at (all-words xs) → Noted ks at (at + length (all-words xs))
         → Ahead (at + length (all-words xs)) ts → Ahead at (writing xs ts)
     ahead-parts at [] ts s t a = rw (none at) at a
       where
@@ -74,7 +75,7 @@ module _ (ws : List ℤ) where
         more = let l = length-append (words-of x) (all-words xs) in omega (linear, l)
 
   -- a place before them may be noted otherwise
-  pub told-set : {ks : List ℕ} {from to : ℕ} (k v : ℕ) → ((at : ℕ) → from ≤ at → at < to → at ≡ k → ⊥) → Told ks from to → Told (set ks k v) from to
+  pub told-set : {ks : List ℕ} {from to : ℕ} (k v : ℕ) → ((at : ℕ) → from ≤ at → at < to → at ≡ k → ⊥) → Noted ks from to → Noted (set ks k v) from to
   told-set {ks} k v n t = record { told = λ at x h i s. getD-set-other ks k at v 0 (n at h i) ∙ t .told at x h i s }
 
   pub ahead-set : (ks : List ℕ) (end k v at : ℕ) (ts : List Task) → k < at → Ahead ks end at ts → Ahead (set ks k v) end at ts

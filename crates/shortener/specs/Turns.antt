@@ -1,21 +1,18 @@
--- What holds at each turn of the writer: whatever writes what is ahead writes the whole of what it was to write (`Going`). One law for
--- each number of what becomes of a node (`kept-turn` to `passed-turn`). In this order: what the writer asks and leaves, a turn,
--- the node that is next, the laws. Assumes nothing.
-use Prim.Native.Nat.{ℕ, zero, suc, _+_, _≤_, _<_}
-use mathlib.Core.Path.{_≡_, refl, sym, ap, _∙_, subst}
-use mathlib.Core.List.{List, [], _∷_, _++_, append-nil, append-assoc}
+-- What the writer asks and leaves (`Begins`, `Wrote-short`), and what holds at each of its turns: whatever writes what is ahead writes the
+-- whole of what it was to write (`Going`, `Turn`); at the beginning (`begin`) and at the end (`end-turn`). The turns between are in
+-- `Arms` and `Moves`. Assumes nothing.
+use Prim.Native.Nat.{ℕ, _+_, _≤_}
+use mathlib.Core.Path.{_≡_, refl, sym}
+use mathlib.Core.List.{List, [], _∷_, append-nil}
 use native.Mathlib.Omega.{arith as linear}
-use lib.IntN.{ℤ, pos}
-use lib.ListN.{length, length-append, length-set, getD, set}
-use lib.Seq.{getD-set-same, getD-set-other}
+use lib.IntN.{ℤ}
+use lib.ListN.{length, getD}
 use Rattle.script.specs.Syntax.{Formula}
 use Rattle.script.specs.Words.{formula-words}
-use Rattle.theorems.specs.Writing.{Wrote, Left, then, wrote-nothing, wrote-as}
-use Rattle.theorems.specs.WordsAt.{Stands, stands-as, inside, word, past, front, behind, Node, formula, words-of, size, node-size, node-inside}
+use Rattle.theorems.specs.Writing.{Wrote, Left, wrote-nothing, wrote-as}
+use Rattle.theorems.specs.WordsAt.{Stands, Node, formula, words-of, size}
 use Rattle.shortening.specs.Simplify.{order, shortenᶠ}
-use Rattle.shortener.specs.Planned.{node-change}
-use Rattle.shortener.specs.Heads.{short-words, all-words, all-short, Head, head}
-use Rattle.shortener.specs.Tasks.{Task, write, pass, task-words, writing, writing-words, Told, Ahead, ahead-within, ahead-none, ahead-parts, told-set, ahead-set}
+use Rattle.shortener.specs.Tasks.{Task, write, task-words, Noted, Ahead, ahead-none}
 
 -- ---- what the writer asks and leaves
 
@@ -30,7 +27,7 @@ pub record Begins (ws : List ℤ) (first end : ℕ) (es ks : List ℕ) : Type 0 
   pub stands : Stands ws first (formula-words claim)
   pub ends : first + length (formula-words claim) ≡ end
   pub ended : Ended ws es
-  pub told : Told ws ks first end
+  pub told : Noted ws ks first end
   pub room : length ws ≤ length ks
 
 -- from a place on, two runs have the same
@@ -39,7 +36,7 @@ pub record Same-from (end : ℕ) (ks₀ ks : List ℕ) : Type 0 where
   pub same : (at : ℕ) → end ≤ at → getD ks at 0 ≡ getD ks₀ at 0
 
 -- whatever formula stands there was written, shortened; what becomes of the nodes after it is noted as before
-pub record Shortened (ws : List ℤ) (first end : ℕ) (ks₀ : List ℕ) (l : List ℤ) (p q : ℕ) (ks : List ℕ) (l′ : List ℤ) : Type 0 where
+pub record Wrote-short (ws : List ℤ) (first end : ℕ) (ks₀ : List ℕ) (l : List ℤ) (p q : ℕ) (ks : List ℕ) (l′ : List ℤ) : Type 0 where
   pub wrote : (f : Formula) → Stands ws first (formula-words f) → first + length (formula-words f) ≡ end
       → Wrote l p (formula-words (shortenᶠ order f)) q l′
   pub same : Same-from end ks₀ ks
@@ -72,7 +69,7 @@ begin {ws} {first} {end} {es} {ks} {l} {p} b = record {
 }
 
 pub end-turn : {ws : List ℤ} {first end : ℕ} {es ks₀ ks : List ℕ} {l₀ l : List ℤ} {p₀ p at : ℕ}
-    → Turn ws first end es ks₀ l₀ p₀ at ks l p → end ≤ at → Shortened ws first end ks₀ l₀ p₀ p ks l
+    → Turn ws first end es ks₀ l₀ p₀ at ks l p → end ≤ at → Wrote-short ws first end ks₀ l₀ p₀ p ks l
 end-turn {ws} {first} {end} {es} {ks₀} {ks} {l₀} {l} {p₀} {p} {at} t h = record {
   wrote = λ f s e.
       let g = t .going f s e in

@@ -15,8 +15,14 @@ ghost use lib.ListN.{length};
 ghost use denote.Ref.{ptr};
 ghost use Rattle.shortening.specs.Simplify.{order};
 ghost use Rattle.shortening.specs.Shortened.{written, shorter, part-for, part-words};
-ghost use Rattle.shortener.specs.Entry.{Counted, Written-short};
+ghost use Rattle.shortener.specs.Whole.{Counted, Written-short};
 ghost use Rattle.shortener.specs.Parts.{Ordered, Told, chosen};
+
+// The most words that a list has.
+const LONGEST: usize = 16384;
+
+// The most words of a list that is given shorter runs, which are cleared sooner.
+const BRIEF: usize = 512;
 
 // What is answered beside the new list: the number, and how many words were used.
 pub struct ShortAnswer {
@@ -29,31 +35,31 @@ fn write_long(list: &[i32], count: usize, short: &mut [i32]) -> usize
     requires { ⌜ Counted (now list) count ⌝ }
     ensures { λ p. ⌜ Written-short (now (list .entry)) (now (short .entry)) p (now (short .exit)) ⌝ }
 {
-    let mut ends = [0u16; 16384];
-    let mut shapes = [0u8; 16384];
-    let mut changes = [0u8; 16384];
+    let mut ends = [0u16; LONGEST];
+    let mut shapes = [0u8; LONGEST];
+    let mut changes = [0u8; LONGEST];
     plan(list, &mut ends, &mut shapes, &mut changes);
     write_lines(list, count, &ends, &mut changes, short)
 }
 
-// The same for a list that fits shorter runs, which are cleared sooner.
+// The same for a list that fits the shorter runs.
 fn write_brief(list: &[i32], count: usize, short: &mut [i32]) -> usize
     requires { ⌜ Counted (now list) count × (length (now list) ≤ 512) ⌝ }
     ensures { λ p. ⌜ Written-short (now (list .entry)) (now (short .entry)) p (now (short .exit)) ⌝ }
 {
-    let mut ends = [0u16; 512];
-    let mut shapes = [0u8; 512];
-    let mut changes = [0u8; 512];
+    let mut ends = [0u16; BRIEF];
+    let mut shapes = [0u8; BRIEF];
+    let mut changes = [0u8; BRIEF];
     plan(list, &mut ends, &mut shapes, &mut changes);
     write_lines(list, count, &ends, &mut changes, short)
 }
 
-// Writes the list, which has so many conditions, shortened; gives the place past it.
+// The same, with runs as short as the list allows.
 fn write_short(list: &[i32], count: usize, short: &mut [i32]) -> usize
     requires { ⌜ Counted (now list) count ⌝ }
     ensures { λ p. ⌜ Written-short (now (list .entry)) (now (short .entry)) p (now (short .exit)) ⌝ }
 {
-    if list.len() <= 512 {
+    if list.len() <= BRIEF {
         return write_brief(list, count, short);
     }
     write_long(list, count, short)
@@ -64,7 +70,7 @@ fn write_short(list: &[i32], count: usize, short: &mut [i32]) -> usize
 pub fn shorten(list: &[i32], short: &mut [i32]) -> ShortAnswer
     ensures number { λ r. ⌜ r .number ≡ written order (now (list .entry)) (length (now (short .entry))) .number ⌝ }
     ensures used { λ r. ⌜ r .used ≡ written order (now (list .entry)) (length (now (short .entry))) .used ⌝ }
-    ensures list { λ r. ⌜ now (short .exit) ≡ written order (now (list .entry)) (length (now (short .entry))) .list ⌝ }
+    ensures short { λ r. ⌜ now (short .exit) ≡ written order (now (list .entry)) (length (now (short .entry))) .list ⌝ }
 {
     clear(short);
     let count = list_reader::condition_count(list);

@@ -7,7 +7,7 @@ use formula_writer::push_two;
 ghost use Rattle.shortener.specs.Lines.{Trailing, Trailed, Ready, All-written};
 
 // Writes the trailer of a formula that was written from `start` to `past`: kind and row as they stand in the list at a place, and
-// how many words the formula has now.
+// how many words the formula has now. Where it had no room, its length is not known, and nothing is written.
 fn write_trailer(list: &[i32], at: usize, short: &mut [i32], start: usize, past: usize) -> usize
     requires { ⌜ Trailing (now list) at (now short) start past ⌝ }
     ensures { λ p. ⌜ Trailed (now (list .entry)) at (now (short .entry)) start past p (now (short .exit)) ⌝ }

@@ -15,41 +15,42 @@ use crate::rules::pair_change;
 use script::field_number;
 use script::kinds;
 ghost use mathlib.Core.Path.{_≡_};
-ghost use Prim.Native.Nat.{_≤_, _<_};
+ghost use Prim.Native.Nat.{_+_, _<_};
 ghost use lib.IntN.{pos};
 ghost use lib.ListN.{length, getD};
-ghost use Rattle.shortener.specs.Entries.{number-code, pair-entry, not-entry, entry-at};
-ghost use Rattle.shortener.specs.Known.{Roomy, Planned};
+ghost use Rattle.shortener.specs.Codes.{kept-code, numbered-code, other-code};
+ghost use Rattle.shortener.specs.Entries.{entry, number-code, pair-entry, not-entry, entry-at};
+ghost use Rattle.shortener.specs.Planning.{Roomy, Planned};
 
 // Of a node: the place past it, its shape when it is shortened, and what it becomes.
-pub struct Entry {
+struct Entry {
     pub end: u16,
     pub shape: u8,
     pub change: u8,
 }
 
-// A place, which the runs have in 16 bits: the longest list has 16,384 words.
+// A place, which the runs have in 16 bits, since the longest list has 16,384 words; the one cast.
 pub fn place(end: u16) -> usize
     ensures { λ r. ⌜ r ≡ end ⌝ }
 {
     end as usize
 }
 
-// The place past the part that begins at a place.
+// The place past the part that begins at a place; 0 past the run's end.
 fn end_at(ends: &[u16], at: usize) -> u16
     ensures { λ r. ⌜ r ≡ getD (now (ends .entry)) at 0 ⌝ }
 {
     if at < ends.len() { ends[at] } else { 0 }
 }
 
-// The shape of the part that begins at a place.
+// The shape of the part that begins at a place; 0 past the run's end.
 fn shape_at(shapes: &[u8], at: usize) -> u8
     ensures { λ r. ⌜ r ≡ getD (now (shapes .entry)) at 0 ⌝ }
 {
     if at < shapes.len() { shapes[at] } else { 0 }
 }
 
-// The shape of the constant whose number stands at a place.
+// The shape of the constant whose number stands at a place; that of 0 past the words' end.
 fn number_shape(words: &[i32], at: usize) -> u8
     ensures { λ r. ⌜ r ≡ number-code (getD (now (words .entry)) at (pos 0)) ⌝ }
 {
@@ -90,58 +91,58 @@ fn pair_entry(kind: usize, at: usize, ends: &[u16], shapes: &[u8]) -> Entry
     Entry { end, shape, change }
 }
 
+// The entry of a constant, a variable or a mark at a place.
+fn number_entry(at: usize, shape: u8) -> Entry
+    requires { ⌜ at < 16384 ⌝ }
+    ensures { λ r. ⌜ r ≡ entry (at + 2) shape numbered-code ⌝ }
+{
+    Entry {
+        end: (at + 2) as u16,
+        shape,
+        change: KEPT_WITH_NUMBER,
+    }
+}
+
+// The entry of true or false at a place.
+fn truth_entry(at: usize, shape: u8) -> Entry
+    requires { ⌜ at < 16384 ⌝ }
+    ensures { λ r. ⌜ r ≡ entry (at + 1) shape kept-code ⌝ }
+{
+    Entry {
+        end: (at + 1) as u16,
+        shape,
+        change: KEPT,
+    }
+}
+
+// The entry of a node that always stays, and whose last part ends at a place.
+fn kept_entry(end: u16) -> Entry
+    ensures { λ r. ⌜ r ≡ entry end other-code kept-code ⌝ }
+{
+    Entry {
+        end,
+        shape: OTHER,
+        change: KEPT,
+    }
+}
+
 // The entry of the word at a place, with those of all words after it.
-pub fn entry_at(words: &[i32], at: usize, ends: &[u16], shapes: &[u8]) -> Entry
+fn entry_at(words: &[i32], at: usize, ends: &[u16], shapes: &[u8]) -> Entry
     requires { ⌜ (at < length (now words)) × (at < 16384) ⌝ }
     ensures { λ r. ⌜ r ≡ entry-at (now (words .entry)) (now (ends .entry)) (now (shapes .entry)) at ⌝ }
 {
     let kind = field_number(words[at]);
     match kind {
-        kinds::CONSTANT => {
-            let shape = number_shape(words, at + 1);
-            Entry {
-                end: (at + 2) as u16,
-                shape,
-                change: KEPT_WITH_NUMBER,
-            }
-        }
-        kinds::VARIABLE => Entry {
-            end: (at + 2) as u16,
-            shape: OTHER,
-            change: KEPT_WITH_NUMBER,
-        },
-        kinds::MARK => Entry {
-            end: (at + 2) as u16,
-            shape: OTHER,
-            change: KEPT_WITH_NUMBER,
-        },
-        kinds::TRUE => Entry {
-            end: (at + 1) as u16,
-            shape: IS_TRUE,
-            change: KEPT,
-        },
-        kinds::FALSE => Entry {
-            end: (at + 1) as u16,
-            shape: IS_FALSE,
-            change: KEPT,
-        },
-        kinds::NEGATE => {
-            let end = end_at(ends, at + 1);
-            Entry {
-                end,
-                shape: OTHER,
-                change: KEPT,
-            }
-        }
+        kinds::CONSTANT => number_entry(at, number_shape(words, at + 1)),
+        kinds::VARIABLE => number_entry(at, OTHER),
+        kinds::MARK => number_entry(at, OTHER),
+        kinds::TRUE => truth_entry(at, IS_TRUE),
+        kinds::FALSE => truth_entry(at, IS_FALSE),
+        kinds::NEGATE => kept_entry(end_at(ends, at + 1)),
         kinds::CHOOSE => {
             let formula = place(end_at(ends, at + 1));
             let chosen = place(end_at(ends, formula));
-            let end = end_at(ends, chosen);
-            Entry {
-                end,
-                shape: OTHER,
-                change: KEPT,
-            }
+            kept_entry(end_at(ends, chosen))
         }
         kinds::NOT => not_entry(at, ends, shapes),
         _ => pair_entry(kind, at, ends, shapes),

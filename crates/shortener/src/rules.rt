@@ -31,13 +31,20 @@ pub const KEPT_WITH_NUMBER: u8 = 1;
 // its first part, and not its second
 pub const FIRST: u8 = 2;
 
+// its second part, and not its first
 pub const SECOND: u8 = 3;
 
+// its second part, negated
 pub const NEGATED_SECOND: u8 = 4;
 
+// true, and none of its parts
 pub const TRUE: u8 = 5;
 
+// false, and none of its parts
 pub const FALSE: u8 = 6;
+
+// nothing: its parent has dropped it
+pub const PASSED: u8 = 7;
 
 // ---- the rules, in their order
 

@@ -6,16 +6,14 @@ use crate::rules::FIRST;
 use crate::rules::KEPT;
 use crate::rules::KEPT_WITH_NUMBER;
 use crate::rules::NEGATED_SECOND;
+use crate::rules::PASSED;
 use crate::rules::SECOND;
 use crate::rules::TRUE;
 use formula_writer::push;
 use formula_writer::push_kind;
 use formula_writer::push_two;
 use script::kinds;
-ghost use Rattle.shortener.specs.Turns.{Begins, Shortened};
-
-// in the place of what a node becomes: it is passed over
-const PASSED: u8 = 7;
+ghost use Rattle.shortener.specs.Turns.{Begins, Wrote-short};
 
 // Writes the formula that stands in the words from `first` to `end`, shortened, from the place `start` on. A part that is
 // dropped behind a part that is written is noted when its node is met, and passed over when it is reached.
@@ -29,7 +27,7 @@ pub fn write_formula(
     start: usize,
 ) -> usize
     requires { ⌜ Begins (now words) first end (now ends) (now changes) ⌝ }
-    ensures { λ p. ⌜ Shortened (now (words .entry)) first end (now (changes .entry)) (now (short .entry)) start p (now (changes .exit)) (now (short .exit)) ⌝ }
+    ensures { λ p. ⌜ Wrote-short (now (words .entry)) first end (now (changes .entry)) (now (short .entry)) start p (now (changes .exit)) (now (short .exit)) ⌝ }
 {
     let mut at = first;
     let mut p = start;

@@ -2,6 +2,7 @@
 -- (`shorten-leaves`). So what is in range stays so (`shorten-in-rangeᶠ`), and constants stay values of an arithmetic
 -- (`shorten-constants`). Assumes nothing.
 use Prim.Native.Nat.{ℕ, _<_}
+use mathlib.Core.Path.{_≡_, refl, sym, subst}
 use lib.IntN.{ℤ}
 use Rattle.script.specs.declared.Operator.{Operator}
 use Rattle.script.specs.declared.Connective.{Connective}
@@ -79,39 +80,26 @@ In-bounds f = Leavesᶠ (λ z. Unit {0}) (λ v. v < variables) (λ m. m < row-li
 abbrev In-boundsᵉ : Expr → Type 0
 In-boundsᵉ e = Leaves (λ z. Unit {0}) (λ v. v < variables) (λ m. m < row-limit) e
 
+-- the names of `Syntax`, and nothing of constants
 mutual
-  bounds : (e : Expr) → In-range e → In-boundsᵉ e
-  bounds (const z) h = tt
-  bounds (var v) h = h
-  bounds (mark m) h = h
-  bounds (arith p a b) h = (bounds a (h .0), bounds b (h .1))
-  bounds (neg a) h = bounds a h
-  bounds (choose f a b) h = (boundsᶠ f (h .0), bounds a (h .1), bounds b (h .2))
+  same : (e : Expr) → In-range e ≡ In-boundsᵉ e
+  same (const z) = refl
+  same (var v) = refl
+  same (mark m) = refl
+  same (arith p a b) = λ i. same a i × same b i
+  same (neg a) = same a
+  same (choose f a b) = λ i. sameᶠ f i × same a i × same b i
 
-  boundsᶠ : (f : Formula) → In-rangeᶠ f → In-bounds f
-  boundsᶠ (truth b) h = tt
-  boundsᶠ (cmp r a b) h = (bounds a (h .0), bounds b (h .1))
-  boundsᶠ (not f) h = boundsᶠ f h
-  boundsᶠ (join c f g) h = (boundsᶠ f (h .0), boundsᶠ g (h .1))
-
-mutual
-  range : (e : Expr) → In-boundsᵉ e → In-range e
-  range (const z) h = tt
-  range (var v) h = h
-  range (mark m) h = h
-  range (arith p a b) h = (range a (h .0), range b (h .1))
-  range (neg a) h = range a h
-  range (choose f a b) h = (rangeᶠ f (h .0), range a (h .1), range b (h .2))
-
-  rangeᶠ : (f : Formula) → In-bounds f → In-rangeᶠ f
-  rangeᶠ (truth b) h = tt
-  rangeᶠ (cmp r a b) h = (range a (h .0), range b (h .1))
-  rangeᶠ (not f) h = rangeᶠ f h
-  rangeᶠ (join c f g) h = (rangeᶠ f (h .0), rangeᶠ g (h .1))
+  sameᶠ : (f : Formula) → In-rangeᶠ f ≡ In-bounds f
+  sameᶠ (truth b) = refl
+  sameᶠ (cmp r a b) = λ i. same a i × same b i
+  sameᶠ (not f) = sameᶠ f
+  sameᶠ (join c f g) = λ i. sameᶠ f i × sameᶠ g i
 
 pub shorten-in-rangeᶠ : (o : Order) (f : Formula) → In-rangeᶠ f → In-rangeᶠ (shortenᶠ o f)
 shorten-in-rangeᶠ o f h =
-    rangeᶠ (shortenᶠ o f) (shorten-leavesᶠ (λ z. Unit {0}) (λ v. v < variables) (λ m. m < row-limit) o f (boundsᶠ f h))
+    subst (λ X. X) (sym (sameᶠ (shortenᶠ o f)))
+    (shorten-leavesᶠ (λ z. Unit {0}) (λ v. v < variables) (λ m. m < row-limit) o f (subst (λ X. X) (sameᶠ f) h))
 
 -- ---- constants
 

@@ -1,14 +1,14 @@
 -- The shortened conditions of a list: as many, with the same kinds and rows in order (`count-same`, `rules-same`,
 -- `rows-same`), in a list that is never longer (`list-at-most`) and well-formed (`well-formed-shortened`), true in all
 -- states exactly where the old ones are (`all-valid-iff`). What the pass answers is in `Answers`. Assumes nothing.
-use Prim.Native.Nat.{suc, _≤_}
+use Prim.Native.Nat.{_≤_}
 use mathlib.Core.Path.{_≡_, refl, sym, ap, subst}
 use mathlib.Core.Logic.{_↔_}
 use mathlib.Core.List.{List, [], _∷_, map}
 use native.Mathlib.Omega.{arith as linear}
 use lib.IntN.{ℤ, pos}
 use lib.Dec.{T}
-use lib.ListN.{length, length-append}
+use lib.ListN.{length, length-append, length-map}
 use Rattle.script.specs.Syntax.{Formula}
 use Rattle.script.specs.Conditions.{Condition}
 use Rattle.script.specs.Words.{formula-words, trailer, line-words, all-lines, list-words}
@@ -25,8 +25,7 @@ module _ (o : Order) where
   -- ---- the shortened conditions
 
   pub count-same : (cs : List Condition) → length (shorten-all o cs) ≡ length cs
-  count-same [] = refl
-  count-same (c ∷ cs) = ap suc (count-same cs)
+  count-same cs = length-map cs (shorten-condition o)
 
   -- kinds and rows, in order
   pub rules-same : (cs : List Condition)

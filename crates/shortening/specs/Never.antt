@@ -12,6 +12,7 @@ use Rattle.script.specs.declared.Relation.{Relation}
 use Rattle.script.specs.declared.Connective.{Connective}
 use Rattle.script.specs.Syntax.{Expr, const, var, mark, arith, neg, choose, Formula, truth, cmp, not, join}
 use Rattle.script.specs.Words.{expr-words, formula-words}
+use Rattle.theorems.specs.WordsAt.{expression, formula, node-size}
 use Rattle.shortening.specs.Simplify.{shape, truth-shape, Change, Truth-change, Order, arith-change, join-change, arith-changed, join-changed, arith-node, join-node, not-node, shorten, shortenᶠ}
 use Rattle.shortening.specs.Simplify as Simplify
 
@@ -41,21 +42,11 @@ choose-size f a b =
     let all = length-append (formula-words f) (expr-words a ++ expr-words b) in
     omega (linear, all, length-append (expr-words a) (expr-words b))
 
-pub some-words : (e : Expr) → 0 < size e
-unfolding expr-words
-some-words (const z) = omega linear
-some-words (var v) = omega linear
-some-words (mark m) = omega linear
-some-words (arith p a b) = omega linear
-some-words (neg a) = omega linear
-some-words (choose f a b) = omega linear
+some-words : (e : Expr) → 0 < size e
+some-words e = node-size (expression e)
 
-pub some-wordsᶠ : (f : Formula) → 0 < sizeᶠ f
-unfolding formula-words
-some-wordsᶠ (truth b) = omega linear
-some-wordsᶠ (cmp r a b) = omega linear
-some-wordsᶠ (not f) = omega linear
-some-wordsᶠ (join c f g) = omega linear
+some-wordsᶠ : (f : Formula) → 0 < sizeᶠ f
+some-wordsᶠ f = node-size (formula f)
 
 -- ---- as it was, or shorter
 

@@ -3,7 +3,7 @@
 -- arithmetic it asks six laws, on the values that its states, constants and results can be (`Laws.Lawful`). Argument:
 -- each rule keeps the value at a node, so the rule picked does; then by induction. Assumes nothing.
 use mathlib.Core.Path.{_≡_, refl, sym, ap, _∙_, subst}
-use mathlib.Core.Bool.{Bool, true, false, cond, _&&_, _||_}
+use mathlib.Core.Bool.{Bool, true, false, cond}
 use mathlib.Core.Bool as Bool
 use lib.IntN.{ℤ, pos}
 use Rattle.script.specs.declared.Operator.{Operator}
@@ -20,18 +20,6 @@ use Rattle.shortening.specs.Laws.{Lawful, State-in, All, whole-law}
 
 -- ---- formulas at a node
 
-and-true : (a : Bool) → a ≡ (a && true)
-and-true true = refl
-and-true false = refl
-
-and-false : (a : Bool) → false ≡ (a && false)
-and-false true = refl
-and-false false = refl
-
-or-true : (a : Bool) → true ≡ (a || true)
-or-true true = refl
-or-true false = refl
-
 module _ (𝔸 : Arithmetic) (s : State) where
   truth-of : (f : Formula) (b : Bool) → f ≡ truth b → holds 𝔸 s f ≡ b
   unfolding holds
@@ -45,10 +33,10 @@ module _ (𝔸 : Arithmetic) (s : State) where
   join-each And f g = (
     λ h k. rw (truth-of f true (true-is f h)),
     (
-      λ h k. rw (truth-of g true (true-is g k)) (and-true (holds 𝔸 s f)),
+      λ h k. rw (truth-of g true (true-is g k)) (sym (Bool.and-true (holds 𝔸 s f))),
       (
         λ h k. rw (truth-of f false (false-is f h)),
-        (λ h k. rw (truth-of g false (false-is g k)) (and-false (holds 𝔸 s f)), tt),
+        (λ h k. rw (truth-of g false (false-is g k)) (sym (Bool.and-false (holds 𝔸 s f))), tt),
       ),
     ),
   )
@@ -57,7 +45,7 @@ module _ (𝔸 : Arithmetic) (s : State) where
     λ h k. rw (truth-of f true (true-is f h)),
     (
       λ h k. rw (truth-of f false (false-is f h)),
-      (λ h k. rw (truth-of g true (true-is g k)) (or-true (Bool.not (holds 𝔸 s f))), tt),
+      (λ h k. rw (truth-of g true (true-is g k)) (sym (Bool.or-true (Bool.not (holds 𝔸 s f)))), tt),
     ),
   )
 

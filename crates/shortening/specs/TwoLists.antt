@@ -3,15 +3,15 @@
 -- left (`own-written`); its refusals (`old-refused`, `new-refused`). Assumes nothing.
 use Prim.Native.Nat.{ℕ, zero, suc, _-_}
 use mathlib.Core.Path.{_≡_, refl, sym, ap, _∙_}
-use mathlib.Core.Logic.{_≢_, ⊎-elim}
+use mathlib.Core.Logic.{⊎-elim}
 use mathlib.Core.Option.{some}
 use mathlib.Core.List.{List, [], _∷_}
 use mathlib.Core.Bool.{Bool, true, false, cond}
 use native.Mathlib.Omega.{arith as linear}
 use lib.IntN.{ℤ, pos}
-use lib.Dec.{eqb, ltb}
+use lib.Dec.{ltb}
 use lib.ListN.{length, take, getElem?}
-use borrow.Author.Tests.{eqb-true, ltb-false}
+use borrow.Author.Tests.{ltb-false}
 use Rattle.script.specs.declared.Line.{Line}
 use Rattle.script.specs.Conditions.{Condition}
 use Rattle.script.specs.Words.{formula-words, all-lines, list-words}
@@ -23,28 +23,11 @@ use Rattle.theorems.specs.ReadBack.{read-written}
 use Rattle.theorems.specs.Lookup.{line-at-index, part-at-index}
 use Rattle.shortening.specs.Simplify.{Order, shortenᶠ, shorten-condition, shorten-all}
 use Rattle.shortening.specs.Never.{sizeᶠ, as-it-wasᶠ}
-use Rattle.shortening.specs.Shortened.{old, new, no-part, part, shorter, part-words, written, used-words}
+use Rattle.shortening.specs.Shortened.{old, new, part, shorter, part-words, written, used-words}
 use Rattle.shortening.specs.Lists.{well-formed-shortened}
 use Rattle.shortening.specs.Answers.{new-list}
 
--- ---- refusals
-
-ne-test : (n : ℕ) → n ≢ 0 → eqb n 0 ≡ false
-ne-test n h = of-test (eqb n 0) refl
-  where
-    of-test : (b : Bool) → eqb n 0 ≡ b → b ≡ false
-    of-test true e = absurd (h (eqb-true n 0 e))
-    of-test false e = refl
-
 module _ (us vs : List ℤ) (i : ℤ) where
-  pub old-refused : line-at us i .number ≢ 0 → shorter us vs i ≡ no-part (line-at us i .number)
-  unfolding shorter
-  old-refused h = rw (ne-test (line-at us i .number) h)
-
-  pub new-refused : line-at us i .number ≡ 0 → line-at vs i .number ≢ 0 → shorter us vs i ≡ no-part (line-at vs i .number)
-  unfolding shorter
-  new-refused e h = rw (e, ne-test (line-at vs i .number) h)
-
   -- ---- found in both
 
   found-in-both : line-at us i .number ≡ 0 → line-at vs i .number ≡ 0

@@ -3,24 +3,23 @@
 -- wrong turn is a change of one of them (`Wrong`, `WrongAnswers`), and is told from the pass defined by another answer at
 -- one list and room (`all-told`). Assumes nothing.
 use Prim.Native.Nat.{ℕ}
-use mathlib.Core.Path.{_≡_, refl, sym, ap, subst}
+use mathlib.Core.Path.{_≡_, refl, sym, ap}
 use mathlib.Core.Logic.{_≢_}
 use mathlib.Core.Option.{Option, none, some}
 use mathlib.Core.List.{List, [], _∷_, _++_}
-use mathlib.Core.Bool.{Bool, true, false, _&&_}
+use mathlib.Core.Bool.{Bool, true, _&&_}
 use mathlib.Core.Bool as Bool
-use lib.IntN.{ℤ, pos, negsuc}
+use lib.IntN.{ℤ, pos}
 use lib.Dec.{T}
 use lib.ListN.{length}
-use borrow.Author.Tests.{eq-eqb}
 use Rattle.script.specs.declared.Operator.{Operator}
 use Rattle.script.specs.declared.Connective.{Connective}
 use Rattle.script.specs.Syntax.{Expr, const, var, mark, arith, neg, choose, Formula, truth, cmp, not, join}
-use Rattle.script.specs.Meaning.{eqZ}
 use Rattle.script.specs.Conditions.{Condition, condition}
 use Rattle.script.specs.Words.{formula-words, trailer, line-words, all-lines, list-words}
 use Rattle.script.specs.Listing.{_>>=_, read-list}
 use Rattle.theorems.specs.Truths.{both}
+use Rattle.theorems.specs.Differ.{other, told}
 use Rattle.shortening.specs.Simplify.{Rule, pick, Change, Truth-change, shape, truth-shape, order, arith-rules, join-rules, arith-changed, join-changed, arith-node, join-node, not-node, shorten, shortenᶠ, shorten-all}
 use Rattle.shortening.specs.Simplify as Simplify
 use Rattle.shortening.specs.Shortened.{Written, refuse, fit, written-for, written}
@@ -139,31 +138,6 @@ right-pass ws room = of-list (read-list ws)
         ≡ written-for order l room
     of-list none = refl
     of-list (some cs) = ap (λ us. fit us room) (right-list cs)
-
--- ---- told apart by computing
-
-abbrev same : List ℤ → List ℤ → Bool
-same [] [] = true
-same [] (y ∷ ys) = false
-same (x ∷ xs) [] = false
-same (x ∷ xs) (y ∷ ys) = eqZ x y && same xs ys
-
-same-itself : (xs : List ℤ) → T (same xs xs)
-same-itself [] = tt
-same-itself (pos a ∷ xs) = rw (eq-eqb a a refl) (same-itself xs)
-same-itself (negsuc a ∷ xs) = rw (eq-eqb a a refl) (same-itself xs)
-
--- what is told of an answer, as words
-module _ {A : Type 0} (words : A → List ℤ) where
-  abbrev pub other : A → A → Bool
-  other a b = Bool.not (same (words a) (words b))
-
-  pub told : (a b : A) → T (other a b) → a ≢ b
-  told a b h e = denied (same (words a) (words a)) (same-itself (words a)) (subst (λ (x : A). T (other a x)) (sym e) h)
-    where
-      denied : (b : Bool) → T b → T (Bool.not b) → ⊥
-      denied true x y = y
-      denied false x y = x
 
 -- ---- a wrong turn, with a list and a room
 

@@ -11,8 +11,8 @@ use Rattle.script.specs.Computed.{numbers}
 use Rattle.script.specs.Rows.{row-of}
 use Rattle.script.specs.Listing.{read-expr-within, read-formula-within, spelled-within, found-within, line-before-within, lines-before-within, lines-within, line-at, line-at-within}
 use Rattle.theorems.specs.Truths.{both}
+use Rattle.theorems.specs.Differ.{other, told}
 use Rattle.shortening.specs.Shortened.{Which, old, new, Part, no-part, part, part-for, shorter}
-use Rattle.shortening.specs.Variants.{other, told}
 use Rattle.shortening.specs.ListFigures.{padded, plain, three, three-short}
 
 abbrev Entry : Type 0

@@ -70,6 +70,7 @@ pub mod StoredTables
 pub mod StoredLists
 -- ---- wrong answers: bodies, readers, rules, reads
 
+pub mod Differ
 pub mod Bodies
 pub mod Attempts
 pub mod ReaderAttempts

@@ -1,7 +1,8 @@
 -- What is answered at an index, and to the reader that walks back.
 -- In a well-formed list each condition is found again at its index (`line-at-index`), with its formula as the part where it
 -- stands (`part-at-index`); other indices give 21, and torn words give 20. Walking back gives the lines from the last to
--- the first, then 21 (`walk-back-list`); on a torn list every step gives 20. Assumes nothing.
+-- the first, then 21 (`walk-back-list`); on a torn list every step gives 20. The count is that of the conditions (`count-written`).
+-- Assumes nothing.
 use Prim.Native.Nat.{ℕ, zero, suc, _+_, _-_, _≤_, _<_}
 use mathlib.Core.Path.{_≡_, refl, sym, ap, _∙_, subst}
 use mathlib.Core.Option.{none, some}
@@ -15,7 +16,7 @@ use Rattle.script.specs.Conditions.{Condition}
 use Rattle.script.specs.Words.{formula-words, trailer, line-words, all-lines, list-words}
 use Rattle.script.specs.WellFormed.{In-rangeᶠ, All-in-range, Well-formed}
 use Rattle.script.specs.Listing.{Found, line-before, line-before-within, lines-before, lines-before-within, lines, read-list, line-at-within, first-place-within, step-back-within, next-place-within}
-use Rattle.script.specs.Listing.{no-line, line, line-of, line-at, line-at-within, part-at, malformed-place, first-place, first-place-within, step-back, step-back-within, next-place, next-place-within}
+use Rattle.script.specs.Listing.{condition-count, condition-count-within, no-line, line, line-of, line-at, line-at-within, part-at, malformed-place, first-place, first-place-within, step-back, step-back-within, next-place, next-place-within}
 use Rattle.theorems.specs.Options.{none-is-not, some-inj, went-on, stopped}
 use Rattle.theorems.specs.Line.{place, slice-part}
 use Rattle.theorems.specs.ReadBack.{places, conditions-of, lines-written, tested}
@@ -165,3 +166,13 @@ walk-back-list ws fs n q =
 pub walk-back-malformed : (ws : List ℤ) (n : ℕ) → lines ws ≡ none → walk-back ws n (first-place ws) ≡ replicate n (no-line 20)
 unfolding first-place-within
 walk-back-malformed ws n q = rw (q, first-place-within) (stays-malformed ws n)
+
+-- ---- the count
+
+pub count-written : (ws : List ℤ) (cs : List Condition) → Well-formed ws cs → condition-count ws ≡ length cs
+unfolding condition-count-within
+count-written ws cs w = rw (lines-written ws cs w, condition-count-within) (as-many 0 cs)
+  where
+    as-many : (s : ℕ) (cs : List Condition) → length (places s cs) ≡ length cs
+    as-many s [] = refl
+    as-many s (c ∷ cs) = ap suc (as-many _ cs)

@@ -20,8 +20,8 @@ use Rattle.script.specs.WellFormed.{Well-formed}
 use Rattle.script.specs.Rows.{row-of}
 use Rattle.script.specs.Listing.{Found, no-line, line, read-expr-within, read-formula-within, spelled-within, found-within, line-before-within, lines-before-within, lines, lines-within, read-list, line-at, line-at-within, part-at, condition-count, condition-count-within, first-place, first-place-within, step-back, step-back-within, next-place, next-place-within}
 use Rattle.script.specs.Computed.{numbers}
-use Rattle.theorems.specs.ReadBack.{tested, written-read, lines-written, places}
-use Rattle.theorems.specs.Lookup.{line-at-index, part-at-index, walk-back, walk-back-list, walk-back-malformed}
+use Rattle.theorems.specs.ReadBack.{tested, written-read}
+use Rattle.theorems.specs.Lookup.{count-written, line-at-index, part-at-index, walk-back, walk-back-list, walk-back-malformed}
 
 -- ---- a list of two conditions, and words that are none
 
@@ -176,12 +176,7 @@ module _ (n : List ℤ → ℕ) (meets : (ws : List ℤ) → n ws ≡ condition-
       by-lines (some fs) q = let short = tested ws fs q .short in omega linear
 
   pub invents-count : (ws : List ℤ) (cs : List Condition) → Well-formed ws cs → n ws ≢ length cs → ⊥
-  unfolding condition-count-within
-  invents-count ws cs w h = h (meets ws ∙ rw (lines-written ws cs w, condition-count-within) (as-many 0 cs))
-    where
-      as-many : (s : ℕ) (cs : List Condition) → length (places s cs) ≡ length cs
-      as-many s [] = refl
-      as-many s (c ∷ cs) = ap suc (as-many _ cs)
+  invents-count ws cs w h = h (meets ws ∙ count-written ws cs w)
 
 -- ---- the reader that walks back: its first place, the answer of a step, the place after it
 

@@ -3,25 +3,24 @@
 -- (`WrongTurns`, `WrongDivisors`; of two fields, where D is asked for at another place), and is told from the list defined by
 -- giving other words for one table (`Other-words`). Assumes nothing.
 use Prim.Native.Nat.{ℕ}
-use mathlib.Core.Path.{_≡_, refl, sym, ap, _∙_, subst}
+use mathlib.Core.Path.{_≡_, refl, ap, _∙_}
 use mathlib.Core.Logic.{_≢_}
-use mathlib.Core.Bool.{Bool, true, false, _&&_}
+use mathlib.Core.Bool.{Bool, true, _&&_}
 use mathlib.Core.Bool as Bool
 use mathlib.Core.Option.{Option}
 use mathlib.Core.List.{List, [], _∷_, _++_}
-use lib.IntN.{ℤ, pos, negsuc}
+use lib.IntN.{ℤ, pos}
 use lib.Dec.{T}
 use lib.ListN.{length}
-use borrow.Author.Tests.{eq-eqb}
 use Rattle.script.specs.declared.Connective.the-variants.{And, Implies}
 use Rattle.script.specs.declared.Rule.the-variants.{Exit, Floor, Step, Main}
 use Rattle.script.specs.declared.Relation.the-variants.{Equal}
 use Rattle.script.specs.Syntax.{Expr, mark, Formula, cmp, not, join, Stmt, skip, assign, seq, branch, loop, assert, Tree}
-use Rattle.script.specs.Meaning.{eqZ}
 use Rattle.script.specs.Conditions.{Condition, condition, _and_, decreased, exit, floor, guard, conditions, walk, wp, subst-formula}
 use Rattle.script.specs.Words.{trailer, line-words, all-lines, list-words, formula-words}
 use Rattle.script.specs.Trees.{tree}
 use Rattle.theorems.specs.Truths.{both}
+use Rattle.theorems.specs.Differ.{other, told}
 use Rattle.theorems.specs.WrongItems.{Items, divisors-by, divisors-byᶠ, right-items, right-divisors, right-divisorsᶠ}
 
 -- ---- the rules, with what a wrong turn changes as fields
@@ -151,31 +150,16 @@ abbrev pub Other-words : List Wrong → Type 0
 Other-words [] = Unit {0}
 Other-words (w ∷ ws) = (list-by (w .rules) (tree (w .table)) ≢ list-words (conditions (tree (w .table)))) × Other-words ws
 
-abbrev same : List ℤ → List ℤ → Bool
-same [] [] = true
-same [] (y ∷ ys) = false
-same (x ∷ xs) [] = false
-same (x ∷ xs) (y ∷ ys) = eqZ x y && same xs ys
-
-same-itself : (xs : List ℤ) → T (same xs xs)
-same-itself [] = tt
-same-itself (pos a ∷ xs) = rw (eq-eqb a a refl) (same-itself xs)
-same-itself (negsuc a ∷ xs) = rw (eq-eqb a a refl) (same-itself xs)
+abbrev as-words : List ℤ → List ℤ
+as-words l = l
 
 -- tested, for all of them
 abbrev pub differ : List Wrong → Bool
 differ [] = true
-differ (w ∷ ws) = Bool.not (same (list-by (w .rules) (tree (w .table))) (list-words (conditions (tree (w .table))))) && differ ws
-
-told : (xs ys : List ℤ) → T (Bool.not (same xs ys)) → xs ≢ ys
-told xs ys h e = denied (same xs xs) (same-itself xs) (subst (λ (l : List ℤ). T (Bool.not (same xs l))) (sym e) h)
-  where
-    denied : (b : Bool) → T b → T (Bool.not b) → ⊥
-    denied true x y = y
-    denied false x y = x
+differ (w ∷ ws) = other as-words (list-by (w .rules) (tree (w .table))) (list-words (conditions (tree (w .table)))) && differ ws
 
 pub all-told : (ws : List Wrong) → T (differ ws) → Other-words ws
 all-told [] h = tt
 all-told (w ∷ ws) h =
-    let k = both (Bool.not (same (list-by (w .rules) (tree (w .table))) (list-words (conditions (tree (w .table)))))) (differ ws) h in
-    (told _ _ (k .0), all-told ws (k .1))
+    let k = both (other as-words (list-by (w .rules) (tree (w .table))) (list-words (conditions (tree (w .table))))) (differ ws) h in
+    (told as-words _ _ (k .0), all-told ws (k .1))

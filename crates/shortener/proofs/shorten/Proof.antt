@@ -9,7 +9,7 @@ use lib.ListN.{length, length-replicate}
 use Rattle.script.specs.Generated.{zeros}
 use Rattle.theorems.specs.Writing.{wrote-length}
 use Rattle.theorems.specs.Clearing.{all-cleared}
-use Rattle.shortener.specs.Entry.{counted, no-list, no-room, fitting}
+use Rattle.shortener.specs.Whole.{counted, no-list, no-room, fitting}
 use Rattle.shortener.proofs.shorten.Statement.{statement}
 use Rattle.shortener.proofs.shorten.Tie as tie
 

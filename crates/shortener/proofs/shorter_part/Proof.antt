@@ -3,7 +3,7 @@ use mathlib.Core.Path.{_≡_}
 use borrow.Author.Needs.{needs}
 use mir.Facts.{toZ-ofZ}
 use Rattle.script.specs.Listing.{line-at}
-use Rattle.list_reader.proofs.Fitting.{Fits, line-at-fits}
+use Rattle.list_reader.proofs.Fitting.{line-at-fits}
 use Rattle.shortener.specs.Parts.{told-shorter}
 use Rattle.shortener.proofs.shorter_part.Statement.{statement}
 use Rattle.shortener.proofs.shorter_part.Tie as tie

@@ -1,6 +1,6 @@
 -- `shortener::write_long` meets its contract: the runs have room for the list. Assumes nothing.
 use borrow.Author.Needs.{needs}
-use Rattle.shortener.specs.Entry.{roomy, ready, written-short}
+use Rattle.shortener.specs.Whole.{roomy, ready, written-short}
 use Rattle.shortener.proofs.write_long.Statement.{statement}
 use Rattle.shortener.proofs.write_long.Tie as tie
 

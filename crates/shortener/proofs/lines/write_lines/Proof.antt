@@ -7,7 +7,8 @@ use borrow.Author.Needs.{needs}
 use lib.ListN.{getD}
 use Rattle.script.specs.Laws.{back}
 use Rattle.theorems.specs.Writing.{wrote-as, wrote-length}
-use Rattle.shortener.specs.Lines.{Lining, lining, end-read, trailer-inside, begins, trailing, lined, count-inside, all-lined}
+use Rattle.shortener.specs.Lines.{Lining, lining}
+use Rattle.shortener.specs.LineTurns.{end-read, trailer-inside, begins, trailing, lined, count-inside, all-lined}
 use Rattle.shortener.proofs.lines.write_lines.Statement.{statement}
 use Rattle.shortener.proofs.lines.write_lines.Tie as tie
 

@@ -35,10 +35,10 @@ returns-2 c n e =
     let arg = size .before in
     let two = arg .before .before in
     let read = two .before in
-    let k = back (read .before .push-two-arg2 .given) in
-    let r = back (read .push-two-arg3 .given) in
     let past = e (Roomy arg .if1 .left) in
     let m : Start arg .args .past - Start arg .args .start ≡ n = omega (arith, past) in
+    let k = back (read .before .push-two-arg2 .given) in
+    let r = back (read .push-two-arg3 .given) in
     then (wrote-as (λ i. k i ∷ r i ∷ []) (two .push-two .ensures))
     (wrote-as (ap (λ z. z ∷ []) (toZ-ofZ (length-fits arg) ∙ ap pos m)) (size .push .ensures))
 

@@ -1,6 +1,5 @@
 -- `shortener::plan::entry_at` meets its contract. Assumes nothing.
 use borrow.Author.Needs.{needs}
-use borrow.Author.Tests.{ne-eqb}
 use mathlib.Core.Path.{_≡_, sym, ap, _∙_}
 use lib.IntN.{pos}
 use lib.ListN.{getD}
@@ -21,35 +20,40 @@ module _ (c : tie.After-field-number) where
 
 returns : tie.Need-returns
 unfolding entry-of
-returns c = rw (sym (kind (c .before .before)) ∙ c .before .match .keys1, c .number-shape .ensures)
+returns c =
+    let arm = c .before .before in
+    rw (sym (kind (arm .before)) ∙ arm .match .keys1, c .number-entry .ensures, c .before .number-shape .ensures)
 
 returns-2 : tie.Need-returns-2
 unfolding entry-of
-returns-2 c = rw (sym (kind (c .before)) ∙ c .match .keys2)
+returns-2 c = rw (sym (kind (c .before .before)) ∙ c .before .match .keys2, c .number-entry2 .ensures)
 
 returns-3 : tie.Need-returns-3
 unfolding entry-of
-returns-3 c = rw (sym (kind (c .before)) ∙ c .match .keys3)
+returns-3 c = rw (sym (kind (c .before .before)) ∙ c .before .match .keys3, c .number-entry3 .ensures)
 
 returns-4 : tie.Need-returns-4
 unfolding entry-of
-returns-4 c = rw (sym (kind (c .before)) ∙ c .match .keys4)
+returns-4 c = rw (sym (kind (c .before .before)) ∙ c .before .match .keys4, c .truth-entry .ensures)
 
 returns-5 : tie.Need-returns-5
 unfolding entry-of
-returns-5 c = rw (sym (kind (c .before)) ∙ c .match .keys5)
+returns-5 c = rw (sym (kind (c .before .before)) ∙ c .before .match .keys5, c .truth-entry2 .ensures)
 
 returns-6 : tie.Need-returns-6
 unfolding entry-of
-returns-6 c = rw (sym (kind (c .before .before)) ∙ c .before .match .keys6, c .end-at .ensures)
+returns-6 c =
+    let arm = c .before .before in
+    rw (sym (kind (arm .before)) ∙ arm .match .keys6, c .kept-entry .ensures, c .before .end-at .ensures)
 
 returns-7 : tie.Need-returns-7
 unfolding entry-of
 returns-7 c =
-    let chosen = c .before in
+    let end = c .before in
+    let chosen = end .before in
     let formula = chosen .before .before in
     let arm = formula .before .before in
-    rw (sym (kind (arm .before)) ∙ arm .match .keys7, c .end-at4 .ensures, chosen .place2 .ensures, chosen .before .end-at3 .ensures, formula .place .ensures, formula .before .end-at2 .ensures)
+    rw (sym (kind (arm .before)) ∙ arm .match .keys7, c .kept-entry2 .ensures, end .end-at4 .ensures, chosen .place2 .ensures, chosen .before .end-at3 .ensures, formula .place .ensures, formula .before .end-at2 .ensures)
 
 returns-8 : tie.Need-returns-8
 unfolding entry-of
@@ -73,19 +77,16 @@ entry-at-spec =
     (λ c κs. search needs)
     (λ c. search needs)
     (λ c κs. search needs)
-    (λ c. search needs)
-    (λ c. search needs)
-    (λ c. search needs)
-    (λ c. search needs)
-    (λ c. search needs)
-    (λ c. search needs)
-    (λ c. search needs)
-    (λ c. search needs)
-    (λ c. search needs)
-    (λ c. search needs)
-    (λ c. search needs)
+    (λ c κs. search needs)
+    (λ c κs. search needs)
+    (λ c κs. search needs)
+    (λ c κs. search needs)
     (λ c κs. search needs)
     (λ c. search needs)
+    (λ c κs. search needs)
+    (λ c κs. search needs)
+    (λ c. search needs)
+    (λ c κs. search needs)
     (λ c κs. search needs)
     (λ c κs. search needs)
     (λ c κs. search needs)

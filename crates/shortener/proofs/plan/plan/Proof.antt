@@ -1,7 +1,7 @@
 -- `shortener::plan::plan` meets its contract: the entries from the place on are known. Assumes nothing.
 use native.Mathlib.Omega.{arith}
 use borrow.Author.Needs.{needs}
-use Rattle.shortener.specs.Known.{Back-to, back-none, back-one, planned}
+use Rattle.shortener.specs.Planning.{Back-to, back-none, back-one, planned}
 use Rattle.shortener.proofs.plan.plan.Statement.{statement}
 use Rattle.shortener.proofs.plan.plan.Tie as tie
 

@@ -11,10 +11,20 @@ returns-2 : tie.Need-returns-2
 returns-2 c = rw (is-not (c .before .before .args .x) 2 (omega arith) (c .before .if1 .left), c .if2 .taken)
 
 returns-3 : tie.Need-returns-3
-returns-3 c = rw (is-not (c .before .before .before .args .x) 2 (omega arith) (c .before .before .if1 .left), is-not (c .before .before .before .args .x) 3 (omega arith) (c .before .if2 .left), c .if3 .taken)
+returns-3 c =
+    let second = c .before in
+    let first = second .before in
+    let a = first .before .args in
+    rw (is-not (a .x) 2 (omega arith) (first .if1 .left), is-not (a .x) 3 (omega arith) (second .if2 .left), c .if3 .taken)
 
 returns-4 : tie.Need-returns-4
-returns-4 c = rw (is-not (c .before .before .before .args .x) 2 (omega arith) (c .before .before .if1 .left), is-not (c .before .before .before .args .x) 3 (omega arith) (c .before .if2 .left), is-not (c .before .before .before .args .y) 2 (omega arith) (c .if3 .left))
+returns-4 c =
+    let second = c .before in
+    let first = second .before in
+    let a = first .before .args in
+    let true-first = is-not (a .x) 2 (omega arith) (first .if1 .left) in
+    let false-first = is-not (a .x) 3 (omega arith) (second .if2 .left) in
+    rw (true-first, false-first, is-not (a .y) 2 (omega arith) (c .if3 .left))
 
 pub implies-change-spec : {M : Type 1} → statement M
 implies-change-spec = tie.close (tie.spec returns returns-2 returns-3 returns-4)

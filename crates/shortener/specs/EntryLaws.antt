@@ -1,8 +1,7 @@
--- The entries of nodes: of each node that stands in some words, where it ends, its shape when it is shortened, and what it
--- becomes (`Known`); and that an entry is right where those of the words after it are (`entered`). Assumes nothing.
-use Prim.Native.Nat.{ℕ, suc, _+_, _≤_, _<_}
+-- That the entry of a word is right for whatever node stands there, where those of the words after it are (`entered`). Assumes nothing.
+use Prim.Native.Nat.{ℕ, suc, _+_, _<_}
 use mathlib.Core.Path.{_≡_, refl, sym, ap, _∙_, subst}
-use mathlib.Core.Bool.{Bool, true, false}
+use mathlib.Core.Bool.{true, false}
 use mathlib.Core.List.{List, [], _∷_, _++_, append-nil}
 use native.Mathlib.Omega.{arith as linear}
 use lib.IntN.{ℤ, pos}
@@ -17,49 +16,11 @@ use Rattle.script.specs.Syntax.{Expr, const, var, mark, arith, neg, choose, For
 use Rattle.script.specs.Rows.{field-number}
 use Rattle.script.specs.Words.{expr-words, formula-words, op-word, rel-word, conn-word}
 use Rattle.theorems.specs.WordsAt.{Stands, stands-as, front, behind, word, past, Node, expression, formula, words-of, size}
-use Rattle.shortening.specs.Simplify.{Shape, other, number-shape, shape, truth-shape, shape-number, Change, Truth-change, order, arith-change, join-change, shorten, shortenᶠ}
-use Rattle.shortening.specs.Shapes.{not-change, changed-shape, truth-changed-shape, arith-shape, join-shape, not-shape}
-use Rattle.shortener.specs.declared.plan.Entry.{Entry}
+use Rattle.shortening.specs.Simplify.{Shape, other, number-shape, shape, truth-shape, shape-number, order, arith-change, join-change, shorten, shortenᶠ}
+use Rattle.shortening.specs.Shapes.{not-change, arith-shape, join-shape, not-shape}
 use Rattle.shortener.specs.Codes.{shaped, shaped-number, change-code, truth-change-code, pair-code, not-code, changed-shape-code, changed-shape-is, truth-changed-shape-is}
 use Rattle.shortener.specs.Entries.{entry, entry-of, entry-at, pair-entry, not-entry}
-
--- ---- what becomes of a node
-
-abbrev pub node-shape : Node → Shape
-node-shape (expression e) = shape (shorten order e)
-node-shape (formula f) = truth-shape (shortenᶠ order f)
-
-abbrev pub arith-step : Operator → Expr → Expr → Change
-arith-step p a b = arith-change order p (shape (shorten order a)) (shape (shorten order b))
-
-abbrev pub join-step : Connective → Formula → Formula → Truth-change
-join-step c f g = join-change c (truth-shape (shortenᶠ order f)) (truth-shape (shortenᶠ order g))
-
-abbrev pub not-step : Formula → Truth-change
-not-step f = not-change (truth-shape (shortenᶠ order f))
-
-abbrev pub node-change : Node → ℕ
-node-change (expression (const z)) = 1
-node-change (expression (var v)) = 1
-node-change (expression (mark m)) = 1
-node-change (expression (arith p a b)) = change-code (arith-step p a b)
-node-change (expression (neg a)) = 0
-node-change (expression (choose f a b)) = 0
-node-change (formula (truth b)) = 0
-node-change (formula (cmp r a b)) = 0
-node-change (formula (not f)) = truth-change-code (not-step f)
-node-change (formula (join c f g)) = truth-change-code (join-step c f g)
-
--- ---- right entries
-
-pub record Right (at : ℕ) (x : Node) (e : Entry) : Type 0 where
-  pub end : e .end ≡ at + size x
-  pub shape : e .shape ≡ shape-number (node-shape x)
-  pub change : e .change ≡ node-change x
-
--- of all nodes that stand at a place or after it
-pub record Known (ws : List ℤ) (es ss ks : List ℕ) (from : ℕ) : Type 0 where
-  pub right : (at : ℕ) (x : Node) → from ≤ at → Stands ws at (words-of x) → Right at x (entry (getD es at 0) (getD ss at 0) (getD ks at 0))
+use Rattle.shortener.specs.NodeEntries.{node-shape, arith-step, join-step, not-step, node-change, Right, Known}
 
 -- ---- the entry of a node, from those of its parts
 

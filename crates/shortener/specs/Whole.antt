@@ -1,8 +1,8 @@
 -- The entry for the pass: what is written for a list (`Written-short`), and so what is answered. Assumes nothing.
-use Prim.Native.Nat.{ℕ, zero, suc, _+_, _-_, _≤_, _<_}
-use mathlib.Core.Path.{_≡_, refl, sym, ap, _∙_}
+use Prim.Native.Nat.{ℕ, _≤_, _<_}
+use mathlib.Core.Path.{_≡_, refl, sym, _∙_}
 use mathlib.Core.Option.{Option, none, some}
-use mathlib.Core.List.{List, _++_}
+use mathlib.Core.List.{List}
 use native.Mathlib.Omega.{arith as linear}
 use lib.IntN.{ℤ, pos}
 use lib.ListN.{length, length-map, length-replicate, replicate}
@@ -11,18 +11,16 @@ use Rattle.script.specs.Words.{list-words}
 use Rattle.script.specs.Generated.{zeros}
 use Rattle.script.specs.Listing.{Found, lines, read-list, condition-count, condition-count-within}
 use Rattle.script.specs.WellFormed.{Well-formed}
-use Rattle.theorems.specs.ReadBack.{conditions-of, written-read, read-written}
+use Rattle.theorems.specs.ReadBack.{conditions-of, written-read}
+use Rattle.theorems.specs.Lookup.{count-written}
 use Rattle.theorems.specs.Writing.{Wrote, wrote-short}
 use Rattle.theorems.specs.Clearing.{wrote-cleared}
 use Rattle.shortening.specs.Simplify.{order, shorten-all}
-use Rattle.shortening.specs.Shortened.{Written, refuse, filled, written}
+use Rattle.shortening.specs.Shortened.{Written, written}
 use Rattle.shortening.specs.Answers.{only-answer, torn, too-short, fits}
 use Rattle.shortener.specs.declared.ShortAnswer.{ShortAnswer}
-use Rattle.shortener.specs.Planned.{Known}
-use Rattle.shortener.specs.Known.{Roomy, Planned}
-use Rattle.shortener.specs.Tasks.{Told}
-use Rattle.shortener.specs.Turns.{Ended}
-use Rattle.shortener.specs.Lines.{Listed, Ready, All-written}
+use Rattle.shortener.specs.Planning.{Roomy, Planned}
+use Rattle.shortener.specs.Lines.{Ready, All-written}
 
 -- the conditions that are read, as the pass wrote them
 pub record Written-short (ws l : List ℤ) (p : ℕ) (l′ : List ℤ) : Type 0 where
@@ -49,21 +47,8 @@ counted ws count e h = of-lines (lines ws) refl
       many = length-map fs (λ (f : Found). f .condition) ∙ sym (e ∙ rw (p, condition-count-within));
     }
 
-pub uncounted : (ws : List ℤ) → condition-count ws ≡ 0 → (cs : List Condition) → ¬ Well-formed ws cs
-unfolding condition-count-within read-list
-uncounted ws e cs w = of-lines (lines ws) refl
-  where
-    of-lines : (o : Option (List Found)) → lines ws ≡ o → ⊥
-    of-lines none p =
-        let r : none ≡ some cs = sym (rw (p, read-list)) ∙ read-written ws cs w in
-        let z : _≡_ {A = ℕ} 0 1 = cc in
-        omega linear
-    of-lines (some fs) p =
-        let r : some (conditions-of fs) ≡ some cs = sym (rw (p, read-list)) ∙ read-written ws cs w in
-        let same : conditions-of fs ≡ cs = cc in
-        let n = sym (ap length same) ∙ length-map fs (λ (f : Found). f .condition) in
-        let z : length fs ≡ 0 = sym (rw (p, condition-count-within)) ∙ e in
-        omega (linear, n, z, w .counted)
+uncounted : (ws : List ℤ) → condition-count ws ≡ 0 → (cs : List Condition) → ¬ Well-formed ws cs
+uncounted ws e cs w = absurd (omega (linear, sym (count-written ws cs w) ∙ e, w .counted))
 
 -- ---- what the pass has before it
 

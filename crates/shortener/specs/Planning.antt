@@ -1,7 +1,7 @@
 -- The runs of entries: they have room for all words (`Roomy`), and in the end have the entries of all nodes (`Planned`). One more
 -- entry is put into each, from the last word back (`known-more`). Assumes nothing.
 use Prim.Native.Nat.{ℕ, _+_, _-_, _≤_, _<_}
-use mathlib.Core.Path.{_≡_, refl, sym, ap, _∙_}
+use mathlib.Core.Path.{_≡_, refl, _∙_}
 use mathlib.Core.Bool.{Bool, true, false}
 use mathlib.Core.List.{List}
 use native.Mathlib.Omega.{arith as linear}
@@ -13,7 +13,8 @@ use lib.Seq.{getD-set-same, getD-set-other}
 use Rattle.theorems.specs.WordsAt.{Stands, Node, words-of, node-inside}
 use Rattle.shortener.specs.declared.plan.Entry.{Entry}
 use Rattle.shortener.specs.Entries.{entry, entry-at}
-use Rattle.shortener.specs.Planned.{Right, Known, entered}
+use Rattle.shortener.specs.NodeEntries.{Right, Known}
+use Rattle.shortener.specs.EntryLaws.{entered}
 
 pub record Roomy (ws : List ℤ) (es ss ks : List ℕ) : Type 0 where
   pub short : length ws ≤ 16384
