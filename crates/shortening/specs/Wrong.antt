@@ -1,6 +1,6 @@
 -- Wrong rules of 02, P6: each of its rules lost, rules exchanged or changed, rules that it does not have, and rules that
 -- look at parts as they were; each told from the right ones at one formula (`other-answers`). To look at a rule's result
--- again is no wrong turn, since no rule fits there: `Done.shorten-again`. Assumes nothing.
+-- again is no wrong turn, since no rule fits there: `Done.shorten-doneᶠ`. Assumes nothing.
 use Prim.Native.Nat.{ℕ, zero, suc}
 use mathlib.Core.List.{List, [], _∷_}
 use mathlib.Core.Bool.{Bool, true, false, cond}
@@ -59,7 +59,7 @@ rule-lost p n = of-operator p (without n)
 abbrev pub truth-rule-lost : Connective → ℕ → Pass
 truth-rule-lost c n = of-connective c (without n)
 
--- "not true and not false are exchanged for their values": not the one that has the value b
+-- "not true and not false are exchanged for their values": the rule for not of the value b is lost
 abbrev kept-of : Bool → Formula → Formula
 kept-of true (truth true) = not (truth true)
 kept-of true (truth false) = truth true
