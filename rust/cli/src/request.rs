@@ -55,18 +55,35 @@ pub fn request(arguments: &[OsString]) -> Result<Request<'_>, Misuse> {
     if arguments.iter().any(|one| one == "--help" || one == "-h") {
         return Ok(Request::Help);
     }
-    let (subcommand, rest) = match arguments {
-        [first, rest @ ..] if first == "list" => (Subcommand::List, rest),
-        [first, rest @ ..] if first == "smt" => (Subcommand::Smt, rest),
-        [first, rest @ ..] if first == "prove" => (Subcommand::Prove, rest),
-        _ => (Subcommand::List, arguments),
+    let first = arguments.first().and_then(|first| Subcommand::named(first));
+    let (subcommand, rest) = match first {
+        Some(subcommand) => (subcommand, &arguments[1..]),
+        None => (Subcommand::List, arguments),
     };
-    let misuse = |problem| Misuse {
-        problem,
-        subcommand: (!arguments.is_empty()).then_some(subcommand),
+    let misuse = |problem| match late_subcommand(arguments) {
+        Some(late) => Misuse {
+            problem: format!("`{}` has to stand first", late.name()),
+            subcommand: Some(late),
+        },
+        None => Misuse {
+            problem,
+            subcommand: (!arguments.is_empty()).then_some(subcommand),
+        },
     };
     let given = Given::read(subcommand, rest).map_err(misuse)?;
     given.request(subcommand).map_err(misuse)
+}
+
+/// The subcommand that stands behind options and what follows them.
+fn late_subcommand(arguments: &[OsString]) -> Option<Subcommand> {
+    let mut rest = arguments.iter();
+    let is_option = |argument: &OsString| argument.as_encoded_bytes().starts_with(b"-");
+    let mut late = rest.next().filter(|first| is_option(first))?;
+    while is_option(late) {
+        let is_followed = ["--into", "--timeout"].iter().any(|option| late == option);
+        late = rest.nth(usize::from(is_followed))?;
+    }
+    Subcommand::named(late)
 }
 
 /// Wrong usage.
@@ -98,6 +115,11 @@ enum Subcommand {
 }
 
 impl Subcommand {
+    fn named(argument: &OsStr) -> Option<Subcommand> {
+        let all = [Subcommand::List, Subcommand::Smt, Subcommand::Prove];
+        all.into_iter().find(|one| argument == one.name())
+    }
+
     fn name(self) -> &'static str {
         match self {
             Subcommand::List => "list",
@@ -117,6 +139,11 @@ impl Subcommand {
                 ("--json", None),
             ],
         }
+    }
+
+    fn has_option(self, argument: &OsStr) -> bool {
+        let mut options = self.options().iter();
+        options.any(|(option, _)| argument == *option)
     }
 
     /// What begins with - is an option, but for standard input and for the index
@@ -145,7 +172,8 @@ impl<'a> Given<'a> {
             if let Some((option, follows)) = options.find(|(option, _)| argument == *option) {
                 let follows = follows.map(|name| {
                     let missing = || format!("{name} is missing after {option}");
-                    rest.next().ok_or_else(missing)
+                    let next = rest.next().filter(|next| !subcommand.has_option(next));
+                    next.ok_or_else(missing)
                 });
                 given.add(option, follows.transpose()?)?;
             } else if subcommand.is_operand(argument, given.operands.len()) {
@@ -338,7 +366,11 @@ mod tests {
             ("smt --short a 0", "smt short a at 0"),
             ("smt a 0 --short", "smt short a at 0"),
             ("smt --short --into b a", "smt short a into b"),
-            ("smt --into --short a", "smt a into --short"),
+            (
+                "smt --short --into ./--short a",
+                "smt short a into ./--short",
+            ),
+            ("smt --into --words a", "smt a into --words"),
             ("prove --short a", "prove short a 10s text"),
             ("prove --json a --short", "prove short a 10s json"),
             ("--help", "help"),
@@ -375,6 +407,8 @@ mod tests {
             "smt a 1 2",
             "smt --into b",
             "smt --into b a 1",
+            "smt --into --short a",
+            "smt --into --into a",
             "prove",
             "prove a b",
             "prove --words a",
@@ -442,9 +476,29 @@ mod tests {
             ("smt a 1 2", "smt", "`2` is an argument too many"),
             ("smt --into b a 1", "smt", "`1` is an argument too many"),
             ("smt a --into", "smt", "FOLDER is missing after --into"),
+            (
+                "smt --into --short a",
+                "smt",
+                "FOLDER is missing after --into",
+            ),
+            ("--short prove a", "prove", "`prove` has to stand first"),
+            ("--short smt a 0", "smt", "`smt` has to stand first"),
+            ("--words list a", "list", "`list` has to stand first"),
+            (
+                "--timeout 5 --json prove a",
+                "prove",
+                "`prove` has to stand first",
+            ),
+            ("--word a prove", "list", "`--word` is no option of list"),
+            ("a prove", "list", "`prove` is an argument too many"),
             ("prove --json", "prove", "no file is given"),
             (
                 "prove a --timeout",
+                "prove",
+                "SECONDS is missing after --timeout",
+            ),
+            (
+                "prove --timeout --json a",
                 "prove",
                 "SECONDS is missing after --timeout",
             ),

@@ -131,6 +131,20 @@ fn wrong_usage_builds_nothing() {
             ],
             "--jsn is no option",
         ),
+        (
+            &["smt --into --short a.script", "smt a.script --into --into"],
+            "FOLDER is missing after --into",
+        ),
+        (
+            &["prove --timeout --json a.script"],
+            "SECONDS is missing after --timeout",
+        ),
+        (
+            &["--short prove a.script", "--timeout 5 prove a.script"],
+            "`prove` has to stand first",
+        ),
+        (&["--short smt a.script 5"], "`smt` has to stand first"),
+        (&["--words list a.script"], "`list` has to stand first"),
     ] {
         let error = format!("vcgen: {told}\n{usage}\n./vcgen --help says more\n");
         assert_unbuilt(all_arguments, (Some(2), "", &error));
@@ -224,6 +238,7 @@ fn what_is_built_gets_the_arguments_as_they_are() {
         "smt --short a.script 5",
         "smt --into none a.script",
         "smt --into none --short a.script",
+        "smt --into ./--short a.script",
         "a.script",
     ] {
         let passed: String = arguments
