@@ -524,6 +524,25 @@ fn what_is_false_is_shown_as_it_is_asked_for() {
     assert_eq!(json.number("saved"), "12");
 }
 
+/// A bare `false` tells nothing, and where it is false everywhere, there are no values.
+#[test]
+fn beside_a_bare_false_stands_the_part_of_the_own_condition() {
+    let script = "v0 is x\n\npre true;\nskip;\npost v0 = 5 and false";
+    let short = prove_with(&["--short", "-"], script).timeless();
+    let line = "\nmain 7, line 3: false everywhere (z3 TIME, cvc5 TIME)\n";
+    assert!(short.contains(line), "{short}");
+    let told = "\nFalse there:\n    false\n\
+        False where x = 0 in the script's own condition:\n    \
+        x = 5: 0 on the left, 5 on the right\n";
+    assert!(short.ends_with(told), "{short}");
+    assert!(!short.contains("these values"), "{short}");
+    assert!(short.contains("\nA start with any values meets the precondition, "));
+
+    let (_, own) = proved(script);
+    let told = "\nFalse there:\n    x = 5: 0 on the left, 5 on the right\n";
+    assert!(own.ends_with(told) && own.contains("these values"), "{own}");
+}
+
 /// Shortened, main is `true` and no implication.
 #[test]
 fn a_premise_that_shortening_takes_away_is_asked_about() {

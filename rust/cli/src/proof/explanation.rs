@@ -2,7 +2,18 @@
 
 use leqwarti::ConditionKind;
 
-pub fn of_false(kind: ConditionKind) -> &'static str {
+/// What a condition means that is false with values, or with any where none are
+/// shown.
+pub fn of_false(kind: ConditionKind, has_values: bool) -> String {
+    let meaning = with_values(kind);
+    if has_values {
+        return meaning.to_string();
+    }
+    let meaning = meaning.replace("with these values", "with any values");
+    meaning.replace("exclude these values", "exclude every state")
+}
+
+fn with_values(kind: ConditionKind) -> &'static str {
     match kind {
         ConditionKind::Exit => {
             "As far as the invariant and the guard say, the loop may be left with these values, and what must
@@ -54,3 +65,28 @@ pub const OF_CONTRADICTION: &str = "A solver is wrong here, or the evaluator is,
 said of the script above counts. Try it again with more time. If it stays so, please keep the file
 and the versions of the solvers, and tell the maintainers.
 ";
+
+pub const OF_DIFFERENCE: &str = "A condition and its shortened form have to be true in the same states, and here they are not: the
+evaluator is wrong, or what shortens is. No solver has to do with it. Nothing that is said of the
+script above counts. Please keep the file, and tell the maintainers.
+";
+
+#[cfg(test)]
+mod tests {
+    use super::*;
+
+    #[test]
+    fn without_values_none_are_spoken_of() {
+        for kind in [
+            ConditionKind::Exit,
+            ConditionKind::Floor,
+            ConditionKind::Step,
+            ConditionKind::Guard,
+            ConditionKind::Main,
+        ] {
+            assert!(of_false(kind, true).contains("these values"));
+            let told = of_false(kind, false);
+            assert!(!told.contains("these values") && told.contains("with any values"));
+        }
+    }
+}

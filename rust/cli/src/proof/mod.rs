@@ -45,7 +45,7 @@ pub enum Outcome {
     Proved,
     NotProved,
     /// A solver contradicts another one or the evaluator, or its values were not
-    /// checked.
+    /// checked; or a condition and its shortened form differ.
     Contradicted,
 }
 
@@ -105,14 +105,21 @@ impl Proof {
     }
 
     pub fn outcome(&self) -> Outcome {
-        let contradicts = |finding: &Finding| matches!(finding.verdict, Verdict::Contradiction(_));
-        if self.findings.iter().chain(&self.opposites).any(contradicts) {
+        if self.contradictions().next().is_some() {
             Outcome::Contradicted
         } else if self.unproved().next().is_none() {
             Outcome::Proved
         } else {
             Outcome::NotProved
         }
+    }
+
+    fn contradictions(&self) -> impl Iterator<Item = &Contradiction> {
+        let all = self.findings.iter().chain(&self.opposites);
+        all.filter_map(|finding| match &finding.verdict {
+            Verdict::Contradiction(contradiction) => Some(contradiction),
+            _ => None,
+        })
     }
 
     /// The conditions that are not found true.

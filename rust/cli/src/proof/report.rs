@@ -5,7 +5,7 @@ use std::collections::BTreeSet;
 use evaluator::{Name, State, Whole};
 use leqwarti::Formula;
 
-use super::explanation::{of_false, OF_CONTRADICTION, OF_NO_ANSWER, OF_OPEN};
+use super::explanation::{of_false, OF_CONTRADICTION, OF_DIFFERENCE, OF_NO_ANSWER, OF_OPEN};
 use super::{Contradiction, Finding, Outcome, Premise, Proof, Refutation, Verdict, Wording};
 use crate::solvers::{Replied, Reply};
 use crate::{Shortened, Source};
@@ -20,6 +20,12 @@ pub struct Report<'a> {
 
 const PROVED: &str = "proved: every run from a start that meets the precondition ends, \
     fails no assertion, divides by no zero and meets the postcondition\n";
+
+const CONTRADICTED: &str =
+    "error: a solver contradicts another one or the evaluator, or its values were not checked\n";
+
+const DIFFERENT: &str =
+    "error: a condition and its shortened form are not true in the same states\n";
 
 impl Report<'_> {
     /// In which form what is false is told.
@@ -131,8 +137,10 @@ impl Report<'_> {
         let explain = |finding: &Finding| {
             let (name, row) = (finding.name(), finding.row);
             let (line, said) = (self.source.line(row), self.source.said(row));
-            let meaning = meaning(finding);
-            let meaning = if told.insert(meaning) { meaning } else { "" };
+            let mut meaning = meaning(finding);
+            if !told.insert(meaning.clone()) {
+                meaning.clear();
+            }
             let details = self.details(&finding.verdict);
             format!("\n{name}, line {line}: {said}\n{meaning}{details}")
         };
@@ -144,17 +152,29 @@ impl Report<'_> {
         let Verdict::False(refutation) = verdict else {
             return String::new();
         };
-        let sides = match &refutation.sides {
-            Some(sides) => {
-                let [left, right] = sides.each_ref().map(side_text);
-                format!(": {left} on the left, {right} on the right")
+        let part = self.part_with_sides(refutation);
+        let own = match &refutation.own {
+            Some(own) => {
+                let (place, part) = (self.place(&own.state), self.part_with_sides(own));
+                format!("False {place} in the script's own condition:\n    {part}\n")
             }
             None => String::new(),
         };
-        let part = self.part(refutation);
-        let names = refutation.state.iter().map(|(name, _)| name);
+        let with_most_names = refutation.own.as_deref().unwrap_or(refutation);
+        let names = with_most_names.state.iter().map(|(name, _)| name);
         let marks: String = names.filter_map(|name| self.mark(name)).collect();
-        format!("False there:\n    {part}{sides}\n{marks}")
+        format!("False there:\n    {part}\n{own}{marks}")
+    }
+
+    fn part_with_sides(&self, refutation: &Refutation) -> String {
+        let part = self.part(refutation);
+        match &refutation.sides {
+            Some(sides) => {
+                let [left, right] = sides.each_ref().map(side_text);
+                format!("{part}: {left} on the left, {right} on the right")
+            }
+            None => part,
+        }
     }
 
     pub fn part(&self, refutation: &Refutation) -> String {
@@ -182,8 +202,15 @@ fn sentence(proof: &Proof) -> String {
             format!("not proved: {}\n", unproved.join(", "))
         }
         Outcome::Contradicted => {
-            "error: a solver contradicts another one or the evaluator, or its values were not checked\n"
-                .to_string()
+            let (of_forms, of_solvers): (Vec<_>, Vec<_>) =
+                proof.contradictions().partition(|one| one.is_of_forms());
+            let solvers = if of_solvers.is_empty() {
+                ""
+            } else {
+                CONTRADICTED
+            };
+            let forms = if of_forms.is_empty() { "" } else { DIFFERENT };
+            format!("{solvers}{forms}")
         }
     }
 }
@@ -206,14 +233,19 @@ fn side_text(side: &Whole) -> String {
     }
 }
 
-fn meaning(finding: &Finding) -> &'static str {
-    match finding.verdict {
+fn meaning(finding: &Finding) -> String {
+    let meaning = match &finding.verdict {
         Verdict::True => "",
-        Verdict::False(_) => of_false(finding.kind),
+        Verdict::False(refutation) => {
+            let has_values = refutation.state.iter().next().is_some();
+            return of_false(finding.kind, has_values);
+        }
         Verdict::Open if finding.replies.iter().any(is_undecided) => OF_OPEN,
         Verdict::Open => OF_NO_ANSWER,
+        Verdict::Contradiction(contradiction) if contradiction.is_of_forms() => OF_DIFFERENCE,
         Verdict::Contradiction(_) => OF_CONTRADICTION,
-    }
+    };
+    meaning.to_string()
 }
 
 fn is_undecided(replied: &Replied) -> bool {
@@ -243,5 +275,63 @@ fn reply_text(replied: &Replied) -> String {
         Reply::Undecided => format!("{solver} undecided after {seconds:.2} s"),
         Reply::Failed(problem) => format!("{solver} failed: {problem}"),
         Reply::NotAsked(reason) => format!("{solver} not asked: {reason}"),
+    }
+}
+
+#[cfg(test)]
+mod tests {
+    use super::*;
+    use leqwarti::ConditionKind;
+
+    /// What is told of these contradictions, the last one of a premise's opposite.
+    fn conclusion(contradictions: [Contradiction; 2]) -> String {
+        let source = Source::read(b"pre true; skip; post true").unwrap();
+        let [findings, opposites] = contradictions.map(|contradiction| {
+            vec![Finding {
+                kind: ConditionKind::Main,
+                row: 3,
+                verdict: Verdict::Contradiction(contradiction),
+                replies: Vec::new(),
+            }]
+        });
+        let report = Report {
+            source: &source,
+            shortened: None,
+        };
+        report.conclusion(&Proof {
+            findings,
+            opposites,
+        })
+    }
+
+    /// No solver is blamed for a shortened form that differs.
+    #[test]
+    fn a_form_that_differs_has_words_of_its_own() {
+        let of_forms = || Contradiction::ShortDiffers {
+            own: true,
+            state: State::default(),
+        };
+        let of_solver = || Contradiction::NoValues { solver: "z3" };
+        for (contradictions, sentences, meaning) in [
+            (
+                [of_forms(), of_forms()],
+                DIFFERENT.to_string(),
+                OF_DIFFERENCE,
+            ),
+            (
+                [of_solver(), of_solver()],
+                CONTRADICTED.to_string(),
+                OF_CONTRADICTION,
+            ),
+            (
+                [of_forms(), of_solver()],
+                format!("{CONTRADICTED}{DIFFERENT}"),
+                OF_DIFFERENCE,
+            ),
+        ] {
+            let told = conclusion(contradictions);
+            let end = format!("\n{sentences}\nmain 3, line 1: pre true\n{meaning}");
+            assert!(told.ends_with(&end), "{told}");
+        }
     }
 }

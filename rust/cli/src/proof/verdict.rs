@@ -2,7 +2,7 @@
 
 use std::collections::BTreeMap;
 
-use evaluator::{FalsePart, Name, State, Whole};
+use evaluator::{Evaluator, FalsePart, Name, State, Whole};
 
 use super::query::{Evaluators, Wording};
 use crate::solvers::{Replied, Reply};
@@ -23,6 +23,9 @@ pub struct Refutation {
     pub part: Vec<i32>,
     /// The values of the part's sides, where it compares.
     pub sides: Option<[Whole; 2]>,
+    /// Where the part is the `false` that shortening has left: what is false of the
+    /// script's own condition, if that is another part.
+    pub own: Option<Box<Refutation>>,
 }
 
 /// Why what is found is not believed.
@@ -38,6 +41,13 @@ pub enum Contradiction {
     FalseSomewhere { solver: &'static str, state: State },
     /// The condition is so in a state, and shortened it is not.
     ShortDiffers { own: bool, state: State },
+}
+
+impl Contradiction {
+    /// Whether it is one of a condition and its shortened form.
+    pub fn is_of_forms(&self) -> bool {
+        matches!(self, Contradiction::ShortDiffers { .. })
+    }
 }
 
 impl Verdict {
@@ -86,6 +96,12 @@ impl Evaluators<'_> {
             _ => Ok(own),
         }
     }
+
+    /// A state with a value for each name of the script's own condition.
+    fn own_state(&self, state: &State) -> State {
+        let names = self.own.names().into_iter();
+        names.map(|name| (name, state.get(name).clone())).collect()
+    }
 }
 
 impl Refutation {
@@ -101,14 +117,34 @@ impl Refutation {
         let Some(state) = simplified.min_by_key(State::distance) else {
             return Ok(None);
         };
-        condition.truth(&state)?;
-        let part = told.false_part(&state);
-        Ok(part.map(|FalsePart { formula, sides }| {
-            let part = formula.words().to_vec();
-            Refutation { state, part, sides }
-        }))
+        let own_truth = condition.truth(&state)?;
+        let mut refutation = Refutation::of(told, state);
+        if let (Some(told), Wording::Short, Some(false)) = (&mut refutation, wording, own_truth) {
+            if told.part == FALSE {
+                told.own = Refutation::of(&condition.own, condition.own_state(&told.state))
+                    .filter(|own| own.part != FALSE)
+                    .map(Box::new);
+            }
+        }
+        Ok(refutation)
+    }
+
+    /// Nothing where the condition is true.
+    fn of(condition: &Evaluator, state: State) -> Option<Refutation> {
+        let FalsePart { formula, sides } = condition.false_part(&state)?;
+        let part = formula.words().to_vec();
+        let own = None;
+        Some(Refutation {
+            state,
+            part,
+            sides,
+            own,
+        })
     }
 }
+
+/// The words of `false`.
+const FALSE: [i32; 1] = [17];
 
 /// The states that solvers give, if the condition is false in all of them.
 fn refuting(condition: &Evaluators, replies: &[Replied]) -> Result<Vec<State>, Contradiction> {
@@ -155,7 +191,6 @@ fn name(constant: &str) -> Option<Name> {
 #[cfg(test)]
 mod tests {
     use super::*;
-    use evaluator::Evaluator;
     use leqwarti::Formula;
     use std::time::Duration;
 
@@ -333,6 +368,26 @@ mod tests {
             (short.sides, values([12_345_679, 5]))
         );
         assert_eq!(own.state.iter().count(), 3);
+    }
+
+    /// `v1 = 5 and false` and `false and v1 = 5`, which are both `false` when shortened.
+    #[test]
+    fn beside_a_short_false_stands_the_part_of_its_own() {
+        let [own_part, other] = [&[20, 2, 1, 1, 5][..], &[17]];
+        let told = |wording, sides: [&[i32]; 2]| {
+            let own = [&[23], sides[0], sides[1]].concat();
+            match verdict_in(wording, &own, Some(&[17]), [sat(&[])]) {
+                Verdict::False(refutation) => refutation,
+                verdict => panic!("{verdict:?}"),
+            }
+        };
+        let short = told(Wording::Short, [own_part, other]);
+        assert_eq!((&short.part[..], short.state.iter().count()), (other, 0));
+        let own = short.own.unwrap();
+        assert_eq!(own.part, own_part);
+        assert_eq!(own.sides, Some([0, 5].map(Whole::from)));
+        assert_eq!(*own, told(Wording::Own, [own_part, other]));
+        assert_eq!(told(Wording::Short, [other, own_part]).own, None);
     }
 
     /// Whoever is wrong, what is said of the condition does not count.
