@@ -59,8 +59,8 @@ impl Answer {
     pub fn words(&self) -> String {
         let mut text = self.first_line();
         if let Some(shortened) = self.shortening() {
-            let words = shortened.new.words().len();
-            text += &format!("shortened {words} {}\n", shortened.saved());
+            let (words, saved) = (shortened.words(), shortened.saved());
+            text += &format!("shortened {words} {saved}\n");
         }
         for condition in self.plan().into_iter().flatten() {
             text += &condition.kind.with_row(condition.row);

@@ -18,9 +18,14 @@ impl Shortened {
         Shortened { old, new }
     }
 
-    /// How many words the new list has less.
+    /// How many words the new list has.
+    pub fn words(&self) -> usize {
+        self.new.words().len()
+    }
+
+    /// How many words it has less than the old one.
     pub fn saved(&self) -> usize {
-        self.old.words().len() - self.new.words().len()
+        self.old.words().len() - self.words()
     }
 
     /// The shorter of both formulas at an index, the old one where it is as short.
@@ -34,8 +39,10 @@ impl Shortened {
 /// What is saved, in words.
 impl Display for Shortened {
     fn fmt(&self, f: &mut fmt::Formatter) -> fmt::Result {
-        let (words, saved) = (self.new.words().len(), self.saved());
-        write!(f, "shortened to {words} words, {saved} saved")
+        match (self.words(), self.saved()) {
+            (_, 0) => f.write_str("nothing to shorten"),
+            (words, saved) => write!(f, "shortened to {words} words, {saved} saved"),
+        }
     }
 }
 
@@ -55,5 +62,8 @@ mod tests {
         assert_eq!(shorter, ["(-(v0)) < 5", "v0 < 5"]);
         assert_eq!(shortened.saved(), 4);
         assert_eq!(shortened.to_string(), "shortened to 18 words, 4 saved");
+        let again = Shortened::of(shortened.new);
+        assert_eq!((again.words(), again.saved()), (18, 0));
+        assert_eq!(again.to_string(), "nothing to shorten");
     }
 }

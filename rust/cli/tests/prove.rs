@@ -655,13 +655,17 @@ fn with_short_the_object_has_what_is_saved() {
         match json.text("verdict") {
             "refused" => assert_eq!(json, own),
             _ => {
-                let names = ["verdict", "conditions", "warnings", "saved"];
+                let names = ["verdict", "conditions", "warnings", "words", "saved"];
                 assert_eq!(
                     (json.names(), own.names()),
                     (names.to_vec(), names[..3].to_vec())
                 );
-                let saved = if file.starts_with("oil") { "104" } else { "0" };
-                assert_eq!(json.number("saved"), saved);
+                let told = ["words", "saved"].map(|name| json.number(name));
+                let wanted = match file {
+                    "oil-bill.script" => ["176", "104"],
+                    _ => ["94", "0"],
+                };
+                assert_eq!(told, wanted);
             }
         }
     }
@@ -794,7 +798,8 @@ fn the_help_names_what_the_object_has() {
         let (_, json) = json_of(&[&timeout[..], &[path.to_str().unwrap()]].concat(), "");
         names_and_words(&json, &mut found);
     }
-    assert!(found.len() >= 26 && found.contains("saved"), "{found:?}");
+    assert!(found.len() >= 27, "{found:?}");
+    assert!(["words", "saved"].iter().all(|name| found.contains(*name)));
     let mut paragraphs = cli::HELP.split("\n\n");
     let object = paragraphs.find(|one| one.starts_with("--json prints one object"));
     let help = words_apart(object.unwrap());

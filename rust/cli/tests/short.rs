@@ -117,7 +117,10 @@ fn what_is_saved_is_told() {
         assert_eq!(short.head, head, "{}", file.display());
 
         let listed = printed(&["--short"], &file);
-        let told = format!("shortened to {new_length} words, {saved} saved");
+        let told = match saved {
+            0 => "nothing to shorten".to_string(),
+            _ => format!("shortened to {new_length} words, {saved} saved"),
+        };
         let head = format!("{planned}\n{told}\n\n");
         assert!(listed.starts_with(&head), "{}", file.display());
         let smt = printed(&["smt", "--short"], &file);

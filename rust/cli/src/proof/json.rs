@@ -23,7 +23,9 @@ impl Report<'_> {
             ("warnings", Json::list(warnings)),
         ]);
         match self.shortened {
-            Some(shortened) => json.with("saved", Json::number(shortened.saved())),
+            Some(shortened) => json
+                .with("words", Json::number(shortened.words()))
+                .with("saved", Json::number(shortened.saved())),
             None => json,
         }
     }

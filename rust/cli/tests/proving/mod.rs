@@ -82,7 +82,8 @@ impl Run {
     /// The line before them, with `--short`.
     pub fn saved(&self) -> Option<&str> {
         let first_line = self.out.lines().next()?;
-        first_line.starts_with("shortened ").then_some(first_line)
+        let is_told = first_line.starts_with("shortened ") || first_line == "nothing to shorten";
+        is_told.then_some(first_line)
     }
 
     /// What stands behind the lines.
