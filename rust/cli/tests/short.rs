@@ -104,6 +104,20 @@ fn the_readme_shows_short_conditions_as_they_are() {
     assert!(readme.contains(&format!("\n\n{shown}\n")), "{shown}");
 }
 
+/// What it says of six branches that are switched off.
+#[test]
+fn the_readme_tells_what_is_saved_of_branches() {
+    let branches = "if false then v0 := v0 + 1 else skip end; ".repeat(6);
+    let script = format!("pre 0 <= v0; {branches}post 0 <= v0");
+    let bytes = |arguments: &[&str]| {
+        let output = vcgen(&[&["smt"], arguments, &["-", "0"]].concat(), &script);
+        written(&output).1.len()
+    };
+    assert_eq!([bytes(&["--short"]), bytes(&[])], [94, 4_018]);
+    let readme = text(&top().join("README.md"));
+    assert!(readme.contains("have 94 in place of 4,018"));
+}
+
 #[test]
 fn what_is_saved_is_told() {
     let mut shortened = 0;

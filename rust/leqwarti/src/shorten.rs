@@ -3,10 +3,17 @@
 use crate::entries;
 use crate::{Refusal, LONGEST_LIST};
 
-/// A finished list with each condition shortened: what is added or subtracted
-/// as 0, multiplied by 1, or joined as true or false falls away, the parts of a
-/// formula first. A new condition holds in the same states as its old one, and
-/// is never longer; kinds, rows and order stay.
+/// A finished list with each condition shortened, parts first and then by the first
+/// rule that fits, one at most at each node: 0 - E becomes -E; E - 0, E + 0, 0 + E,
+/// E * 1 and 1 * E become E; true and F, and F and true become F; false and F, and
+/// F and false become false; true implies F becomes F; false implies F, and
+/// F implies true become true; not true becomes false, and not false true. All else
+/// stays, as `or`, F implies false, 0 * E and not not F do, and 0 - 0 becomes -0. A
+/// new condition holds in the same states as its old one, and is never longer; kinds,
+/// rows and order stay.
+///
+/// It refuses with [`TornList`](crate::Reason::TornList) alone, lists of more than
+/// [`LONGEST_LIST`] words too.
 ///
 /// ```
 /// use leqwarti::Reason;
@@ -27,7 +34,11 @@ pub fn shorten(words: &[i32]) -> Result<Vec<i32>, Refusal> {
 
 /// The shorter of the conditions at an index of two lists, as a part of the list
 /// that it stands in; the old one if both are as long. The lists need not belong
-/// together. What is wrong with the old one is told first.
+/// together.
+///
+/// It refuses with [`TornList`](crate::Reason::TornList), then with
+/// [`NoSuchLine`](crate::Reason::NoSuchLine), for the old list, and only then for the
+/// new one: a torn new list is `NoSuchLine` where the old one has no such index.
 ///
 /// ```
 /// use leqwarti::Reason;
@@ -39,6 +50,7 @@ pub fn shorten(words: &[i32]) -> Result<Vec<i32>, Refusal> {
 /// assert_eq!(leqwarti::shorter(&old, &new, 1)?, &old[5..6]);
 /// assert_eq!(leqwarti::shorter(&old, &new, 2).unwrap_err().reason, Reason::NoSuchLine);
 /// assert_eq!(leqwarti::shorter(&old, &new[1..], 0).unwrap_err().reason, Reason::TornList);
+/// assert_eq!(leqwarti::shorter(&old, &new[1..], 2).unwrap_err().reason, Reason::NoSuchLine);
 /// # Ok::<(), leqwarti::Refusal>(())
 /// ```
 pub fn shorter<'a>(old: &'a [i32], new: &'a [i32], index: i32) -> Result<&'a [i32], Refusal> {

@@ -66,9 +66,10 @@ said of the script above counts. Try it again with more time. If it stays so, pl
 and the versions of the solvers, and tell the maintainers.
 ";
 
-pub const OF_DIFFERENCE: &str = "A condition and its shortened form have to be true in the same states, and here they are not: the
-evaluator is wrong, or what shortens is. No solver has to do with it. Nothing that is said of the
-script above counts. Please keep the file, and tell the maintainers.
+pub const OF_DIFFERENCE: &str =
+    "A condition and its shortened form have to be true in the same states, and here they are not:
+the evaluator is wrong, or what shortens is, and no solver has to do with it. Nothing that is said
+of the script above counts. Please keep the file, and tell the maintainers.
 ";
 
 #[cfg(test)]
