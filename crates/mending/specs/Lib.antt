@@ -1,6 +1,49 @@
 -- 02, P7: tables with shared parts, mended. First what is to be believed: the order of the new rows, their words, what the script
--- reaches, and what the mender answers and leaves.
+-- reaches, and what the mender answers and leaves. Then what 13 and 14 say, and what a table has that is not refused; the new
+-- table's rows, links, sorts and marks; that it unfolds to the same script; what the run of old rows and the counts say; tables
+-- that come back the same; the numbers, exactly; laws for the code.
+
+-- ---- what is to be believed
+
 pub mod Copies
 pub mod NewTable
 pub mod Reached
 pub mod Mended
+-- ---- 2 to 5, 13 and 14
+
+pub mod Falling
+pub mod PartFaults
+pub mod Paths
+pub mod Escape
+pub mod Sizes
+pub mod Layout
+pub mod Capped
+pub mod Mendable
+-- ---- the new table passes 1 to 7
+
+pub mod Renew
+pub mod NewRows
+pub mod NewLinks
+pub mod LinkedOnce
+pub mod KeptFields
+pub mod Passing
+-- ---- the same script, marks apart
+
+pub mod Nameless
+pub mod NextCopy
+pub mod Renaming
+pub mod Everywhere
+pub mod RowCases
+pub mod Unfolded
+-- ---- the run of old rows, the order, the counts
+
+pub mod OldRows
+pub mod Order
+pub mod Counts
+pub mod FieldWords
+pub mod SameTable
+pub mod AcceptedTables
+-- ---- the numbers; laws for the code
+
+pub mod Numbers
+pub mod Filling

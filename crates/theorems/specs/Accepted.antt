@@ -38,7 +38,7 @@ pub record Accepted (t : List ℤ) : Type 0 where
 pub clash : {X : Type 0} {n r : ℕ} → refused n r ≡ accepted → X
 clash e = absurd (let z : _≡_ {A = ℕ} 0 1 = cc in omega linear)
 
-both-accept : (v w : Verdict) → v and-then w ≡ accepted → (v ≡ accepted) × (w ≡ accepted)
+pub both-accept : (v w : Verdict) → v and-then w ≡ accepted → (v ≡ accepted) × (w ≡ accepted)
 both-accept accepted w h = (refl, h)
 both-accept (refused n r) w h = clash h
 
@@ -53,7 +53,7 @@ pass-false false n r h = refl
 
 -- ---- the faults of a row
 
-fault-free : (b : Bool) (k x : ℕ) → cond (not b) (suc k) x ≡ 0 → T b × (x ≡ 0)
+pub fault-free : (b : Bool) (k x : ℕ) → cond (not b) (suc k) x ≡ 0 → T b × (x ≡ 0)
 fault-free true k x h = (tt, h)
 fault-free false k x h = absurd (omega linear)
 

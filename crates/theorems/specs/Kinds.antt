@@ -62,11 +62,11 @@ module _ (a b c : ℤ) where
 
 -- what holds of each kind and its number, and of the unknown row, holds of the row that is listed at a number
 module _ (P : ℕ → Row → Type 0) where
-  abbrev Each : List Kind → Type 0
+  abbrev pub Each : List Kind → Type 0
   Each [] = Unit {0}
   Each (k ∷ ks) = P (k .number) (k .of) × Each ks
 
-  listed-holds : (n : ℕ) (ks : List Kind) → P n Row.Unknown → Each ks → P n (listed n ks)
+  pub listed-holds : (n : ℕ) (ks : List Kind) → P n Row.Unknown → Each ks → P n (listed n ks)
   listed-holds n [] u h = u
   listed-holds n (k ∷ ks) u h = pick (eqb n (k .number)) refl (listed-holds n ks u (h .1))
     where
@@ -76,7 +76,7 @@ module _ (P : ℕ → Row → Type 0) where
 
 -- the facts about a list of kinds, one after the other
 infixr 20 _also_
-abbrev _also_ : {P Q : Type 0} → P → Q → P × Q
+abbrev pub _also_ : {P Q : Type 0} → P → Q → P × Q
 p also q = (p, q)
 
 -- a row of an expression or a formula has the kind word k, and the word a for its number where it has one

@@ -48,7 +48,7 @@ some-iff f ps = (some-found f ps, λ h. some-shown f (h .2) (h .3))
 
 -- ---- one step of `misread`
 
-member-append : (q : ℕ) (xs ys : List ℕ) → member q (xs ++ ys) ≡ (member q xs || member q ys)
+pub member-append : (q : ℕ) (xs ys : List ℕ) → member q (xs ++ ys) ≡ (member q xs || member q ys)
 member-append q [] ys = refl
 member-append q (x ∷ xs) ys = rw (member-append q xs ys) (sym (or-assoc (eqb q x) (member q xs) (member q ys)))
 

@@ -30,7 +30,7 @@ Then v O P k r = O k r ⊎ ((v ≡ accepted) × P k r)
 clash : {X : Type 0} {k r : ℕ} → accepted ≡ refused k r → X
 clash e = absurd (let z : _≡_ {A = ℕ} 0 1 = cc in omega arith)
 
-then-says : {O P : ℕ → ℕ → Type 0} (v w : Verdict) → Says v O → (v ≡ accepted → Says w P) → Says (v and-then w) (Then v O P)
+pub then-says : {O P : ℕ → ℕ → Type 0} (v w : Verdict) → Says v O → (v ≡ accepted → Says w P) → Says (v and-then w) (Then v O P)
 then-says accepted w f g k r = (λ e. inr (refl, g refl k r .0 e), ⊎-elim (λ o. clash (f k r .1 o)) (λ h. g refl k r .1 (h .1)))
 then-says (refused n q) w f g k r = (λ e. inl (f k r .0 e), ⊎-elim (f k r .1) (λ h. clash (sym (h .0))))
 
