@@ -5,7 +5,7 @@ use Prim.Native.Nat.{ℕ, zero, suc, _+_, _*_, _-_, _≤_, _<_, min}
 use mathlib.Core.Path.{_≡_, refl, sym, ap, subst, _∙_}
 use mathlib.Core.Logic.{_↔_, _⊎_, inl, inr, ⊎-elim, Iff·trans}
 use mathlib.Core.List.{List, [], _∷_, _++_}
-use mathlib.Core.Bool.{Bool, true, false, _||_}
+use mathlib.Core.Bool.{true, _||_}
 use native.Mathlib.Omega.{arith as linear}
 use native.Mathlib.Decide.{ℕ-discrete}
 use lib.IntN.{ℤ}
@@ -45,6 +45,16 @@ module _ (t : List ℤ) (f g : ℕ → ℕ) (r : ℕ) (capped : (k : ℕ) → k 
 -- ---- the pass
 
 module _ (t : List ℤ) (falls : Falls t) where
+  -- the capped size of a row, from those of the rows below it
+  pub capped-step : (r : ℕ) → r < rows t → (f : ℕ → ℕ) → ((k : ℕ) → k < r → f k ≡ min cap (size t k))
+      → min cap (suc (part-sum f (parts (row t r)))) ≡ min cap (size t r)
+  capped-step r h f capped =
+      let ps = parts (row t r) in
+      ap (min cap) (one-plus (part-sum f ps))
+      ∙ capped-sum t f (size t) r capped ps 1 (falls r h)
+      ∙ ap (min cap) (sym (one-plus (part-sum (size t) ps)))
+      ∙ ap (min cap) (sym (size-step t falls r h))
+
   -- the sizes of the rows below r, capped
   pub record Sizes (r : ℕ) (xs : List ℕ) : Type 0 where
     pub counted : length xs ≡ r
@@ -58,12 +68,7 @@ module _ (t : List ℤ) (falls : Falls t) where
   }
     where
       sum-is : capped-at t xs r ≡ min cap (size t r)
-      sum-is =
-          let ps = parts (row t r) in
-          ap (min cap) (one-plus (part-sum (λ k. getD xs k 0) ps))
-          ∙ capped-sum t (λ k. getD xs k 0) (size t) r (s .capped) ps 1 (falls r h)
-          ∙ ap (min cap) (sym (one-plus (part-sum (size t) ps)))
-          ∙ ap (min cap) (sym (size-step t falls r h))
+      sum-is = capped-step r h (λ k. getD xs k 0) (s .capped)
 
       go : (k : ℕ) → Dec (k ≡ r) → k < suc r → getD (xs ++ (capped-at t xs r ∷ [])) k 0 ≡ min cap (size t k)
       go k (yes e) l =

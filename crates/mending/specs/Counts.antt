@@ -1,10 +1,10 @@
--- The counts: the rows that the script reaches are those that new rows came from (`reached-origins`), so the rows dropped are
+-- The counts: the rows that the script reaches are those that new rows came from (`reached-origins`, `origins-stand`), so the rows dropped are
 -- the others (`dropped-is`), and the rows copied again are the new rows less those (`copied-is`). Assumes nothing.
 use Prim.Native.Nat.{ℕ, zero, suc, _+_, _-_, _≤_, _<_}
 use mathlib.Core.Path.{_≡_, refl, sym, ap, subst, _∙_}
-use mathlib.Core.Logic.{_↔_, _⊎_, inl, inr, ⊎-elim}
+use mathlib.Core.Logic.{_↔_, inl, inr, ⊎-elim}
 use mathlib.Core.List.{List, [], _∷_}
-use mathlib.Core.Bool.{Bool, true, false, cond, not, _||_, true≢false, false≢true}
+use mathlib.Core.Bool.{Bool, true, false, cond, _||_, false≢true}
 use native.Mathlib.Omega.{arith as linear}
 use native.Mathlib.Decide.{ℕ-discrete}
 use lib.IntN.{ℤ}
@@ -24,7 +24,7 @@ use Rattle.mending.specs.Paths.{Path, top, down, reached-iff, path-row}
 use Rattle.mending.specs.Mendable.{Mendable}
 use Rattle.mending.specs.NextCopy.{above}
 use Rattle.mending.specs.Renaming.{Here, here-top, here-part}
-use Rattle.mending.specs.Everywhere.{Somewhere, here-at, came}
+use Rattle.mending.specs.Everywhere.{here-at, came}
 
 -- ---- members by place
 
@@ -108,6 +108,10 @@ among-length n (x ∷ xs) =
 
 -- ---- reached, and come from
 
+-- row q stands somewhere in the script
+abbrev pub In-script : List ℤ → ℕ → Type 0
+In-script t q = (code : Bool) × (inside : List ℕ) × Stands t q code inside
+
 module _ (t : List ℤ) (ok : Mendable t) where
   pub whole-links : (r : ℕ) → r < rows t → uncut t (rows t) r ≡ parts (row t r)
   unfolding uncut
@@ -141,6 +145,17 @@ module _ (t : List ℤ) (ok : Mendable t) where
           let S = here-at t ok (m .0) (m .1) in
           let same : S .old ≡ q = sym (came t ok (S .place) .0) ∙ m .2 in
           reached-iff t (rows t) (ok .falls) q (ok .filled) .1 (subst (λ (x : ℕ). Path t (rows t) x) same (stands-path (S .place .place)))
+
+  -- "unreachable rows dropped": these are the rows that stand in the script
+  pub origins-stand : (q : ℕ) → (member q (origins t) ≡ true) ↔ In-script t q
+  origins-stand q = (out, λ S. reached-origins q .0 (reached-iff t (rows t) (ok .falls) q (ok .filled) .1 (stands-path (S .2))))
+    where
+      out : member q (origins t) ≡ true → In-script t q
+      out e =
+          let m = member-at q (origins t) .0 e in
+          let S = here-at t ok (m .0) (m .1) in
+          let same : S .old ≡ q = sym (came t ok (S .place) .0) ∙ m .2 in
+          (S .place .code, S .loops, subst (λ (x : ℕ). Stands t x (S .place .code) (S .loops)) same (S .place .place))
 
   agree : (a b : Bool) → (a ≡ true) ↔ (b ≡ true) → a ≡ b
   agree true b h = sym (h .0 refl)

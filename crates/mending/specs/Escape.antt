@@ -2,9 +2,9 @@
 -- lowest such old row" (`mark-exact`).
 -- Argument: a row stands outside the body of loop m in some use exactly where a path reaches it that does not take the link
 -- of m to its body (`outside-iff`). Assumes nothing.
-use Prim.Native.Nat.{ℕ, zero, suc, _-_, _<_}
+use Prim.Native.Nat.{ℕ, _<_}
 use mathlib.Core.Path.{_≡_, refl, sym, subst, _∙_}
-use mathlib.Core.Logic.{_↔_, _⊎_, inl, inr, ⊎-elim}
+use mathlib.Core.Logic.{_↔_}
 use mathlib.Core.List.{List, [], _∷_}
 use mathlib.Core.Bool.{Bool, true, false, cond, _||_, false≢true, true≢false}
 use native.Mathlib.Omega.{arith as linear}
@@ -16,12 +16,12 @@ use Rattle.script.specs.declared.ExpressionRow.the-variants.{Constant, Variable
 use Rattle.script.specs.declared.StatementRow.the-variants.{Skip, Assign, Sequence, If, While, Assert}
 use Rattle.script.specs.declared.Row.{Row}
 use Rattle.script.specs.declared.Row.the-variants as Row
-use Rattle.script.specs.Rows.{Part, parts, rows, row}
-use Rattle.script.specs.Refusals.{accepted, member}
+use Rattle.script.specs.Rows.{parts, rows, row}
+use Rattle.script.specs.Refusals.{member}
 use Rattle.theorems.specs.Links.{Link, here, there}
 use Rattle.theorems.specs.Lowest.{Says, Lowest, lowest-with, where-true}
 use Rattle.theorems.specs.Standing.{inside-at, code-at, Stands, script, link}
-use Rattle.mending.specs.Reached.{outside, uncut, reached, escapes}
+use Rattle.mending.specs.Reached.{outside, uncut, escapes}
 use Rattle.mending.specs.Mended.{mark-fault, mark-test}
 use Rattle.mending.specs.Falling.{Falls}
 use Rattle.mending.specs.Paths.{Path, top, down, reached-iff}

@@ -3,7 +3,7 @@
 -- a new row is the copy of a link of its old row (`old-link`). Assumes nothing.
 use Prim.Native.Nat.{ℕ, zero, suc, _+_, _-_, _≤_, _<_}
 use mathlib.Core.Path.{_≡_, refl, sym, ap, subst, _∙_}
-use mathlib.Core.List.{List, [], _∷_}
+use mathlib.Core.List.{List, []}
 use mathlib.Core.Bool.{Bool}
 use native.Mathlib.Omega.{arith as linear}
 use native.Mathlib.Decide.{ℕ-discrete}

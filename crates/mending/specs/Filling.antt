@@ -2,9 +2,8 @@
 -- its own list of work. When the pass comes to new row k, some row above has put there the old row of k; the pass puts the
 -- parts of that row at their places, which are below k (`filled`). The capped sizes are exact wherever a copy stands
 -- (`exact-row`). A mark's loop is the last copy of it that the pass came by (`renamed-step`). Assumes nothing.
-use Prim.Native.Nat.{ℕ, zero, suc, _+_, _*_, _-_, _≤_, _<_, min}
-use mathlib.Core.Path.{_≡_, refl, sym, ap, subst, _∙_}
-use mathlib.Core.Logic.{_⊎_, inl, inr, ⊎-elim}
+use Prim.Native.Nat.{ℕ, zero, suc, _-_, _≤_, _<_, min}
+use mathlib.Core.Path.{_≡_, refl, sym, subst, _∙_}
 use mathlib.Core.List.{List, [], _∷_}
 use mathlib.Core.Bool.{Bool, true, false, cond}
 use native.Mathlib.Omega.{arith as linear}
@@ -17,7 +16,7 @@ use borrow.Author.Tests.{eqb-true, eqb-false}
 use Rattle.script.specs.Rows.{Part, parts, rows, row}
 use Rattle.theorems.specs.Links.{Link, here, there}
 use Rattle.mending.specs.Copies.{cap, origins, size, capped-from}
-use Rattle.mending.specs.NewTable.{renamed, part-places, new-table}
+use Rattle.mending.specs.NewTable.{renamed, part-places}
 use Rattle.mending.specs.Reached.{targets}
 use Rattle.mending.specs.Layout.{origin, Copied, copy, Spread, none, more, spots, places-are, whole-copied, extent}
 use Rattle.mending.specs.Capped.{capped-row}
@@ -25,7 +24,7 @@ use Rattle.mending.specs.NewLinks.{new-parts, copied-parts}
 use Rattle.mending.specs.LinkedOnce.{some-rows, New-link, new-falls, some-link}
 use Rattle.mending.specs.Mendable.{Mendable}
 use Rattle.mending.specs.NextCopy.{hits, misses}
-use Rattle.mending.specs.Everywhere.{Somewhere, here-at, came}
+use Rattle.mending.specs.Everywhere.{here-at, came}
 
 -- the rows rs put at the places ps
 unfoldable pub put : List ℕ → List ℕ → List ℕ → List ℕ

@@ -19,6 +19,7 @@ pub mod Sizes
 pub mod Layout
 pub mod Capped
 pub mod Mendable
+pub mod Numbers
 -- ---- the new table passes 1 to 7
 
 pub mod Renew
@@ -43,7 +44,9 @@ pub mod Counts
 pub mod FieldWords
 pub mod SameTable
 pub mod AcceptedTables
--- ---- the numbers; laws for the code
+-- ---- laws for the code
 
-pub mod Numbers
 pub mod Filling
+-- ---- what 02 asks, sentence by sentence
+
+pub mod Mending

@@ -1,23 +1,37 @@
 -- The new table's links fall (`new-falls`), each row but the last is linked (`some-link`), and none twice (`one-link` by two
--- rows, `one-field` by two fields).
+-- rows, `one-field` by two fields): exactly once (`linked-once`).
 -- Argument, on the layout of the run: the links of a row inside a copy stay inside it (`stays`), and the copies of a row's parts
 -- do not overlap. Assumes nothing.
-use Prim.Native.Nat.{ℕ, suc, _-_, _≤_, _<_}
+use Prim.Native.Nat.{ℕ, zero, suc, _≤_, _<_}
 use mathlib.Core.Path.{_≡_, sym, subst}
 use mathlib.Core.Logic.{_⊎_, inl, inr, ⊎-elim}
-use mathlib.Core.List.{List, [], _∷_}
+use mathlib.Core.List.{List, _∷_}
 use native.Mathlib.Omega.{arith as linear}
 use native.Mathlib.Decide.{ℕ-discrete}
 use lib.IntN.{ℤ}
 use lib.ListN.{length, take}
-use Rattle.script.specs.Rows.{Part, parts, row}
+use Rattle.script.specs.Rows.{Part, parts, rows, row}
 use Rattle.theorems.specs.Links.{Link, here, there, Links-to}
 use Rattle.mending.specs.Copies.{origins}
 use Rattle.mending.specs.NewTable.{new-table}
 use Rattle.mending.specs.Falling.{by-order}
 use Rattle.mending.specs.Layout.{Copied, copy, Spread, none, more, copied-le, spread-le, whole-copied}
 use Rattle.mending.specs.Mendable.{Mendable}
+use Rattle.mending.specs.NewRows.{new-rows}
 use Rattle.mending.specs.NewLinks.{copied-parts, new-parts}
+
+-- one link of a table goes to row j
+pub record Linked-once (u : List ℤ) (j : ℕ) : Type 0 where
+  pub by : ℕ
+  pub field : ℕ
+  pub within : by < rows u
+  pub link : Link j field (parts (row u by))
+  pub only : (q i : ℕ) → q < rows u → Link j i (parts (row u q)) → (q ≡ by) × (i ≡ field)
+
+link-take : {k i : ℕ} {ps : List Part} (n : ℕ) → Link k i ps → i < n → Link k i (take n ps)
+link-take zero l h = absurd (omega linear)
+link-take (suc n) (here e) h = here e
+link-take (suc n) (there l) h = there (link-take n l (omega linear))
 
 module _ (t : List ℤ) (ok : Mendable t) where
   pub some-rows : 0 < length (origins t)
@@ -160,3 +174,36 @@ module _ (t : List ℤ) (ok : Mendable t) where
         first : Dec (m ≡ j) → ((m ≡ j → ⊥) → Linked-up-to k j) → Links-to (record { at = m; sort = p .sort } ∷ copied-parts t s) j ⊎ Linked-up-to k j
         first (yes e) f = inl (0, here e)
         first (no d) f = inr (f d)
+
+  -- ---- exactly once
+
+  same-field : {q : ℕ} → q < length (origins t) → {j i i′ : ℕ} → Link j i (parts (row (new-table t) q)) → Link j i′ (parts (row (new-table t) q))
+      → i ≡ i′
+  same-field {q} h {j} {i} {i′} l l′ = go (inner-at q h .copied)
+    where
+      go : {lo r : ℕ} → Copied t lo q r → i ≡ i′
+      go {lo} {r} (copy s e a b) =
+          let m = subst (λ (ps : List Part). Link j i ps) (new-parts t ok r s e a b) l in
+          let m′ = subst (λ (ps : List Part). Link j i′ ps) (new-parts t ok r s e a b) l′ in
+          by-order (suc i) i′
+          (λ x. absurd (one-field s m′ (link-take i′ m x)))
+          (λ x. by-order (suc i′) i (λ y. absurd (one-field s m (link-take i m′ y))) (λ y. omega linear))
+
+  pub linked-once : (j : ℕ) → suc j < length (origins t) → Linked-once (new-table t) j
+  linked-once j h =
+      let e = new-rows t in
+      let whole = whole-copied t (ok .falls) (ok .filled) in
+      let L = some-link whole j (omega linear) (omega linear) in
+      let within : L .0 < length (origins t) = omega (linear, L .1) in
+      record {
+        by = L .0;
+        field = L .2 .0;
+        within = omega linear;
+        link = L .2 .1;
+        only = λ q i a l.
+            let same : q ≡ L .0 =
+            by-order (suc q) (L .0)
+            (λ x. absurd (one-link whole q (L .0) (omega linear) x (omega linear) (i, l) (L .2)))
+            (λ x. by-order (suc (L .0)) q (λ y. absurd (one-link whole (L .0) q (omega linear) y (omega linear) (L .2) (i, l))) (λ y. omega linear)) in
+            (same, same-field within (subst (λ (x : ℕ). Link j i (parts (row (new-table t) x))) same l) (L .2 .1));
+      }

@@ -1,9 +1,9 @@
 -- What a table has that the mender does not refuse: `mendable` takes the verdict apart, test by test. Assumes nothing.
 use Prim.Native.Nat.{ℕ, _*_, _-_, _≤_, _<_}
-use mathlib.Core.Path.{_≡_, refl, sym, ap, _∙_}
-use mathlib.Core.Logic.{_⊎_, inl, inr}
+use mathlib.Core.Path.{_≡_, refl, sym, _∙_}
+use mathlib.Core.Logic.{inl, inr}
 use mathlib.Core.List.{List}
-use mathlib.Core.Bool.{Bool, true, false, cond, _&&_, true≢false}
+use mathlib.Core.Bool.{Bool, true, false, cond, true≢false}
 use native.Mathlib.Omega.{arith as linear}
 use lib.IntN.{ℤ}
 use lib.Dec.{T}
@@ -49,7 +49,7 @@ pub filled-of : (t : List ℤ) → length-test t ≡ accepted → 0 < rows t
 unfolding length-test
 filled-of t h = sound-length (length t) (pass-false (bad-length (length t)) 1 0 h) .filled
 
-none-escapes : (t : List ℤ) → Falls t → 0 < rows t → mark-test t ≡ accepted → (k : ℕ) → k < rows t → ¬ Escaping t k
+pub none-escapes : (t : List ℤ) → Falls t → 0 < rows t → mark-test t ≡ accepted → (k : ℕ) → k < rows t → ¬ Escaping t k
 unfolding mark-test mark-fault
 none-escapes t falls filled h k i E =
     true≢false (sym (escapes-iff t falls filled k .1 E)
@@ -62,14 +62,14 @@ none-escapes t falls filled h k i E =
 -- ---- the verdict, taken apart
 
 module _ (t : List ℤ) (table-room origins-room : ℕ) (h : mend-verdict t table-room origins-room ≡ accepted) where
-  record Tests : Type 0 where
+  pub record Tests : Type 0 where
     pub length : length-test t ≡ accepted
     pub part : part-test t ≡ accepted
     pub script : script-test t ≡ accepted
     pub mark : mark-test t ≡ accepted
     pub size : size-test t table-room origins-room ≡ accepted
 
-  tests : Tests
+  pub tests : Tests
   unfolding mend-verdict
   tests =
       let a = both-accept (length-test t) _ h in

@@ -1,6 +1,6 @@
 -- The links of the new table: new row k, a copy of row r, links to the copies of the parts of r that stand before it, one
 -- after the other (`new-parts`). By the parts of the old row, renewed one by one. Assumes nothing.
-use Prim.Native.Nat.{ℕ, zero, suc, _<_}
+use Prim.Native.Nat.{ℕ, suc, _<_}
 use mathlib.Core.Path.{_≡_, refl, ap, subst, _∙_}
 use mathlib.Core.List.{List, [], _∷_}
 use native.Mathlib.Omega.{arith as linear}
@@ -9,7 +9,7 @@ use lib.ListN.{length, getD}
 use Rattle.script.specs.Rows.{Field, value, variable, target, loop, link, Part, fields, links, parts, rows, row}
 use Rattle.mending.specs.Copies.{origins}
 use Rattle.mending.specs.NewTable.{renamed, part-places, new-table}
-use Rattle.mending.specs.Layout.{origin, Copied, Spread, none, more, spots, places-are}
+use Rattle.mending.specs.Layout.{origin, Spread, none, more, spots, places-are}
 use Rattle.mending.specs.Mendable.{Mendable}
 use Rattle.mending.specs.Renew.{renew, renew-fields, fields-renewed}
 use Rattle.mending.specs.NewRows.{new-row}

@@ -29,6 +29,13 @@ use Rattle.mending.specs.NewLinks.{copied-parts, row-is, new-parts}
 use Rattle.mending.specs.LinkedOnce.{some-rows, inner-at, new-falls, one-link, one-field, some-link}
 use Rattle.mending.specs.KeptFields.{place-below, rest-kept, same-length, three, fields-count, still-ranged}
 
+-- a table passes 1 to 7 of the check
+pub record Passes (u : List ℤ) : Type 0 where
+  pub length : length-test u ≡ accepted
+  pub row : row-test u ≡ accepted
+  pub script : script-test u ≡ accepted
+  pub unlinked : unlinked-test u ≡ accepted
+
 module _ (t : List ℤ) (ok : Mendable t) where
   abbrev total : ℕ
   total = length (origins t)
@@ -184,13 +191,6 @@ module _ (t : List ℤ) (ok : Mendable t) where
   last-script : sort-of (row (new-table t) (total - 1)) ≡ Script
   last-script = copied-sort whole ∙ ok .script
 
-  -- the new table passes 1 to 7
-  pub record Passes : Type 0 where
-    pub length : length-test (new-table t) ≡ accepted
-    pub row : row-test (new-table t) ≡ accepted
-    pub script : script-test (new-table t) ≡ accepted
-    pub unlinked : unlinked-test (new-table t) ≡ accepted
-
   good-length : (n m : ℕ) → n ≡ 4 * m → 0 < m → m ≤ 2048 → bad-length n ≡ false
   good-length n m e a b =
       let x = ne-eqb n 0 (λ z. omega linear) in
@@ -198,7 +198,7 @@ module _ (t : List ℤ) (ok : Mendable t) where
       let z = le-ltb 8192 n (omega linear) in
       rw (x, y, z)
 
-  pub passes : Passes
+  pub passes : Passes (new-table t)
   unfolding length-test row-test-within script-test unlinked-test
   passes = record {
     length = rw (good-length (length (new-table t)) total (new-length t) (some-rows t ok) (ok .few));

@@ -1,10 +1,10 @@
 -- "an accepted table already in that order comes back the same": its words (`same-table`), with no row dropped and none copied
--- again; so does every table that the mender does not refuse and that is in that order.
+-- again; so does every table that the mender does not refuse and that is in that order (`comes-back`).
 -- Argument: where row k is the copy of row k, links and marks are renewed to themselves, and the words are kept
 -- (`FieldWords.renewed-same`). Assumes nothing.
-use Prim.Native.Nat.{ℕ, zero, suc, _+_, _*_, _/_, _%_, _<_}
+use Prim.Native.Nat.{ℕ, zero, suc, _+_, _*_, _/_, _%_, _-_, _<_}
 use mathlib.Core.Path.{_≡_, refl, sym, ap, subst, _∙_}
-use mathlib.Core.List.{List, [], _∷_}
+use mathlib.Core.List.{List, [], _∷_, _++_, map}
 use native.Mathlib.Nat.{zero-add}
 use native.Mathlib.Omega.{arith as linear}
 use lib.IntN.{ℤ, pos}
@@ -12,19 +12,33 @@ use lib.ListN.{length, getD}
 use lib.Seq.{ext-getD}
 use Rattle.script.specs.declared.Row.{Row}
 use Rattle.script.specs.Rows.{fields, field-number, rows, word, row}
+use Rattle.script.specs.Refusals.{accepted}
+use Rattle.script.specs.Generated.{zeros}
 use Rattle.script.specs.Laws.{row-is}
 use Rattle.mending.specs.Copies.{origins}
 use Rattle.mending.specs.NewTable.{renewed, renamed, part-places, new-word, new-table}
 use Rattle.mending.specs.Reached.{among}
-use Rattle.mending.specs.Mended.{mend}
+use Rattle.mending.specs.Mended.{mend-verdict, Mended, mend, mended}
 use Rattle.mending.specs.Layout.{origin}
-use Rattle.mending.specs.Mendable.{Mendable}
+use Rattle.mending.specs.Mendable.{Mendable, mendable}
 use Rattle.mending.specs.NewRows.{new-length, kind-at, first-at, second-at, third-at}
 use Rattle.mending.specs.Renaming.{here-part, mark-inside}
 use Rattle.mending.specs.Everywhere.{Somewhere, here-at, came}
-use Rattle.mending.specs.Order.{run-length, run-at, In-order}
+use Rattle.mending.specs.Order.{run, run-length, run-at, In-order, order-run}
 use Rattle.mending.specs.Counts.{member-at, among-all, dropped-is, copied-is}
 use Rattle.mending.specs.FieldWords.{limit, Agrees, row-agrees, renewed-same, linked-of, loops-of}
+
+-- the table back the same: no row dropped, none copied again, and each new row came from the one with its number
+abbrev pub unchanged : List ℤ → ℕ → ℕ → Mended
+unchanged t table-room origins-room = record {
+  number = 0;
+  row = 0;
+  words = 4 * rows t;
+  dropped = 0;
+  copied = 0;
+  table = t ++ zeros (table-room - 4 * rows t);
+  origins = map pos (run 0 (rows t)) ++ zeros (origins-room - rows t);
+}
 
 -- what holds of the four words of each row holds of each word
 by-fours : (P : ℕ → Type 0) (n : ℕ) → ((k : ℕ) → k < n → P (4 * k + 0) × P (4 * k + 1) × P (4 * k + 2) × P (4 * k + 3)) → (i : ℕ) → i < 4 * n → P i
@@ -41,11 +55,14 @@ by-fours P n f i h = subst P (whole i) (pick (i % 4) (omega linear) (f (i / 4) (
     pick (suc (suc (suc (suc r)))) l g = absurd (omega linear)
 
 module _ (t : List ℤ) (ok : Mendable t) (ordered : In-order t) where
+  as-copied : origins t ≡ run 0 (rows t)
+  as-copied = order-run t (ok .filled) ordered
+
   total-is : length (origins t) ≡ rows t
-  total-is = ap length ordered ∙ run-length 0 (rows t)
+  total-is = ap length as-copied ∙ run-length 0 (rows t)
 
   itself : (k : ℕ) → k < rows t → origin t k ≡ k
-  itself k h = ap (λ (l : List ℕ). getD l k 0) ordered ∙ run-at 0 (rows t) k h ∙ zero-add k
+  itself k h = ap (λ (l : List ℕ). getD l k 0) as-copied ∙ run-at 0 (rows t) k h ∙ zero-add k
 
   module _ (k : ℕ) (h : k < rows t) where
     there-is : Somewhere t ok k
@@ -95,8 +112,24 @@ module _ (t : List ℤ) (ok : Mendable t) (ordered : In-order t) where
   all-among : among (rows t) (origins t) ≡ rows t
   all-among = among-all (rows t) (origins t) (λ q h. member-at q (origins t) .1 (q, omega (linear, total-is), itself q h))
 
-  pub none-dropped : (table-room origins-room : ℕ) → mend t table-room origins-room .dropped ≡ 0
+  none-dropped : (table-room origins-room : ℕ) → mend t table-room origins-room .dropped ≡ 0
   none-dropped table-room origins-room = omega (linear, dropped-is t ok table-room origins-room, all-among)
 
-  pub none-copied : (table-room origins-room : ℕ) → mend t table-room origins-room .copied ≡ 0
+  none-copied : (table-room origins-room : ℕ) → mend t table-room origins-room .copied ≡ 0
   none-copied table-room origins-room = omega (linear, copied-is t ok table-room origins-room, all-among, total-is)
+
+-- what the mender does not refuse and is in that order comes back, with the whole outcome
+pub comes-back : (t : List ℤ) (table-room origins-room : ℕ) → mend-verdict t table-room origins-room ≡ accepted → In-order t
+    → mended t table-room origins-room ≡ unchanged t table-room origins-room
+unfolding mended
+comes-back t table-room origins-room v ordered =
+    let ok = mendable t table-room origins-room v in
+    rw (
+      v,
+      mended,
+      none-dropped t ok ordered table-room origins-room,
+      none-copied t ok ordered table-room origins-room,
+      same-table t ok ordered,
+      total-is t ok ordered,
+      as-copied t ok ordered,
+    )

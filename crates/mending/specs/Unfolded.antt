@@ -2,7 +2,7 @@
 -- only links that fall. Row by row, by induction on its bound, from `RowCases`. Assumes nothing.
 use Prim.Native.Nat.{ℕ, zero, suc, _-_, _<_}
 use mathlib.Core.Path.{_≡_, refl, sym, ap, subst, _∙_}
-use mathlib.Core.List.{List, []}
+use mathlib.Core.List.{List}
 use native.Mathlib.Omega.{arith as linear}
 use lib.IntN.{ℤ}
 use lib.ListN.{length, getD}

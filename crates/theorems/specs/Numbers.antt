@@ -4,7 +4,7 @@
 -- `then-says` joins two tests in order. 11 and 12 speak of the buffers, and are no part of this verdict. Assumes nothing.
 use Prim.Native.Nat.{ℕ, _%_, _≤_, _<_}
 use native.Mathlib.Omega.{arith}
-use mathlib.Core.Path.{_≡_, refl, sym, ap, _∙_}
+use mathlib.Core.Path.{_≡_, refl, sym, ap}
 use mathlib.Core.Logic.{_↔_, _≢_, _⊎_, inl, inr, ⊎-elim, Iff·trans}
 use mathlib.Core.List.{List}
 use mathlib.Core.Bool.{Bool, true, false, cond, not, _||_, false≢true}
@@ -33,6 +33,11 @@ clash e = absurd (let z : _≡_ {A = ℕ} 0 1 = cc in omega arith)
 pub then-says : {O P : ℕ → ℕ → Type 0} (v w : Verdict) → Says v O → (v ≡ accepted → Says w P) → Says (v and-then w) (Then v O P)
 then-says accepted w f g k r = (λ e. inr (refl, g refl k r .0 e), ⊎-elim (λ o. clash (f k r .1 o)) (λ h. g refl k r .1 (h .1)))
 then-says (refused n q) w f g k r = (λ e. inl (f k r .0 e), ⊎-elim (f k r .1) (λ h. clash (sym (h .0))))
+
+-- a verdict accepts where none of its occasions arises
+pub accepts-iff : {O : ℕ → ℕ → Type 0} (v : Verdict) → Says v O → (v ≡ accepted) ↔ ((k r : ℕ) → ¬ O k r)
+accepts-iff accepted f = (λ e k r o. clash (f k r .1 o), λ g. refl)
+accepts-iff (refused n q) f = (λ e. clash (sym e), λ g. absurd (g n q (f n q .0 refl)))
 
 -- a test of one fact gives its number and row
 pub fact-says : {P : Type 0} (b : Bool) (n q : ℕ) → (b ≡ true) ↔ P → Says (cond b (refused n q) accepted) (λ k r. (k ≡ n) × (r ≡ q) × P)
@@ -101,12 +106,16 @@ row-says ws k r = Iff·trans (lowest-refuses (row-fault ws) (rows ws) 0 k r) (ou
       lower = λ j h₁ h₂. row-faults ws j 0 .1 (F .lower j h₂);
     }
 
-pub row-numbers : (ws : List ℤ) (k r : ℕ) → Faulty-row ws k r → (2 ≤ k) × (k ≤ 6)
-row-numbers ws k r F =
-    past (λ h. omega arith) (past (λ h. omega arith) (past (λ h. omega arith) (past (λ h. omega arith) (past (λ h. omega arith) none)))) (F .fault)
+-- a fault has one of these numbers
+pub fault-numbers : (ws : List ℤ) (r k : ℕ) → Fault ws r k → k ≢ 0 → (2 ≤ k) × (k ≤ 6)
+fault-numbers ws r k f some =
+    past (λ h. omega arith) (past (λ h. omega arith) (past (λ h. omega arith) (past (λ h. omega arith) (past (λ h. omega arith) none)))) f
   where
     none : k ≡ 0 → (2 ≤ k) × (k ≤ 6)
-    none z = absurd (F .some z)
+    none z = absurd (some z)
+
+pub row-numbers : (ws : List ℤ) (k r : ℕ) → Faulty-row ws k r → (2 ≤ k) × (k ≤ 6)
+row-numbers ws k r F = fault-numbers ws r k (F .fault) (F .some)
 
 -- ---- the verdict
 
@@ -143,11 +152,7 @@ length-refused ws h = refusal-numbers ws 1 0 .1 (inl (refl, refl, h))
 
 -- "No refusal is given in other circumstances."
 pub no-other : (ws : List ℤ) → (verdict ws ≡ accepted) ↔ ((k r : ℕ) → ¬ Occasion ws k r)
-no-other ws = (λ e k r o. clash (sym e ∙ refusal-numbers ws k r .1 o), λ f. go (verdict ws) refl f)
-  where
-    go : (v : Verdict) → verdict ws ≡ v → ((k r : ℕ) → ¬ Occasion ws k r) → verdict ws ≡ accepted
-    go accepted e f = e
-    go (refused k r) e f = absurd (f k r (refusal-numbers ws k r .0 e))
+no-other ws = accepts-iff (verdict ws) (refusal-numbers ws)
 
 pub one-to-ten : (ws : List ℤ) (k r : ℕ) → verdict ws ≡ refused k r → (1 ≤ k) × (k ≤ 10)
 one-to-ten ws k r e =
