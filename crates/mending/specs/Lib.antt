@@ -50,3 +50,12 @@ pub mod Filling
 -- ---- what 02 asks, sentence by sentence
 
 pub mod Mending
+pub mod Witness
+-- ---- figures
+
+pub mod Figures
+pub mod RandomFigures
+-- ---- wrong turns
+
+pub mod Variants
+pub mod Wrong
