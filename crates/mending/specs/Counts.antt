@@ -22,7 +22,7 @@ use Rattle.mending.specs.Reached.{outside, uncut, reached, among, reache
 use Rattle.mending.specs.Mended.{mend}
 use Rattle.mending.specs.Paths.{Path, top, down, reached-iff, path-row}
 use Rattle.mending.specs.Mendable.{Mendable}
-use Rattle.mending.specs.NextCopy.{above}
+use Rattle.mending.specs.InScope.{above}
 use Rattle.mending.specs.Renaming.{Here, here-top, here-part}
 use Rattle.mending.specs.Everywhere.{here-at, came}
 
@@ -120,7 +120,7 @@ module _ (t : List ℤ) (ok : Mendable t) where
   stands-path : {r : ℕ} {code : Bool} {is : List ℕ} → Stands t r code is → Path t (rows t) r
   stands-path script = top
   stands-path (link {r = r} {i = i} {k = k} S l) =
-      down (stands-path S) (subst (λ (ps : List Part). Link k i ps) (sym (whole-links r (above t ok S .0))) l)
+      down (stands-path S) (subst (λ (ps : List Part). Link k i ps) (sym (whole-links r (above t (ok .falls) (ok .filled) S .0))) l)
 
   path-copied : {r : ℕ} → Path t (rows t) r → (k : ℕ) × (is : List ℕ) × (js : List ℕ) × Here t ok k r is js
   path-copied top = (length (origins t) - 1, [], [], here-top t ok)

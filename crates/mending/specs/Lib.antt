@@ -1,7 +1,8 @@
 -- 02, P7: tables with shared parts, mended. First what is to be believed: the order of the new rows, their words, what the script
 -- reaches, and what the mender answers and leaves. Then what 13 and 14 say, and what a table has that is not refused; the new
--- table's rows, links, sorts and marks; that it unfolds to the same script; what the run of old rows and the counts say; tables
--- that come back the same; the numbers, exactly; laws for the code.
+-- table's rows, links, sorts and marks; that it unfolds to the same script, and has the same runs; what the run of old rows and
+-- the counts say; tables that come back the same; laws for the code. `Mending` gathers what 02 asks; then a witness, figures, and
+-- wrong turns.
 
 -- ---- what is to be believed
 
@@ -31,11 +32,16 @@ pub mod Passing
 -- ---- the same script, marks apart
 
 pub mod Nameless
+pub mod InScope
 pub mod NextCopy
 pub mod Renaming
 pub mod Everywhere
 pub mod RowCases
 pub mod Unfolded
+-- ---- the same runs
+
+pub mod NamelessRun
+pub mod SameRuns
 -- ---- the run of old rows, the order, the counts
 
 pub mod OldRows

@@ -3,24 +3,29 @@
 -- In this order: the numbers; what is left with number 0, namely the words, the script, the check, the run of old rows and the
 -- counts; tables that come back. Assumes nothing.
 use Prim.Native.Nat.{ℕ, suc, _+_, _*_, _-_, _≤_, _<_}
-use mathlib.Core.Path.{_≡_, refl, sym, ap, _∙_}
+use mathlib.Core.Path.{_≡_, refl, sym, ap, subst, _∙_}
 use mathlib.Core.Logic.{_↔_, ⊎-elim}
 use mathlib.Core.List.{List, _++_, map}
 use mathlib.Core.Bool.{Bool, true}
 use native.Mathlib.Omega.{arith as linear}
 use lib.IntN.{ℤ, pos}
-use lib.ListN.{length, length-append, length-replicate, length-map}
+use lib.Dec.{T}
+use lib.ListN.{length, take, length-append, length-replicate, length-map}
 use Rattle.script.specs.declared.RowNumber.{RowNumber}
 use Rattle.script.specs.declared.ExpressionRow.the-variants.{Mark}
 use Rattle.script.specs.declared.Row.the-variants as Row
 use Rattle.script.specs.Rows.{parts, rows, row}
 use Rattle.script.specs.Refusals.{Verdict, accepted, refused, member, verdict}
-use Rattle.script.specs.Generated.{zeros}
+use Rattle.script.specs.Meaning.{Arithmetic, State, holds}
+use Rattle.script.specs.Run.{after, start, Total-correctness}
+use Rattle.script.specs.Generated.{zeros, outcome}
+use Rattle.script.specs.Promise.{List-valid}
 use Rattle.script.specs.Trees.{tree}
 use Rattle.theorems.specs.Lowest.{Lowest}
 use Rattle.theorems.specs.Accepted.{passed}
 use Rattle.theorems.specs.Links.{Link}
 use Rattle.theorems.specs.Standing.{Stands}
+use Rattle.theorems.specs.Demand.{keeps}
 use Rattle.mending.specs.Copies.{origins}
 use Rattle.mending.specs.NewTable.{renamed, part-places, new-table}
 use Rattle.mending.specs.Reached.{among}
@@ -28,13 +33,16 @@ use Rattle.mending.specs.Mended.{mend-verdict, Mended, refuse, mend, men
 use Rattle.mending.specs.Escape.{Escaping}
 use Rattle.mending.specs.Layout.{origin}
 use Rattle.mending.specs.Capped.{Too-long}
-use Rattle.mending.specs.Mendable.{Mendable, mendable, fits}
+use Rattle.mending.specs.Mendable.{Mendable, mendable, fits, falls-of}
 use Rattle.mending.specs.Numbers.{Mend-occasion, mend-numbers, some-number, Well-shaped, shaped-iff, parts-pass, thirteen, fourteen, mended-iff}
 use Rattle.mending.specs.Renew.{renew}
 use Rattle.mending.specs.NewRows.{new-rows, new-length}
 use Rattle.mending.specs.LinkedOnce.{Linked-once, linked-once, some-rows}
 use Rattle.mending.specs.Passing.{Passes, passes}
 use Rattle.mending.specs.Nameless.{nameless-tree, erased-tree}
+use Rattle.mending.specs.InScope.{Scoped-tree, scoped-tree}
+use Rattle.mending.specs.NamelessRun.{seen}
+use Rattle.mending.specs.SameRuns.{same-pre, same-steps, same-correct}
 use Rattle.mending.specs.Unfolded.{same-script, same-erased}
 use Rattle.mending.specs.OldRows.{marks-inside, none-escapes, row-right, links-right, mark-right}
 use Rattle.mending.specs.Order.{In-order, order-run, run-length, new-in-order}
@@ -165,6 +173,36 @@ module _ (t : List ℤ) (table-room origins-room : ℕ) where
     -- and with all marks forgotten
     pub same-forgotten : erased-tree (tree new) ≡ erased-tree (tree t)
     same-forgotten = same-erased t ok
+
+    -- so both run alike. From a state the precondition of one holds where that of the other does; after any number of steps both
+    -- runs are the same without names; and one keeps demand 3's promise exactly where the other does
+    module _ (𝔸 : Arithmetic) where
+      new-scoped : Scoped-tree (tree new)
+      new-scoped =
+          scoped-tree new (falls-of new (parts-pass new (passes t ok .row))) (omega (linear, new-rows t, some-rows t ok)) (λ k h. none-escapes t ok k)
+
+      old-scoped : Scoped-tree (tree t)
+      old-scoped = scoped-tree t (ok .falls) (ok .filled) (ok .inside)
+
+      pub same-start : (s : State) → holds 𝔸 s (tree new .pre) ≡ holds 𝔸 s (tree t .pre)
+      same-start s = same-pre 𝔸 (tree new) (tree t) new-scoped old-scoped same s s refl
+
+      pub same-run : (n : ℕ) (s : State) → seen (after 𝔸 n (start (tree new) s)) ≡ seen (after 𝔸 n (start (tree t) s))
+      same-run n s = same-steps 𝔸 (tree new) (tree t) new-scoped old-scoped same n s s refl
+
+      pub same-promise : (s : State) → Total-correctness 𝔸 (tree new) s ↔ Total-correctness 𝔸 (tree t) s
+      same-promise s = (
+        same-correct 𝔸 (tree new) (tree t) new-scoped old-scoped same s s refl,
+        same-correct 𝔸 (tree t) (tree new) old-scoped new-scoped (sym same) s s refl,
+      )
+
+      -- what is proved of the new table says it of the old one: if the new table is planned, and every condition of the list left is
+      -- true in all states, every run of the old script from a start that meets its precondition keeps the promise
+      pub proved-through : (list scratch : ℕ) → let o = outcome new list scratch in
+          o .answer .number ≡ 0 → List-valid 𝔸 (take (o .answer .words) (o .list))
+          → (s : State) → T (holds 𝔸 s (tree t .pre)) → Total-correctness 𝔸 (tree t) s
+      proved-through list scratch planned valid s h =
+          same-promise s .0 (keeps new list scratch 𝔸 planned valid s (subst T (sym (same-start s)) h))
 
     -- the new table passes 1 to 7 of the check
     pub checked : Passes new

@@ -1,29 +1,23 @@
 -- The next copy of a loop above a new row, to which `NewTable.renamed` takes its mark: one row up (`hits`, `misses`), and over
--- rows that came from rows below the loop (`skips`). What stands in a copy of row r came from rows up to r (`copied-old`), and
--- loops that enclose a row are above it (`above`). Assumes nothing.
+-- rows that came from rows below the loop (`skips`). What stands in a copy of row r came from rows up to r (`copied-old`).
+-- Assumes nothing.
 use Prim.Native.Nat.{ℕ, zero, suc, _+_, _≤_, _<_}
 use mathlib.Core.Path.{_≡_, sym, ap, _∙_}
-use mathlib.Core.Logic.{⊎-elim}
-use mathlib.Core.List.{List, _∷_}
-use mathlib.Core.Bool.{Bool, true, false, cond, false≢true}
+use mathlib.Core.List.{List}
 use native.Mathlib.Omega.{arith as linear}
 use native.Mathlib.Decide.{ℕ-discrete}
 use lib.IntN.{ℤ}
-use lib.Dec.{T, eqb, ltb, ltb→lt}
+use lib.Dec.{T, ltb, ltb→lt}
 use lib.ListN.{length}
 use lib.Seq.{drop-cons}
-use borrow.Author.Tests.{eqb-true, eq-eqb, ne-eqb}
-use Rattle.script.specs.declared.StatementRow.the-variants.{Skip, Assign, Sequence, If, While, Assert}
-use Rattle.script.specs.declared.Row.{Row}
+use borrow.Author.Tests.{eq-eqb, ne-eqb}
 use Rattle.script.specs.declared.Row.the-variants as Row
-use Rattle.script.specs.Rows.{Part, rows, row}
-use Rattle.script.specs.Refusals.{member, all-below}
+use Rattle.script.specs.Rows.{Part}
+use Rattle.script.specs.Refusals.{all-below}
 use Rattle.theorems.specs.Truths.{both}
-use Rattle.theorems.specs.Tests.{or-iff}
-use Rattle.theorems.specs.Standing.{inside-at, Stands, script, link}
 use Rattle.mending.specs.Copies.{origins}
 use Rattle.mending.specs.NewTable.{place-of, renamed}
-use Rattle.mending.specs.Falling.{by-order, link-below}
+use Rattle.mending.specs.Falling.{by-order}
 use Rattle.mending.specs.Layout.{origin, Copied, copy, Spread, none, more}
 use Rattle.mending.specs.Mendable.{Mendable}
 
@@ -69,30 +63,3 @@ module _ (t : List ℤ) (ok : Mendable t) where
   skips (suc d) j k m e h f =
       misses j m (omega linear) (λ x. let y = f (suc j) (omega linear) (omega linear) in omega linear)
       ∙ skips d (suc j) k m (omega linear) h (λ q a b. f q (omega linear) b)
-
-  -- ---- loops that enclose a row are above it
-
-  pub above : {r : ℕ} {code : Bool} {is : List ℕ} → Stands t r code is → (r < rows t) × ((m : ℕ) → member m is ≡ true → r < m)
-  above script = (let x = ok .filled in omega linear, λ m e. absurd (false≢true e))
-  above (link {r = r} {i = i} {k = k} {inside = is} S l) =
-      let u = above S in
-      let v = link-below t r (ok .falls r (u .0)) l in
-      (omega linear, λ m e. go (row t r) (u .1) v m e)
-    where
-      go : (w : Row) → ((m : ℕ) → member m is ≡ true → r < m) → k < r → (m : ℕ) → member m (inside-at r w i is) ≡ true → k < m
-      go (Row.Expression x) f v m e = let y = f m e in omega linear
-      go (Row.Formula x) f v m e = let y = f m e in omega linear
-      go (Row.Statement Skip) f v m e = let y = f m e in omega linear
-      go (Row.Statement (Assign x z)) f v m e = let y = f m e in omega linear
-      go (Row.Statement (Sequence x z)) f v m e = let y = f m e in omega linear
-      go (Row.Statement (If b x z)) f v m e = let y = f m e in omega linear
-      go (Row.Statement (While b n x)) f v m e = body (eqb i 2) e
-        where
-          body : (c : Bool) → member m (cond c (r ∷ is) is) ≡ true → k < m
-          body true e =
-              ⊎-elim (λ d. let y = eqb-true m r d in omega linear) (λ d. let y = f m d in omega linear) (or-iff (eqb m r) (member m is) .0 e)
-          body false e = let y = f m e in omega linear
-      go (Row.Statement (Assert x)) f v m e = let y = f m e in omega linear
-      go (Row.Note a b) f v m e = let y = f m e in omega linear
-      go (Row.Script p s q) f v m e = let y = f m e in omega linear
-      go Row.Unknown f v m e = let y = f m e in omega linear

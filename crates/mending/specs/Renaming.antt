@@ -28,8 +28,9 @@ use Rattle.mending.specs.NewTable.{renamed, part-places}
 use Rattle.mending.specs.Falling.{link-below}
 use Rattle.mending.specs.Layout.{origin, Copied, copy, Spread, none, more, copied-le, spread-le, spots, places-are, whole-copied}
 use Rattle.mending.specs.Mendable.{Mendable}
+use Rattle.mending.specs.InScope.{above, mark-within}
 use Rattle.mending.specs.Nameless.{index}
-use Rattle.mending.specs.NextCopy.{copied-old, hits, misses, skips, above}
+use Rattle.mending.specs.NextCopy.{copied-old, hits, misses, skips}
 
 module _ (t : List ℤ) (ok : Mendable t) where
   abbrev total : ℕ
@@ -96,7 +97,7 @@ module _ (t : List ℤ) (ok : Mendable t) where
   -- the scope of a part that is no body
   same-scope : {k r : ℕ} {is js : List ℕ} → Here k r is js → (j : ℕ) → j < k → ((q : ℕ) → j < q → q ≤ k → origin t q ≤ r) → k < total → Scoped j is js
   same-scope {k} {r} {is} {js} H j l f h m e =
-      let up = above t ok (H .place) .1 m e in
+      let up = above t (ok .falls) (ok .filled) (H .place) .1 m e in
       let R = H .scoped m e in
       let s = skips t ok (k - j) j k m (omega linear) h (λ q a b. let x = f q a b in omega linear) in
       record {
@@ -186,7 +187,7 @@ module _ (t : List ℤ) (ok : Mendable t) where
           (λ d. last-part s old-link (d ∙ ap (λ (v : Row). length (parts v)) (sym e))) h o)
 
   pub here-lower : {k r : ℕ} {is js : List ℕ} → Here k r is js → {p i : ℕ} → Link p i (parts (row t r)) → (p < r) × (getD (part-places t k r) i 0 < k)
-  here-lower {k} {r} H {p} {i} l = (link-below t r (ok .falls r (above t ok (H .place) .0)) l, go (H .copied))
+  here-lower {k} {r} H {p} {i} l = (link-below t r (ok .falls r (above t (ok .falls) (ok .filled) (H .place) .0)) l, go (H .copied))
     where
       go : {lo : ℕ} → Copied t lo k r → getD (part-places t k r) i 0 < k
       go (copy s o h b) =
@@ -194,8 +195,4 @@ module _ (t : List ℤ) (ok : Mendable t) where
 
   -- a mark stands inside the body of its loop
   pub mark-inside : {k r : ℕ} {is js : List ℕ} → Here k r is js → (m : RowNumber) → row t r ≡ Row.Expression (Mark m) → member (m .0) is ≡ true
-  mark-inside {k} {r} {is} H m e = go (member (m .0) is) refl
-    where
-      go : (b : Bool) → member (m .0) is ≡ b → b ≡ true
-      go true d = refl
-      go false d = absurd (ok .inside r (above t ok (H .place) .0) (m, e, (H .code, is, H .place, d)))
+  mark-inside H m e = mark-within t (ok .falls) (ok .filled) (ok .inside) (H .place) m e
