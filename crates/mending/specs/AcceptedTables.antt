@@ -1,7 +1,7 @@
--- A table that the check of 01 accepts is not refused by the mender, where the buffers hold it (`accepted-mended`); it keeps its
--- number of rows, with none dropped and none copied again (`as-many`, `accepted-dropped`, `accepted-copied`).
--- Argument: it passes 1 to 5, its marks stand inside the bodies of their loops, and one use of row r takes at most r + 1 rows,
--- since no row is linked twice. Assumes nothing.
+-- A table that the check of 01 accepts is not refused by the mender, where the buffers hold it (`accepted-mended`); it
+-- keeps its number of rows, with none dropped and none copied again (`as-many`, `accepted-dropped`, `accepted-copied`).
+-- Argument: it passes 1 to 5, its marks stand inside the bodies of their loops, and one use of row r takes at most r +
+-- 1 rows, since no row is linked twice. Assumes nothing.
 use Prim.Native.Nat.{ℕ, zero, suc, _+_, _*_, _-_, _≤_, _<_}
 use mathlib.Core.Path.{_≡_, refl, sym, ap, subst}
 use mathlib.Core.Logic.{⊎-elim}
@@ -28,7 +28,7 @@ use Rattle.mending.specs.Escape.{Escaping}
 use Rattle.mending.specs.Sizes.{size-step, total-is}
 use Rattle.mending.specs.Capped.{Too-long}
 use Rattle.mending.specs.Mendable.{Mendable}
-use Rattle.mending.specs.Numbers.{Well-shaped, shaped-iff, parts-pass, mended-iff}
+use Rattle.mending.specs.Occasions.{Well-shaped, shaped-iff, parts-pass, mended-iff}
 use Rattle.mending.specs.Counts.{whole-links, among-all, among-length, reached-origins, dropped-is, copied-is}
 
 sums-agree : (f : ℕ → ℕ) (ps : List Part) → part-sum f ps ≡ Counting.part-sum f ps
@@ -49,9 +49,11 @@ module _ (t : List ℤ) (good : verdict t ≡ accepted) where
   -- no more new rows than old ones
   pub no-more : length (origins t) ≤ rows t
   no-more =
-      let a = counted t facts (size t) (λ r h. let b = size-step t falls r h in let c = sums-agree (size t) (parts (row t r)) in omega linear)
-      (rows t - 1) (let x = facts .filled in omega linear) in
+      let a = counted t facts (size t) grows (rows t - 1) (let x = facts .filled in omega linear) in
       omega (linear, total-is t falls, facts .filled)
+    where
+      grows : (r : ℕ) → r < rows t → size t r ≤ suc (Counting.part-sum (size t) (parts (row t r)))
+      grows r h = omega (linear, size-step t falls r h, sums-agree (size t) (parts (row t r)))
 
   shaped : Well-shaped t
   shaped = shaped-iff t .0 (tests .length, parts-pass t (tests .row), tests .script)
@@ -62,7 +64,8 @@ module _ (t : List ℤ) (good : verdict t ≡ accepted) where
       wrong : Misplaced t q
       wrong = (E .2 .0, E .2 .1, E .2 .2, rw (E .1) (mark-outside (E .2 .3)))
 
-  pub accepted-mended : (table-room origins-room : ℕ) → 4 * length (origins t) ≤ table-room → length (origins t) ≤ origins-room
+  pub accepted-mended : (table-room origins-room : ℕ) → 4 * length (origins t) ≤ table-room
+      → length (origins t) ≤ origins-room
       → mend-verdict t table-room origins-room ≡ accepted
   accepted-mended table-room origins-room a b = mended-iff t table-room origins-room .1 (shaped, not-escaping, fits)
     where
@@ -88,7 +91,8 @@ module _ (t : List ℤ) (good : verdict t ≡ accepted) where
   all-among : (ok : Mendable t) → among (rows t) (origins t) ≡ rows t
   all-among ok =
       among-all (rows t) (origins t) (λ q h.
-      reached-origins t ok q .0 (reached-iff t (rows t) falls q (facts .filled) .1 (all-reached ok (rows t) q h (omega linear))))
+      reached-origins t ok q .0 (reached-iff t (rows t) falls q (facts .filled) .1
+      (all-reached ok (rows t) q h (omega linear))))
 
   -- an accepted table is at most put in another order: as many rows, none dropped, none copied again
   pub as-many : (ok : Mendable t) → length (origins t) ≡ rows t
@@ -98,4 +102,5 @@ module _ (t : List ℤ) (good : verdict t ≡ accepted) where
   accepted-dropped ok table-room origins-room = omega (linear, dropped-is t ok table-room origins-room, all-among ok)
 
   pub accepted-copied : (ok : Mendable t) (table-room origins-room : ℕ) → mend t table-room origins-room .copied ≡ 0
-  accepted-copied ok table-room origins-room = omega (linear, copied-is t ok table-room origins-room, all-among ok, as-many ok)
+  accepted-copied ok table-room origins-room =
+      omega (linear, copied-is t ok table-room origins-room, all-among ok, as-many ok)

@@ -1,5 +1,5 @@
--- The number of new rows without unfolding: one pass upward in which every sum stops at 2,049 gives it exactly, or 2,049
--- where it is more (`capped-exact`); so the test for 14 says what its words say (`too-long-iff`).
+-- The number of new rows without unfolding: one pass upward in which every sum stops at 2,049 gives it exactly, or
+-- 2,049 where it is more (`capped-exact`); so the test for 14 says what its words say (`too-long-iff`).
 -- Argument: a capped sum of capped numbers is the capped sum of the numbers (`stop`). Assumes nothing.
 use Prim.Native.Nat.{ℕ, zero, suc, _+_, _*_, _-_, _≤_, _<_, min}
 use mathlib.Core.Path.{_≡_, refl, sym, ap, subst, _∙_}
@@ -34,12 +34,18 @@ regroup : (a b c : ℕ) → a + (b + c) ≡ a + b + c
 regroup a b c = omega linear
 
 module _ (t : List ℤ) (f g : ℕ → ℕ) (r : ℕ) (capped : (k : ℕ) → k < r → f k ≡ min cap (g k)) where
-  capped-sum : (ps : List Part) (c : ℕ) → T (all-below t r ps) → min cap (c + part-sum f ps) ≡ min cap (c + part-sum g ps)
+  capped-sum : (ps : List Part) (c : ℕ) → T (all-below t r ps)
+      → min cap (c + part-sum f ps) ≡ min cap (c + part-sum g ps)
   unfolding part-sum
   capped-sum [] c h = refl
   capped-sum (p ∷ ps) c h =
       let b = both (ltb (p .at) r) (all-below t r ps) h in
-      rw (regroup c (f (p .at)) (part-sum f ps), regroup c (g (p .at)) (part-sum g ps), capped-sum ps (c + f (p .at)) (b .1), capped (p .at) (ltb→lt (p .at) r (b .0)))
+      rw (
+        regroup c (f (p .at)) (part-sum f ps),
+        regroup c (g (p .at)) (part-sum g ps),
+        capped-sum ps (c + f (p .at)) (b .1),
+        capped (p .at) (ltb→lt (p .at) r (b .0)),
+      )
       (stop c (g (p .at)) (part-sum g ps))
 
 -- ---- the pass
@@ -72,8 +78,10 @@ module _ (t : List ℤ) (falls : Falls t) where
 
       go : (k : ℕ) → Dec (k ≡ r) → k < suc r → getD (xs ++ (capped-at t xs r ∷ [])) k 0 ≡ min cap (size t k)
       go k (yes e) l =
-          getD-at xs (capped-at t xs r) [] 0 k (s .counted ∙ sym e) ∙ sum-is ∙ ap (λ (a : ℕ). min cap (size t a)) (sym e)
-      go k (no d) l = List·getD-append xs (capped-at t xs r ∷ []) 0 k (omega (linear, s .counted)) ∙ s .capped k (omega linear)
+          getD-at xs (capped-at t xs r) [] 0 k (s .counted ∙ sym e) ∙ sum-is
+          ∙ ap (λ (a : ℕ). min cap (size t a)) (sym e)
+      go k (no d) l =
+          List·getD-append xs (capped-at t xs r ∷ []) 0 k (omega (linear, s .counted)) ∙ s .capped k (omega linear)
 
   all-capped : (n r : ℕ) (xs : List ℕ) → n + r ≡ rows t → Sizes r xs → Sizes (rows t) (capped-from t n r xs)
   unfolding capped-from
@@ -81,7 +89,8 @@ module _ (t : List ℤ) (falls : Falls t) where
     where
       zero-plus : 0 + r ≡ rows t → r ≡ rows t
       zero-plus e = omega linear
-  all-capped (suc n) r xs e s = all-capped n (suc r) (xs ++ (capped-at t xs r ∷ [])) (omega linear) (one-more r xs (omega linear) s)
+  all-capped (suc n) r xs e s =
+      all-capped n (suc r) (xs ++ (capped-at t xs r ∷ [])) (omega linear) (one-more r xs (omega linear) s)
 
   -- the capped size of each row
   pub capped-row : (r : ℕ) → r < rows t → getD (capped-from t (rows t) 0 []) r 0 ≡ min cap (size t r)
@@ -107,7 +116,8 @@ module _ (table-room origins-room : ℕ) where
   tests n =
       Iff·trans (or-iff (ltb 2048 n) (ltb table-room (4 * n) || ltb origins-room n))
       (either (less 2048 n)
-      (Iff·trans (or-iff (ltb table-room (4 * n)) (ltb origins-room n)) (either (less table-room (4 * n)) (less origins-room n))))
+      (Iff·trans (or-iff (ltb table-room (4 * n)) (ltb origins-room n))
+      (either (less table-room (4 * n)) (less origins-room n))))
     where
       less : (a b : ℕ) → (ltb a b ≡ true) ↔ (a < b)
       less a b = (ltb-true a b, lt-ltb a b)
@@ -119,11 +129,13 @@ module _ (table-room origins-room : ℕ) where
     ⊎-elim (λ h. inl (omega linear)) (⊎-elim (λ h. few (λ l. inr (inl (omega linear)))) (λ h. few (λ l. inr (inr (omega linear))))),
   )
     where
-      few : (n ≤ 2048 → Passes-room table-room origins-room (min cap n)) → Passes-room table-room origins-room (min cap n)
+      few : (n ≤ 2048 → Passes-room table-room origins-room (min cap n))
+          → Passes-room table-room origins-room (min cap n)
       few f = by-order n 2048 f (λ l. inl (omega linear))
 
   pub too-long-iff : (t : List ℤ) → Falls t → 0 < rows t
       → (too-long table-room origins-room (capped-total t) ≡ true) ↔ Too-long t table-room origins-room
   too-long-iff t falls h =
-      subst (λ (n : ℕ). (too-long table-room origins-room n ≡ true) ↔ Too-long t table-room origins-room) (sym (capped-exact t falls h))
+      subst (λ (n : ℕ). (too-long table-room origins-room n ≡ true) ↔ Too-long t table-room origins-room)
+      (sym (capped-exact t falls h))
       (Iff·trans (tests (min cap (length (origins t)))) (told (length (origins t))))

@@ -1,7 +1,7 @@
--- 02, P7: "A mender writes a new table: from the last row down, parts left to right before their parent, a copy for every use,
--- unreachable rows dropped." The order, as a list of old rows; then how many they are, without unfolding.
--- In this order: what is gathered from parts; the old rows in the order of the new ones, and the size of a row; sizes capped at
--- one more than a table holds. Assumes nothing.
+-- 02, P7: "A mender writes a new table: from the last row down, parts left to right before their parent, a copy for
+-- every use, unreachable rows dropped." The order, as a list of old rows; then how many they are, without unfolding.
+-- In this order: what is gathered from parts; the old rows in the order of the new ones, and the size of a row; sizes
+-- capped at one more than a table holds. Assumes nothing.
 use Prim.Native.Nat.{ℕ, zero, suc, _+_, _-_, min}
 use mathlib.Core.List.{List, [], _∷_, _++_}
 use lib.IntN.{ℤ}
@@ -23,8 +23,8 @@ part-sum f (p ∷ ps) = f (p .at) + part-sum f ps
 -- ---- the order
 
 module _ (t : List ℤ) where
-  -- "parts left to right before their parent, a copy for every use": row r and the rows below it, each as often as it is used
-  -- there, in the order in which their copies stand; the first number bounds the depth
+  -- "parts left to right before their parent, a copy for every use": row r and the rows below it, each as often as it
+  -- is used there, in the order in which their copies stand; the first number bounds the depth
   unfoldable pub copies : ℕ → ℕ → List ℕ
   copies zero r = []
   copies (suc n) r = each (copies n) (parts (row t r)) ++ (r ∷ [])

@@ -1,5 +1,6 @@
--- The counts: the rows that the script reaches are those that new rows came from (`reached-origins`, `origins-stand`), so the rows dropped are
--- the others (`dropped-is`), and the rows copied again are the new rows less those (`copied-is`). Assumes nothing.
+-- The counts: the rows that the script reaches are those that new rows came from (`reached-origins`, `origins-stand`),
+-- so the rows dropped are the others (`dropped-is`), and the rows copied again are the new rows less those
+-- (`copied-is`). Assumes nothing.
 use Prim.Native.Nat.{ℕ, zero, suc, _+_, _-_, _≤_, _<_}
 use mathlib.Core.Path.{_≡_, refl, sym, ap, subst, _∙_}
 use mathlib.Core.Logic.{_↔_, inl, inr, ⊎-elim}
@@ -32,12 +33,15 @@ pub member-at : (q : ℕ) (xs : List ℕ) → (member q xs ≡ true) ↔ ((k : �
 member-at q [] = (λ e. absurd (false≢true e), λ h. absurd (let a = h .1 in omega linear))
 member-at q (x ∷ xs) = (out (member-at q xs .0), back (member-at q xs .1))
   where
-    out : (member q xs ≡ true → (k : ℕ) × (k < length xs) × (getD xs k 0 ≡ q)) → member q (x ∷ xs) ≡ true → (k : ℕ) × (k < suc (length xs)) × (getD (x ∷ xs) k 0 ≡ q)
+    out : (member q xs ≡ true → (k : ℕ) × (k < length xs) × (getD xs k 0 ≡ q)) → member q (x ∷ xs) ≡ true
+        → (k : ℕ) × (k < suc (length xs)) × (getD (x ∷ xs) k 0 ≡ q)
     out f e =
-        ⊎-elim (λ h. (0, omega linear, sym (eqb-true q x h))) (λ h. let m = f h in (suc (m .0), (let a = m .1 in omega linear), m .2))
+        ⊎-elim (λ h. (0, omega linear, sym (eqb-true q x h)))
+        (λ h. let m = f h in (suc (m .0), (let a = m .1 in omega linear), m .2))
         (or-iff (eqb q x) (member q xs) .0 e)
 
-    back : ((k : ℕ) × (k < length xs) × (getD xs k 0 ≡ q) → member q xs ≡ true) → (k : ℕ) × (k < suc (length xs)) × (getD (x ∷ xs) k 0 ≡ q) → member q (x ∷ xs) ≡ true
+    back : ((k : ℕ) × (k < length xs) × (getD xs k 0 ≡ q) → member q xs ≡ true)
+        → (k : ℕ) × (k < suc (length xs)) × (getD (x ∷ xs) k 0 ≡ q) → member q (x ∷ xs) ≡ true
     back f (zero, h, e) = or-iff (eqb q x) (member q xs) .1 (inl (eq-eqb q x (sym e)))
     back f (suc k, h, e) = or-iff (eqb q x) (member q xs) .1 (inr (f (k, omega linear, e)))
 
@@ -73,7 +77,8 @@ among-none zero = refl
 among-none (suc n) = let a = among-none n in omega linear
 
 among-high : (n x : ℕ) (xs : List ℕ) → n ≤ x → among n (x ∷ xs) ≡ among n xs
-among-high n x xs h = among-same n (x ∷ xs) xs (λ q l. ap (λ (b : Bool). b || member q xs) (ne-eqb q x (λ e. omega linear)))
+among-high n x xs h =
+    among-same n (x ∷ xs) xs (λ q l. ap (λ (b : Bool). b || member q xs) (ne-eqb q x (λ e. omega linear)))
 
 among-cons : (n x : ℕ) (xs : List ℕ) → among n (x ∷ xs) ≤ suc (among n xs)
 unfolding among
@@ -88,13 +93,16 @@ among-cons (suc n) x xs = go (ℕ-discrete n x) (among-cons n x xs)
 
     go : Dec (n ≡ x) → among n (x ∷ xs) ≤ suc (among n xs)
         → cond (eqb n x || member n xs) 1 0 + among n (x ∷ xs) ≤ suc (cond (member n xs) 1 0 + among n xs)
-    go (yes e) h = most (eqb n x || member n xs) (member n xs) (among n (x ∷ xs)) (among n xs) (same (among-high n x xs (omega linear)))
+    go (yes e) h =
+        most (eqb n x || member n xs) (member n xs) (among n (x ∷ xs)) (among n xs)
+        (same (among-high n x xs (omega linear)))
       where
         same : {a b : ℕ} → a ≡ b → a ≤ b
         same e = omega linear
     go (no d) h = rw (ne-eqb n x d) (step (member n xs) h)
       where
-        step : (b : Bool) → among n (x ∷ xs) ≤ suc (among n xs) → cond b 1 0 + among n (x ∷ xs) ≤ suc (cond b 1 0 + among n xs)
+        step : (b : Bool) → among n (x ∷ xs) ≤ suc (among n xs)
+            → cond b 1 0 + among n (x ∷ xs) ≤ suc (cond b 1 0 + among n xs)
         step true h = omega linear
         step false h = omega linear
 
@@ -115,18 +123,21 @@ In-script t q = (code : Bool) × (inside : List ℕ) × Stands t q code inside
 module _ (t : List ℤ) (ok : Mendable t) where
   pub whole-links : (r : ℕ) → r < rows t → uncut t (rows t) r ≡ parts (row t r)
   unfolding uncut
-  whole-links r h = ap (λ (b : Bool). cond b (outside (row t r)) (parts (row t r))) (ne-eqb r (rows t) (λ e. omega linear))
+  whole-links r h =
+      ap (λ (b : Bool). cond b (outside (row t r)) (parts (row t r))) (ne-eqb r (rows t) (λ e. omega linear))
 
   stands-path : {r : ℕ} {code : Bool} {is : List ℕ} → Stands t r code is → Path t (rows t) r
   stands-path script = top
   stands-path (link {r = r} {i = i} {k = k} S l) =
-      down (stands-path S) (subst (λ (ps : List Part). Link k i ps) (sym (whole-links r (above t (ok .falls) (ok .filled) S .0))) l)
+      down (stands-path S) (subst (λ (ps : List Part). Link k i ps)
+      (sym (whole-links r (above t (ok .falls) (ok .filled) S .0))) l)
 
   path-copied : {r : ℕ} → Path t (rows t) r → (k : ℕ) × (is : List ℕ) × (js : List ℕ) × Here t ok k r is js
   path-copied top = (length (origins t) - 1, [], [], here-top t ok)
   path-copied (down {r = r} {i = i} {k = q} p l) =
       let C = path-copied p in
-      let l′ = subst (λ (ps : List Part). Link q i ps) (whole-links r (path-row t (rows t) (ok .falls) (ok .filled) p)) l in
+      let l′ =
+      subst (λ (ps : List Part). Link q i ps) (whole-links r (path-row t (rows t) (ok .falls) (ok .filled) p)) l in
       (getD (part-places t (C .0) r) i 0, _, _, here-part t ok (C .3) (row t r) refl l′)
 
   -- the script reaches exactly the rows that new rows came from
@@ -144,11 +155,13 @@ module _ (t : List ℤ) (ok : Mendable t) where
           let m = member-at q (origins t) .0 e in
           let S = here-at t ok (m .0) (m .1) in
           let same : S .old ≡ q = sym (came t ok (S .place) .0) ∙ m .2 in
-          reached-iff t (rows t) (ok .falls) q (ok .filled) .1 (subst (λ (x : ℕ). Path t (rows t) x) same (stands-path (S .place .place)))
+          reached-iff t (rows t) (ok .falls) q (ok .filled) .1
+          (subst (λ (x : ℕ). Path t (rows t) x) same (stands-path (S .place .place)))
 
   -- "unreachable rows dropped": these are the rows that stand in the script
   pub origins-stand : (q : ℕ) → (member q (origins t) ≡ true) ↔ In-script t q
-  origins-stand q = (out, λ S. reached-origins q .0 (reached-iff t (rows t) (ok .falls) q (ok .filled) .1 (stands-path (S .2))))
+  origins-stand q =
+      (out, λ S. reached-origins q .0 (reached-iff t (rows t) (ok .falls) q (ok .filled) .1 (stands-path (S .2))))
     where
       out : member q (origins t) ≡ true → In-script t q
       out e =
@@ -165,17 +178,21 @@ module _ (t : List ℤ) (ok : Mendable t) where
   -- how many old rows the new rows came from
   pub reached-are : reached-rows t ≡ among (rows t) (origins t)
   unfolding reached-rows
-  reached-are = among-same (rows t) (reached t (rows t)) (origins t) (λ q h. agree (member q (reached t (rows t))) (member q (origins t)) (reached-origins q))
+  reached-are =
+      among-same (rows t) (reached t (rows t)) (origins t)
+      (λ q h. agree (member q (reached t (rows t))) (member q (origins t)) (reached-origins q))
 
   -- "rows dropped": those of the old rows that no new row came from
-  pub dropped-is : (table-room origins-room : ℕ) → mend t table-room origins-room .dropped + among (rows t) (origins t) ≡ rows t
+  pub dropped-is : (table-room origins-room : ℕ)
+      → mend t table-room origins-room .dropped + among (rows t) (origins t) ≡ rows t
   dropped-is table-room origins-room =
       let a = reached-are in
       let b = among-below (rows t) (origins t) in
       omega linear
 
   -- "rows copied again (new rows less old ones reached)"
-  pub copied-is : (table-room origins-room : ℕ) → mend t table-room origins-room .copied + among (rows t) (origins t) ≡ length (origins t)
+  pub copied-is : (table-room origins-room : ℕ)
+      → mend t table-room origins-room .copied + among (rows t) (origins t) ≡ length (origins t)
   copied-is table-room origins-room =
       let a = reached-are in
       let b = among-length (rows t) (origins t) in

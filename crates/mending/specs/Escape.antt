@@ -1,7 +1,7 @@
--- Number 13 as it is worded: "when some use of a mark that the script reaches is not inside the body of its loop", "with the
--- lowest such old row" (`mark-exact`).
--- Argument: a row stands outside the body of loop m in some use exactly where a path reaches it that does not take the link
--- of m to its body (`outside-iff`). Assumes nothing.
+-- Number 13 as it is worded: "when some use of a mark that the script reaches is not inside the body of its loop",
+-- "with the lowest such old row" (`mark-exact`).
+-- Argument: a row stands outside the body of loop m in some use exactly where a path reaches it that does not take the
+-- link of m to its body (`outside-iff`). Assumes nothing.
 use Prim.Native.Nat.{ℕ, _<_}
 use mathlib.Core.Path.{_≡_, refl, sym, subst, _∙_}
 use mathlib.Core.Logic.{_↔_}
@@ -77,7 +77,8 @@ kept r m Row.Unknown inside h false e l = (l, h)
 abbrev Uncut : ℕ → ℕ → Row → ℕ → ℕ → List ℕ → Bool → Type 0
 Uncut r m w i k inside b = Link k i (cond b (outside w) (parts w)) × (member m inside ≡ false)
 
-free : (r m : ℕ) (w : Row) {i k : ℕ} (inside : List ℕ) → Link k i (parts w) → member m (inside-at r w i inside) ≡ false → (b : Bool)
+free : (r m : ℕ) (w : Row) {i k : ℕ} (inside : List ℕ) → Link k i (parts w) → member m (inside-at r w i inside) ≡ false
+    → (b : Bool)
     → eqb r m ≡ b → Uncut r m w i k inside b
 unfolding outside
 free r m (Row.Expression x) inside l h true e = (l, h)
@@ -157,16 +158,19 @@ module _ (t : List ℤ) (falls : Falls t) (filled : 0 < rows t) where
   unfolding escapes
   found q (Row.Expression (Mark m)) e = (
     λ h. (m, e, outside-iff t (m .0) q .0 (reached-iff t (m .0) falls q filled .0 h)),
-    λ h. reached-iff t (m .0) falls q filled .1 (outside-iff t (m .0) q .1 (subst (λ (x : ℕ). Use-outside t x q) (named h) (h .2))),
+    λ h. reached-iff t (m .0) falls q filled .1
+        (outside-iff t (m .0) q .1 (subst (λ (x : ℕ). Use-outside t x q) (named h) (h .2))),
   )
     where
       named : (h : Escaping t q) → h .0 .0 ≡ m .0
       named h = let d : Row.Expression (Mark (h .0)) ≡ Row.Expression (Mark m) = sym (h .1) ∙ e in cc
   found q (Row.Expression (Constant z)) e = (λ h. absurd (false≢true h), λ h. absurd (subst A-mark (sym (h .1) ∙ e) tt))
   found q (Row.Expression (Variable v)) e = (λ h. absurd (false≢true h), λ h. absurd (subst A-mark (sym (h .1) ∙ e) tt))
-  found q (Row.Expression (Arithmetic o a b)) e = (λ h. absurd (false≢true h), λ h. absurd (subst A-mark (sym (h .1) ∙ e) tt))
+  found q (Row.Expression (Arithmetic o a b)) e =
+      (λ h. absurd (false≢true h), λ h. absurd (subst A-mark (sym (h .1) ∙ e) tt))
   found q (Row.Expression (Negate a)) e = (λ h. absurd (false≢true h), λ h. absurd (subst A-mark (sym (h .1) ∙ e) tt))
-  found q (Row.Expression (Choose f a b)) e = (λ h. absurd (false≢true h), λ h. absurd (subst A-mark (sym (h .1) ∙ e) tt))
+  found q (Row.Expression (Choose f a b)) e =
+      (λ h. absurd (false≢true h), λ h. absurd (subst A-mark (sym (h .1) ∙ e) tt))
   found q (Row.Formula x) e = (λ h. absurd (false≢true h), λ h. absurd (subst A-mark (sym (h .1) ∙ e) tt))
   found q (Row.Statement x) e = (λ h. absurd (false≢true h), λ h. absurd (subst A-mark (sym (h .1) ∙ e) tt))
   found q (Row.Note i v) e = (λ h. absurd (false≢true h), λ h. absurd (subst A-mark (sym (h .1) ∙ e) tt))

@@ -1,6 +1,7 @@
--- Every new row has its place in the script (`here-at`), and every place of a row in the new script is one of these (`here-of`).
--- Argument: down from the script, a place inside a copy is its own row's or inside the copy of one part (`covered`); and each link of
--- a new row is the copy of a link of its old row (`old-link`). Assumes nothing.
+-- Every new row has its place in the script (`here-at`), and every place of a row in the new script is one of these
+-- (`here-of`).
+-- Argument: down from the script, a place inside a copy is its own row's or inside the copy of one part (`covered`);
+-- and each link of a new row is the copy of a link of its old row (`old-link`). Assumes nothing.
 use Prim.Native.Nat.{ℕ, zero, suc, _+_, _-_, _≤_, _<_}
 use mathlib.Core.Path.{_≡_, refl, sym, ap, subst, _∙_}
 use mathlib.Core.List.{List, []}
@@ -71,9 +72,11 @@ module _ (t : List ℤ) (ok : Mendable t) where
       go : {lo : ℕ} → Copied t lo k r → Covering (parts (row t r)) (part-places t k r) q
       go {lo} (copy s e x y) =
           let z = extent t (ok .falls) (copy s e x y) in
-          subst (λ (l : List ℕ). Covering (parts (row t r)) l q) (sym (places-are t (ok .falls) r s)) (cover s q (omega linear) (omega linear))
+          subst (λ (l : List ℕ). Covering (parts (row t r)) l q) (sym (places-are t (ok .falls) r s))
+          (cover s q (omega linear) (omega linear))
 
-  descend : (n : ℕ) {k r : ℕ} {is js : List ℕ} → k < n → Here t ok k r is js → (q : ℕ) → q ≤ k → suc k ≤ q + size t r → Somewhere q
+  descend : (n : ℕ) {k r : ℕ} {is js : List ℕ} → k < n → Here t ok k r is js → (q : ℕ) → q ≤ k → suc k ≤ q + size t r
+      → Somewhere q
   descend zero h H q a b = absurd (omega linear)
   descend (suc n) {k} {r} {is} {js} h H q a b =
       last (ℕ-discrete q k) (λ d.
@@ -97,7 +100,8 @@ module _ (t : List ℤ) (ok : Mendable t) where
       go (copy s e h i) = (e, h, i)
 
   -- the row of new row k
-  pub renewed-row : {k r : ℕ} {is js : List ℕ} → Here t ok k r is js → row u k ≡ renew (renamed t k) (part-places t k r) (row t r)
+  pub renewed-row : {k r : ℕ} {is js : List ℕ} → Here t ok k r is js
+      → row u k ≡ renew (renamed t k) (part-places t k r) (row t r)
   renewed-row H = let c = came H in row-is t ok (c .0) (c .1) (c .2)
 
   -- ---- every place in the new script
@@ -118,7 +122,8 @@ module _ (t : List ℤ) (ok : Mendable t) where
           let x = spot-link s (subst (λ (ps : List Part). Link j i ps) (new-parts t ok r s e h b) l) in
           (x .0, x .1, ap (λ (ps : List ℕ). getD ps i 0) (places-are t (ok .falls) r s) ∙ x .2)
 
-  inside-renewed : (ρ : ℕ → ℕ) (pl : List ℕ) (k i : ℕ) (js : List ℕ) (w : Row) → inside-at k (renew ρ pl w) i js ≡ inside-at k w i js
+  inside-renewed : (ρ : ℕ → ℕ) (pl : List ℕ) (k i : ℕ) (js : List ℕ) (w : Row)
+      → inside-at k (renew ρ pl w) i js ≡ inside-at k w i js
   inside-renewed ρ pl k i js (Row.Expression (Constant z)) = refl
   inside-renewed ρ pl k i js (Row.Expression (Variable v)) = refl
   inside-renewed ρ pl k i js (Row.Expression (Arithmetic o a b)) = refl
@@ -147,7 +152,8 @@ module _ (t : List ℤ) (ok : Mendable t) where
 
   pub here-of : {k : ℕ} {code : Bool} {js : List ℕ} → Stands u k code js → Place k js
   here-of script =
-      subst (λ (x : ℕ). Place x []) (ap (λ (n : ℕ). n - 1) (sym (new-rows t))) (record { old = rows t - 1; loops = []; place = here-top t ok })
+      subst (λ (x : ℕ). Place x []) (ap (λ (n : ℕ). n - 1) (sym (new-rows t)))
+      (record { old = rows t - 1; loops = []; place = here-top t ok })
   here-of (link {r = k} {i = i} {k = p} {inside = js} S l) = go (here-of S)
     where
       go : Place k js → Place p (inside-at k (row u k) i js)
@@ -156,7 +162,8 @@ module _ (t : List ℤ) (ok : Mendable t) where
           let r = P .old in
           let o = old-link H l in
           let same : inside-at k (row u k) i js ≡ inside-at k (row t r) i js =
-          ap (λ (w : Row). inside-at k w i js) (renewed-row H) ∙ inside-renewed (renamed t k) (part-places t k r) k i js (row t r) in
+          ap (λ (w : Row). inside-at k w i js) (renewed-row H)
+          ∙ inside-renewed (renamed t k) (part-places t k r) k i js (row t r) in
           subst (λ (l : List ℕ). Place p l) (sym same)
           (subst (λ (x : ℕ). Place x (inside-at k (row t r) i js)) (o .2)
           (record { old = o .0; loops = inside-at r (row t r) i (P .loops); place = here-part t ok H (row t r) refl (o .1) }))

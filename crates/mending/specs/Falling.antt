@@ -40,7 +40,8 @@ link-below t r h (here {p = p} {ps = ps} e) =
 link-below t r h (there {p = p} {ps = ps} l) = link-below t r (both (ltb (p .at) r) (all-below t r ps) h .1) l
 
 -- the links of a row, with or without that of a loop to its body
-pub outside-below : (t : List ℤ) (r : ℕ) (b : Bool) (w : Row) → T (all-below t r (parts w)) → T (all-below t r (cond b (outside w) (parts w)))
+pub outside-below : (t : List ℤ) (r : ℕ) (b : Bool) (w : Row) → T (all-below t r (parts w))
+    → T (all-below t r (cond b (outside w) (parts w)))
 unfolding outside
 outside-below t r false w h = h
 outside-below t r true (Row.Expression x) h = h

@@ -1,5 +1,6 @@
--- Fields and the words that they are read from: each link and each loop is the number in its word (`row-agrees`), so where links
--- and loops are renewed to themselves, the words are kept (`renewed-same`). By cases on kinds, rows and fields. Assumes nothing.
+-- Fields and the words that they are read from: each link and each loop is the number in its word (`row-agrees`), so
+-- where links and loops are renewed to themselves, the words are kept (`renewed-same`). By cases on kinds, rows and
+-- fields. Assumes nothing.
 use Prim.Native.Nat.{ℕ, suc, _<_}
 use mathlib.Core.Path.{_≡_, refl, ap}
 use mathlib.Core.List.{List, [], _∷_}
@@ -44,7 +45,8 @@ module _ (a b c : ℤ) where
       two : (field-number a ≡ field-number a) × ((field-number b ≡ field-number b) × Unit {0})
       two = (refl, (refl, tt))
 
-      three : (field-number a ≡ field-number a) × ((field-number b ≡ field-number b) × ((field-number c ≡ field-number c) × Unit {0}))
+      three : (field-number a ≡ field-number a)
+          × ((field-number b ≡ field-number b) × ((field-number c ≡ field-number c) × Unit {0}))
       three = (refl, (refl, (refl, tt)))
 
 -- ---- fields renewed to themselves
@@ -71,7 +73,8 @@ same-word n (pos x) e h = ap pos e
 same-word n (negsuc x) e h = absurd (omega linear)
 
 pub renewed-same : (ρ : ℕ → ℕ) (pl : List ℕ) (i : ℕ) (fs : List Field) (ws : List ℤ) → Agrees fs ws
-    → Linked (λ i p. (getD pl i 0 ≡ p) × (p < limit)) i fs → Loops (λ m. (ρ m ≡ m) × (m < limit)) fs → renewed ρ pl i fs ws ≡ ws
+    → Linked (λ i p. (getD pl i 0 ≡ p) × (p < limit)) i fs → Loops (λ m. (ρ m ≡ m) × (m < limit)) fs
+    → renewed ρ pl i fs ws ≡ ws
 unfolding renewed
 renewed-same ρ pl i [] ws a l m = refl
 renewed-same ρ pl i (f ∷ fs) [] a l m = refl

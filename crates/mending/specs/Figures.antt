@@ -1,5 +1,5 @@
--- 02, P7, by computation: what becomes of shared parts and marks, unreachable rows, each number, and the edges of 14. Random tables
--- are in `RandomFigures`. Assumes nothing.
+-- 02, P7, by computation: what becomes of shared parts and marks, unreachable rows, each number, and the edges of 14.
+-- Random tables are in `RandomFigures`. Assumes nothing.
 use Prim.Native.Nat.{ℕ, zero, suc, _+_, _-_}
 use mathlib.Core.Path.{_≡_, refl}
 use mathlib.Core.List.{List, [], _∷_, _++_, map}
@@ -246,7 +246,8 @@ doubled n = doubling n ++ ((19, n, n, 0) ⨾ (32, 0, 0, 0) ⨾ (48, n + 1, n + 2
 unfoldable pub doubled-more : ℕ → List ℤ
 doubled-more n = doubling n ++ ((19, n, n, 0) ⨾ (22, n + 1, 0, 0) ⨾ (32, 0, 0, 0) ⨾ (48, n + 2, n + 3, n + 1) ⨾ [])
 
--- 2,048 new rows pass, in buffers that just hold them; 2,049 do not, in buffers of any length; doubled 50 times, and 300 times by the last test alone, is 14
+-- 2,048 new rows pass, in buffers that just hold them; 2,049 do not, in buffers of any length; doubled 50 times, and
+-- 300 times by the last test alone, is 14
 pub sizes-told : (mend-verdict (doubled 8) 8192 2048 ≡ accepted) × (mend-verdict (doubled 8) 8191 2048 ≡ refused 14 0)
     × (mend-verdict (doubled 8) 8192 2047 ≡ refused 14 0) × (mend-verdict (doubled-more 8) 8192 2048 ≡ refused 14 0)
     × (mend-verdict (doubled-more 8) 9000 9000 ≡ refused 14 0) × (mend-verdict (doubled 9) 9000 9000 ≡ refused 14 0)

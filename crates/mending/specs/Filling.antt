@@ -1,7 +1,8 @@
--- Laws for the code, which writes the new table in one pass from its last row down, without a stack: the run of old rows is
--- its own list of work. When the pass comes to new row k, some row above has put there the old row of k; the pass puts the
--- parts of that row at their places, which are below k (`filled`). The capped sizes are exact wherever a copy stands
--- (`exact-row`). A mark's loop is the last copy of it that the pass came by (`renamed-step`). Assumes nothing.
+-- Laws for the code, which writes the new table in one pass from its last row down, without a stack: the run of old
+-- rows is its own list of work. When the pass comes to new row k, some row above has put there the old row of k; the
+-- pass puts the parts of that row at their places, which are below k (`filled`). The capped sizes are exact wherever a
+-- copy stands (`exact-row`). A mark's loop is the last copy of it that the pass came by (`renamed-step`). Assumes
+-- nothing.
 use Prim.Native.Nat.{ℕ, zero, suc, _-_, _≤_, _<_, min}
 use mathlib.Core.Path.{_≡_, refl, sym, subst, _∙_}
 use mathlib.Core.List.{List, [], _∷_}
@@ -21,7 +22,8 @@ use Rattle.mending.specs.Reached.{targets}
 use Rattle.mending.specs.Layout.{origin, Copied, copy, Spread, none, more, spots, places-are, whole-copied, extent}
 use Rattle.mending.specs.Capped.{capped-row}
 use Rattle.mending.specs.NewLinks.{new-parts, copied-parts}
-use Rattle.mending.specs.LinkedOnce.{some-rows, New-link, new-falls, some-link}
+use Rattle.mending.specs.InnerCopies.{some-rows, New-link, new-falls}
+use Rattle.mending.specs.LinkedOnce.{some-link}
 use Rattle.mending.specs.Mendable.{Mendable}
 use Rattle.mending.specs.NextCopy.{hits, misses}
 use Rattle.mending.specs.Everywhere.{here-at, came}
@@ -70,7 +72,8 @@ module _ (t : List ℤ) (ok : Mendable t) where
   copied-from : {lo j r : ℕ} → Copied t lo j r → (r ≡ origin t j) × (j < total)
   copied-from (copy s e h i) = (sym e, h)
 
-  put-keeps : {lo k : ℕ} {ps : List Part} (s : Spread t lo k ps) (xs : List ℕ) → total ≤ length xs → (j : ℕ) → Right xs j
+  put-keeps : {lo k : ℕ} {ps : List Part} (s : Spread t lo k ps) (xs : List ℕ) → total ≤ length xs → (j : ℕ)
+      → Right xs j
       → Right (Put s xs) j
   unfolding put spots targets
   put-keeps none xs h j e = e
@@ -87,7 +90,8 @@ module _ (t : List ℤ) (ok : Mendable t) where
       let l = length-set xs q (p .at) in
       put-keeps s (set xs q (p .at)) (omega linear) j
       (subst (λ (x : ℕ). Right (set xs q (p .at)) x) e (getD-set-same xs q (p .at) 0 (omega linear) ∙ d .0))
-  put-hits (more {j = q} {p = p} c s) xs h (there l) = put-hits s (set xs q (p .at)) (omega (linear, length-set xs q (p .at))) l
+  put-hits (more {j = q} {p = p} c s) xs h (there l) =
+      put-hits s (set xs q (p .at)) (omega (linear, length-set xs q (p .at))) l
 
   -- ---- the pass
 
@@ -114,11 +118,13 @@ module _ (t : List ℤ) (ok : Mendable t) where
       let S = here-at t ok k h in
       let c = came t ok (S .place) in
       let e : getD xs k 0 ≡ S .old = due (suc k) k F (omega linear) h ∙ c .0 in
-      subst (λ (r : ℕ). Filled k (put (part-places t k r) (targets (parts (row t r))) xs)) (sym e) (go (S .place .copied))
+      subst (λ (r : ℕ). Filled k (put (part-places t k r) (targets (parts (row t r))) xs)) (sym e)
+      (go (S .place .copied))
     where
       go : {lo r : ℕ} → Copied t lo k r → Filled k (put (part-places t k r) (targets (parts (row t r))) xs)
       go {lo} {r} (copy s o i b) =
-          subst (λ (ps : List ℕ). Filled k (put ps (targets (parts (row t r))) xs)) (sym (places-are t (ok .falls) r s)) (record {
+          subst (λ (ps : List ℕ). Filled k (put ps (targets (parts (row t r))) xs)) (sym (places-are t (ok .falls) r s))
+          (record {
             long = omega (linear, put-length (spots t s) (targets (parts (row t r))) xs, F .long);
             last = put-keeps s xs (F .long) (total - 1) (F .last);
             linked = λ q j a d l. own q j a d l (ℕ-discrete q k);
@@ -147,7 +153,8 @@ module _ (t : List ℤ) (ok : Mendable t) where
       let start : Filled total first = record {
         long = omega (linear, length-set empty (total - 1) (rows t - 1), long);
         last =
-            getD-set-same empty (total - 1) (rows t - 1) 0 (omega linear) ∙ copied-from (whole-copied t (ok .falls) (ok .filled)) .0;
+            getD-set-same empty (total - 1) (rows t - 1) 0 (omega linear)
+            ∙ copied-from (whole-copied t (ok .falls) (ok .filled)) .0;
         linked = λ q j a b l. absurd (omega linear);
       } in
       due 0 j (fill-filled total first (omega linear) start) (omega linear) l
@@ -170,7 +177,8 @@ module _ (t : List ℤ) (ok : Mendable t) where
   -- ---- marks
 
   -- one row down: the row that the pass leaves becomes the last copy of its old row
-  pub renamed-step : (j m : ℕ) → suc j < total → renamed t j m ≡ cond (eqb (origin t (suc j)) m) (suc j) (renamed t (suc j) m)
+  pub renamed-step : (j m : ℕ) → suc j < total
+      → renamed t j m ≡ cond (eqb (origin t (suc j)) m) (suc j) (renamed t (suc j) m)
   renamed-step j m h = go (eqb (origin t (suc j)) m) refl
     where
       go : (b : Bool) → eqb (origin t (suc j)) m ≡ b → renamed t j m ≡ cond b (suc j) (renamed t (suc j) m)

@@ -1,5 +1,6 @@
--- What stays of a row whose fields are renewed: how many they are, the words after them, numbers in range; and that a mark is
--- renamed to a row of the table. For numbers 3 of the check. Each by induction over fields or places. Assumes nothing.
+-- What stays of a row whose fields are renewed: how many they are, the words after them, numbers in range; and that a
+-- mark is renamed to a row of the table. For number 3 of the check. Each by induction over fields or places. Assumes
+-- nothing.
 use Prim.Native.Nat.{ℕ, suc, _+_, _≤_, _<_}
 use mathlib.Core.Path.{_≡_, refl, ap}
 use mathlib.Core.List.{List, [], _∷_}
@@ -24,7 +25,8 @@ place-below m k (x ∷ xs) n h l = go (eqb m x) (place-below m (suc k) xs n h (o
     go false s = s
 
 -- the words after the fields are kept
-pub rest-kept : (ρ : ℕ → ℕ) (js : List ℕ) (i : ℕ) (fs : List Field) (ws : List ℤ) → drop (length fs) (renewed ρ js i fs ws) ≡ drop (length fs) ws
+pub rest-kept : (ρ : ℕ → ℕ) (js : List ℕ) (i : ℕ) (fs : List Field) (ws : List ℤ)
+    → drop (length fs) (renewed ρ js i fs ws) ≡ drop (length fs) ws
 unfolding renewed
 rest-kept ρ js i [] ws = refl
 rest-kept ρ js i (f ∷ fs) [] = refl
@@ -34,7 +36,8 @@ rest-kept ρ js i (target v ∷ fs) (w ∷ ws) = rest-kept ρ js i fs ws
 rest-kept ρ js i (loop m ∷ fs) (w ∷ ws) = rest-kept ρ js i fs ws
 rest-kept ρ js i (link s r ∷ fs) (w ∷ ws) = rest-kept ρ js (suc i) fs ws
 
-pub same-length : (ρ : ℕ → ℕ) (js : List ℕ) (i : ℕ) (fs : List Field) (ws : List ℤ) → length (renewed ρ js i fs ws) ≡ length ws
+pub same-length : (ρ : ℕ → ℕ) (js : List ℕ) (i : ℕ) (fs : List Field) (ws : List ℤ)
+    → length (renewed ρ js i fs ws) ≡ length ws
 unfolding renewed
 same-length ρ js i [] ws = refl
 same-length ρ js i (f ∷ fs) [] = refl
@@ -61,7 +64,8 @@ fields-count ρ js i (loop m ∷ fs) = ap suc (fields-count ρ js i fs)
 fields-count ρ js i (link s r ∷ fs) = ap suc (fields-count ρ js (suc i) fs)
 
 -- numbers in range stay so, where marks are renamed to rows of the table
-pub still-ranged : (t u : List ℤ) (ρ : ℕ → ℕ) → ((m : ℕ) → ρ m < rows u) → (js : List ℕ) (i : ℕ) (fs : List Field) → T (in-range t fs)
+pub still-ranged : (t u : List ℤ) (ρ : ℕ → ℕ) → ((m : ℕ) → ρ m < rows u) → (js : List ℕ) (i : ℕ) (fs : List Field)
+    → T (in-range t fs)
     → T (in-range u (renew-fields ρ js i fs))
 still-ranged t u ρ f js i [] h = tt
 still-ranged t u ρ f js i (value ∷ fs) h = still-ranged t u ρ f js i fs h

@@ -1,7 +1,7 @@
--- The new table's links fall (`new-falls`), each row but the last is linked (`some-link`), and none twice (`one-link` by two
--- rows, `one-field` by two fields): exactly once (`linked-once`).
--- Argument, on the layout of the run: the links of a row inside a copy stay inside it (`stays`), and the copies of a row's parts
--- do not overlap. Assumes nothing.
+-- In the new table each row but the last is linked (`some-link`), and none twice (`one-link` by two rows, `one-field`
+-- by two fields): exactly once (`linked-once`).
+-- Argument, on the layout of the run: the links of a row inside a copy stay inside it (`InnerCopies.stays`), and the
+-- copies of a row's parts do not overlap. Assumes nothing.
 use Prim.Native.Nat.{ℕ, zero, suc, _≤_, _<_}
 use mathlib.Core.Path.{_≡_, sym, subst}
 use mathlib.Core.Logic.{_⊎_, inl, inr, ⊎-elim}
@@ -15,10 +15,11 @@ use Rattle.theorems.specs.Links.{Link, here, there, Links-to}
 use Rattle.mending.specs.Copies.{origins}
 use Rattle.mending.specs.NewTable.{new-table}
 use Rattle.mending.specs.Falling.{by-order}
-use Rattle.mending.specs.Layout.{Copied, copy, Spread, none, more, copied-le, spread-le, whole-copied}
+use Rattle.mending.specs.Layout.{Copied, copy, Spread, none, more, spread-le, whole-copied}
 use Rattle.mending.specs.Mendable.{Mendable}
 use Rattle.mending.specs.NewRows.{new-rows}
 use Rattle.mending.specs.NewLinks.{copied-parts, new-parts}
+use Rattle.mending.specs.InnerCopies.{inner-at, link-within, New-link, stays, spread-stays}
 
 -- one link of a table goes to row j
 pub record Linked-once (u : List ℤ) (j : ℕ) : Type 0 where
@@ -34,111 +35,46 @@ link-take (suc n) (here e) h = here e
 link-take (suc n) (there l) h = there (link-take n l (omega linear))
 
 module _ (t : List ℤ) (ok : Mendable t) where
-  pub some-rows : 0 < length (origins t)
-  some-rows = at-end (whole-copied t (ok .falls) (ok .filled))
-    where
-      at-end : {lo k r : ℕ} → Copied t lo k r → 0 < length (origins t)
-      at-end (copy s e h i) = omega linear
-
-  -- ---- inside a copy
-
-  -- a copy that ends at q and starts no lower than lo
-  pub record Inner (lo q : ℕ) : Type 0 where
-    pub start : ℕ
-    pub above : lo ≤ start
-    pub old : ℕ
-    pub copied : Copied t start q old
-
-  weaken : {lo hi q : ℕ} → lo ≤ hi → Inner hi q → Inner lo q
-  weaken l i = record { start = i .start; above = omega (linear, i .above); old = i .old; copied = i .copied }
-
-  mutual
-    pub inner : {lo k r : ℕ} → Copied t lo k r → (q : ℕ) → lo ≤ q → q ≤ k → Inner lo q
-    inner {lo} {k} {r} (copy s e h i) q a b = last (ℕ-discrete q k) (λ l. spread-inner s q a l)
-      where
-        last : Dec (q ≡ k) → (q < k → Inner lo q) → Inner lo q
-        last (yes d) f = subst (λ (x : ℕ). Inner lo x) (sym d) (record { start = lo; above = omega linear; old = r; copied = copy s e h i })
-        last (no d) f = f (omega linear)
-
-    pub spread-inner : {lo k : ℕ} {ps : List Part} → Spread t lo k ps → (q : ℕ) → lo ≤ q → q < k → Inner lo q
-    spread-inner none q a b = absurd (omega linear)
-    spread-inner {lo} {k} (more {j = j} c s) q a b =
-        by-order q j (λ l. inner c q a l) (λ l. weaken (let x = copied-le t c in omega linear) (spread-inner s q l b))
-
-  pub inner-at : (q : ℕ) → q < length (origins t) → Inner 0 q
-  inner-at q h = inner (whole-copied t (ok .falls) (ok .filled)) q (omega linear) (omega linear)
-
-  -- ---- links
-
-  -- the links of a copy go to the copies of parts: from the start of the copy up, below its own row
-  pub link-within : {lo k : ℕ} {ps : List Part} (s : Spread t lo k ps) {j i : ℕ} → Link j i (copied-parts t s) → (lo ≤ j) × (j < k)
-  unfolding copied-parts
-  link-within (more c s) (here e) =
-      let a = copied-le t c in
-      let b = spread-le t s in
-      (omega linear, omega linear)
-  link-within (more c s) (there l) =
-      let a = copied-le t c in
-      let b = link-within s l in
-      (omega linear, omega linear)
-
-  abbrev pub New-link : ℕ → ℕ → Type 0
-  New-link q j = Links-to (parts (row (new-table t) q)) j
-
-  copy-within : {lo k r : ℕ} → Copied t lo k r → {j : ℕ} → New-link k j → (lo ≤ j) × (j < k)
-  copy-within {lo} {k} {r} (copy s e h i) {j} n = link-within s (subst (λ (l : List Part). Link j (n .0) l) (new-parts t ok r s e h i) (n .1))
-
-  inner-within : {lo q j : ℕ} → Inner lo q → New-link q j → (lo ≤ j) × (j < q)
-  inner-within i n = let a = copy-within (i .copied) n in (omega (linear, i .above), a .1)
-
-  -- the links of a row inside a copy stay inside it
-  pub stays : {lo k r : ℕ} → Copied t lo k r → (q : ℕ) → lo ≤ q → q ≤ k → {j : ℕ} → New-link q j → (lo ≤ j) × (j < q)
-  stays c q a b n = inner-within (inner c q a b) n
-
-  spread-stays : {lo k : ℕ} {ps : List Part} → Spread t lo k ps → (q : ℕ) → lo ≤ q → q < k → {j : ℕ} → New-link q j → (lo ≤ j) × (j < q)
-  spread-stays s q a b n = inner-within (spread-inner s q a b) n
-
-  pub new-falls : (q : ℕ) → q < length (origins t) → {j : ℕ} → New-link q j → j < q
-  new-falls q h n = stays (whole-copied t (ok .falls) (ok .filled)) q (omega linear) (omega linear) n .1
-
   -- ---- no row is linked twice
 
   -- by the copy itself and by a row before it
-  not-both : {lo k : ℕ} {ps : List Part} (s : Spread t lo k ps) (q : ℕ) → lo ≤ q → q < k → {j i : ℕ} → New-link q j
+  not-both : {lo k : ℕ} {ps : List Part} (s : Spread t lo k ps) (q : ℕ) → lo ≤ q → q < k → {j i : ℕ} → New-link t ok q j
       → Link j i (copied-parts t s) → ⊥
   unfolding copied-parts
   not-both (more {j = m} c s) q a b n (here e) =
       by-order q m
-      (λ l. let x = stays c q a l n in omega linear)
-      (λ l. let x = spread-stays s q l b n in omega linear)
+      (λ l. let x = stays t ok c q a l n in omega linear)
+      (λ l. let x = spread-stays t ok s q l b n in omega linear)
   not-both (more {j = m} c s) q a b n (there d) =
       by-order q m
       (λ l.
-      let x = stays c q a l n in
-      let y = link-within s d in
+      let x = stays t ok c q a l n in
+      let y = link-within t ok s d in
       omega linear)
       (λ l. not-both s q l b n d)
 
   mutual
-    pub one-link : {lo k r : ℕ} → Copied t lo k r → (q q′ : ℕ) → lo ≤ q → q < q′ → q′ ≤ k → {j : ℕ} → New-link q j → New-link q′ j → ⊥
+    pub one-link : {lo k r : ℕ} → Copied t lo k r → (q q′ : ℕ) → lo ≤ q → q < q′ → q′ ≤ k → {j : ℕ} → New-link t ok q j
+        → New-link t ok q′ j → ⊥
     one-link {lo} {k} {r} (copy s e h i) q q′ a b c {j} n n′ =
         last (ℕ-discrete q′ k)
         (λ l. spread-one s q q′ a b l n n′)
         (λ m. not-both s q a (omega linear) n (subst (λ (l : List Part). Link j (m .0) l) (new-parts t ok r s e h i) (m .1)))
       where
-        last : Dec (q′ ≡ k) → (q′ < k → ⊥) → (New-link k j → ⊥) → ⊥
-        last (yes d) f g = g (subst (λ (x : ℕ). New-link x j) d n′)
+        last : Dec (q′ ≡ k) → (q′ < k → ⊥) → (New-link t ok k j → ⊥) → ⊥
+        last (yes d) f g = g (subst (λ (x : ℕ). New-link t ok x j) d n′)
         last (no d) f g = f (omega linear)
 
-    spread-one : {lo k : ℕ} {ps : List Part} → Spread t lo k ps → (q q′ : ℕ) → lo ≤ q → q < q′ → q′ < k → {j : ℕ} → New-link q j
-        → New-link q′ j → ⊥
+    spread-one : {lo k : ℕ} {ps : List Part} → Spread t lo k ps → (q q′ : ℕ) → lo ≤ q → q < q′ → q′ < k → {j : ℕ}
+        → New-link t ok q j
+        → New-link t ok q′ j → ⊥
     spread-one none q q′ a b c n n′ = omega linear
     spread-one (more {j = m} c s) q q′ a b d n n′ =
         by-order q′ m (λ l. one-link c q q′ a b l n n′) (λ l.
         by-order q m
         (λ x.
-        let y = stays c q a x n in
-        let z = spread-stays s q′ l d n′ in
+        let y = stays t ok c q a x n in
+        let z = spread-stays t ok s q′ l d n′ in
         omega linear)
         (λ x. spread-one s q q′ x b d n n′))
 
@@ -146,20 +82,28 @@ module _ (t : List ℤ) (ok : Mendable t) where
   pub one-field : {lo k : ℕ} {ps : List Part} (s : Spread t lo k ps) {j i i′ : ℕ} → Link j i (copied-parts t s)
       → Link j i′ (take i (copied-parts t s)) → ⊥
   unfolding copied-parts
-  one-field (more c s) (there l) (here e) = let a = link-within s l in omega linear
+  one-field (more c s) (there l) (here e) = let a = link-within t ok s l in omega linear
   one-field (more c s) (there l) (there m) = one-field s l m
 
   -- ---- every row but the last is linked
 
   abbrev Linked-up-to : ℕ → ℕ → Type 0
-  Linked-up-to k j = (q : ℕ) × (q < k) × New-link q j
+  Linked-up-to k j = (q : ℕ) × (q < k) × New-link t ok q j
 
   mutual
     unfolding copied-parts
 
     pub some-link : {lo k r : ℕ} → Copied t lo k r → (j : ℕ) → lo ≤ j → j < k → Linked-up-to (suc k) j
     some-link {lo} {k} {r} (copy s e h i) j a b =
-        ⊎-elim (λ l. (k, omega linear, (l .0, subst (λ (x : List Part). Link j (l .0) x) (sym (new-parts t ok r s e h i)) (l .1))))
+        ⊎-elim (λ l. (
+          k,
+          omega linear,
+          (
+            l .0,
+            subst (λ (x : List Part). Link j (l .0) x)
+                (sym (new-parts t ok r s e h i)) (l .1),
+          ),
+        ))
         (λ l. (l .0, omega (linear, l .1), l .2)) (spread-some s j a b)
 
     spread-some : {lo k : ℕ} {ps : List Part} (s : Spread t lo k ps) (j : ℕ) → lo ≤ j → j < k
@@ -168,18 +112,21 @@ module _ (t : List ℤ) (ok : Mendable t) where
     spread-some {lo} {k} (more {j = m} {p = p} c s) j a b =
         let up : suc m ≤ k = spread-le t s in
         by-order j m
-        (λ l. first (ℕ-discrete m j) (λ d. let x : j < m = omega linear in let u = some-link c j a x in (u .0, omega (linear, u .1), u .2)))
+        (λ l. first (ℕ-discrete m j) (λ d. let x : j < m = omega linear in let u = some-link c j a
+        x in (u .0, omega (linear, u .1), u .2)))
         (λ l. ⊎-elim (λ d. inl (suc (d .0), there (d .1))) inr (spread-some s j l b))
       where
-        first : Dec (m ≡ j) → ((m ≡ j → ⊥) → Linked-up-to k j) → Links-to (record { at = m; sort = p .sort } ∷ copied-parts t s) j ⊎ Linked-up-to k j
+        first : Dec (m ≡ j) → ((m ≡ j → ⊥) → Linked-up-to k j)
+            → Links-to (record { at = m; sort = p .sort } ∷ copied-parts t s) j ⊎ Linked-up-to k j
         first (yes e) f = inl (0, here e)
         first (no d) f = inr (f d)
 
   -- ---- exactly once
 
-  same-field : {q : ℕ} → q < length (origins t) → {j i i′ : ℕ} → Link j i (parts (row (new-table t) q)) → Link j i′ (parts (row (new-table t) q))
+  same-field : {q : ℕ} → q < length (origins t) → {j i i′ : ℕ} → Link j i (parts (row (new-table t) q))
+      → Link j i′ (parts (row (new-table t) q))
       → i ≡ i′
-  same-field {q} h {j} {i} {i′} l l′ = go (inner-at q h .copied)
+  same-field {q} h {j} {i} {i′} l l′ = go (inner-at t ok q h .copied)
     where
       go : {lo r : ℕ} → Copied t lo q r → i ≡ i′
       go {lo} {r} (copy s e a b) =
@@ -204,6 +151,7 @@ module _ (t : List ℤ) (ok : Mendable t) where
             let same : q ≡ L .0 =
             by-order (suc q) (L .0)
             (λ x. absurd (one-link whole q (L .0) (omega linear) x (omega linear) (i, l) (L .2)))
-            (λ x. by-order (suc (L .0)) q (λ y. absurd (one-link whole (L .0) q (omega linear) y (omega linear) (L .2) (i, l))) (λ y. omega linear)) in
+            (λ x. by-order (suc (L .0)) q (λ y. absurd
+            (one-link whole (L .0) q (omega linear) y (omega linear) (L .2) (i, l))) (λ y. omega linear)) in
             (same, same-field within (subst (λ (x : ℕ). Link j i (parts (row (new-table t) x))) same l) (L .2 .1));
       }

@@ -109,8 +109,12 @@ module _ (t : List ℤ) (table-room origins-room : ℕ) (h : mend-verdict t tabl
         fours = l .fours;
         short = l .short;
         known = λ k i. r k i .known;
-        ranged = λ k i. both (in-range t (fields (row t k))) (unused-zero t k (length (fields (row t k)))) (r k i .ranges) .0;
-        unused = λ k i. both (in-range t (fields (row t k))) (unused-zero t k (length (fields (row t k)))) (r k i .ranges) .1;
+        ranged =
+            λ k i. both (in-range t (fields (row t k))) (unused-zero t k (length (fields (row t k))))
+            (r k i .ranges) .0;
+        unused =
+            λ k i. both (in-range t (fields (row t k))) (unused-zero t k (length (fields (row t k))))
+            (r k i .ranges) .1;
         falls = falls-of t (tests .part);
         sorted = λ k i. r k i .sorts;
         script = sort-iff (sort-of (row t (rows t - 1))) Script .0 (is-true _ s);

@@ -1,6 +1,7 @@
--- 02, P7: the mender of "old editor tables with shared parts": what it answers, and what it leaves in the two lent buffers.
--- In this order: the tests of one row; the tests of a table, and the verdict; the outcome. The order of the new rows is in
--- `Copies`, their words in `NewTable`, what the script reaches in `Reached`. Assumes nothing.
+-- 02, P7: the mender of "old editor tables with shared parts": what it answers, and what it leaves in the two lent
+-- buffers.
+-- In this order: the tests of one row; the tests of a table, and the verdict; the outcome. The order of the new rows is
+-- in `Copies`, their words in `NewTable`, what the script reaches in `Reached`. Assumes nothing.
 use Prim.Native.Nat.{ℕ, _*_, _-_}
 use mathlib.Core.List.{List, _++_, map}
 use mathlib.Core.Bool.{Bool, cond, _||_}
@@ -17,8 +18,8 @@ use Rattle.mending.specs.Reached.{reached-rows, escapes}
 module _ (t : List ℤ) where
   -- ---- the tests of one row
 
-  -- "1 to 5 come as in document 01": the first fault of row r there, unless that is 6, which is the last in a row and is none
-  -- here: "two rows may link to one"
+  -- "1 to 5 come as in document 01": the first fault of row r there, unless that is 6, which is the last in a row and
+  -- is none here: "two rows may link to one"
   unfoldable pub part-fault : ℕ → ℕ
   part-fault r = cond (eqb (row-fault t r) 6) 0 (row-fault t r)
 
@@ -35,8 +36,8 @@ module _ (t : List ℤ) where
   unfoldable pub mark-test : Verdict
   mark-test = lowest mark-fault (rows t) 0
 
--- "when the result passes 2,048 rows or either buffer", where it has n rows: the lengths are those of the buffer for the new
--- table, four words a row, and of the run of old rows, one word a row
+-- "when the result passes 2,048 rows or either buffer", where it has n rows: the lengths are those of the buffer for
+-- the new table, four words a row, and of the run of old rows, one word a row
 unfoldable pub too-long : ℕ → ℕ → ℕ → Bool
 too-long table-room origins-room n = ltb 2048 n || (ltb table-room (4 * n) || ltb origins-room n)
 
@@ -75,8 +76,8 @@ refuse n r table-room origins-room = record {
   origins = zeros origins-room;
 }
 
--- "rows dropped and rows copied again (new rows less old ones reached)"; "A lent run says, for each new row, the old row it
--- came from". 01: "it gives 0 and the words or bytes used, with zeros after them"
+-- "rows dropped and rows copied again (new rows less old ones reached)"; "A lent run says, for each new row, the old
+-- row it came from". 01: "it gives 0 and the words or bytes used, with zeros after them"
 abbrev pub mend : List ℤ → ℕ → ℕ → Mended
 mend t table-room origins-room = record {
   number = 0;

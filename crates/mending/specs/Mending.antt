@@ -1,7 +1,7 @@
--- What 02, P7, asks of the mender, sentence by sentence, of its whole outcome: for every table and both lengths. The arguments are
--- in the files before. `Witness` shows that each hypothesis can hold.
--- In this order: the numbers; what is left with number 0, namely the words, the script, the check, the run of old rows and the
--- counts; tables that come back. Assumes nothing.
+-- What 02, P7, asks of the mender, sentence by sentence, of its whole outcome: for every table and both lengths. The
+-- arguments are in the files before. `Witness` shows that each hypothesis can hold.
+-- In this order: the numbers; what is left with number 0, namely the words, the script, the check, the run of old rows
+-- and the counts; tables that come back. Assumes nothing.
 use Prim.Native.Nat.{ℕ, suc, _+_, _*_, _-_, _≤_, _<_}
 use mathlib.Core.Path.{_≡_, refl, sym, ap, subst, _∙_}
 use mathlib.Core.Logic.{_↔_, ⊎-elim}
@@ -34,13 +34,16 @@ use Rattle.mending.specs.Escape.{Escaping}
 use Rattle.mending.specs.Layout.{origin}
 use Rattle.mending.specs.Capped.{Too-long}
 use Rattle.mending.specs.Mendable.{Mendable, mendable, fits, falls-of}
-use Rattle.mending.specs.Numbers.{Mend-occasion, mend-numbers, some-number, Well-shaped, shaped-iff, parts-pass, thirteen, fourteen, mended-iff}
+use Rattle.mending.specs.Numbers.{Mend-occasion, mend-numbers, some-number}
+use Rattle.mending.specs.Occasions.{Well-shaped, shaped-iff, parts-pass, thirteen, fourteen, mended-iff}
 use Rattle.mending.specs.Renew.{renew}
 use Rattle.mending.specs.NewRows.{new-rows, new-length}
-use Rattle.mending.specs.LinkedOnce.{Linked-once, linked-once, some-rows}
+use Rattle.mending.specs.InnerCopies.{some-rows}
+use Rattle.mending.specs.LinkedOnce.{Linked-once, linked-once}
 use Rattle.mending.specs.Passing.{Passes, passes}
 use Rattle.mending.specs.Nameless.{nameless-tree, erased-tree}
-use Rattle.mending.specs.InScope.{Scoped-tree, scoped-tree}
+use Rattle.mending.specs.InScope.{Scoped-tree}
+use Rattle.mending.specs.ScopedTrees.{scoped-tree}
 use Rattle.mending.specs.NamelessRun.{seen}
 use Rattle.mending.specs.SameRuns.{same-pre, same-steps, same-correct}
 use Rattle.mending.specs.Unfolded.{same-script, same-erased}
@@ -56,7 +59,8 @@ module _ (t : List ℤ) (table-room origins-room : ℕ) where
   abbrev pub left : Mended
   left = mended t table-room origins-room
 
-  by-verdict : (n r : ℕ) → mend-verdict t table-room origins-room ≡ refused n r → left ≡ refuse n r table-room origins-room
+  by-verdict : (n r : ℕ) → mend-verdict t table-room origins-room ≡ refused n r
+      → left ≡ refuse n r table-room origins-room
   unfolding mended
   by-verdict n r v = rw (v, mended)
 
@@ -75,10 +79,11 @@ module _ (t : List ℤ) (table-room origins-room : ℕ) where
       let b : q ≡ r = sym (ap (λ (m : Mended). m .row) e) ∙ h .1 in
       v ∙ rw (a, b)
 
-  -- "1 to 5 come as in document 01, then 7 only for a last row that is no script, 13, ..., and last 14": a number and a row exactly
-  -- where their occasion arises and that of no test before it (`Numbers.Mend-occasion`); then zeros are in all it writes, and its
-  -- counts are 0
-  pub numbers : (k r : ℕ) → ((left .number ≡ k) × (left .row ≡ r) × (0 < k)) ↔ Mend-occasion t table-room origins-room k r
+  -- "1 to 5 come as in document 01, then 7 only for a last row that is no script, 13, ..., and last 14": a number and a
+  -- row exactly where their occasion arises and that of no test before it (`Numbers.Mend-occasion`); then zeros are in
+  -- all it writes, and its counts are 0
+  pub numbers : (k r : ℕ)
+      → ((left .number ≡ k) × (left .row ≡ r) × (0 < k)) ↔ Mend-occasion t table-room origins-room k r
   numbers k r = (
     λ h. mend-numbers t table-room origins-room k r .0 (told (mend-verdict t table-room origins-room) refl k r h),
     λ o.
@@ -90,11 +95,14 @@ module _ (t : List ℤ) (table-room origins-room : ℕ) where
   pub refuses : (k r : ℕ) → Mend-occasion t table-room origins-room k r → left ≡ refuse k r table-room origins-room
   refuses k r o = by-verdict k r (mend-numbers t table-room origins-room k r .1 o)
 
-  -- "13, with the lowest such old row, when some use of a mark that the script reaches is not inside the body of its loop":
-  -- where 1 to 5 and 7 are not given, 13 and row r exactly where r is the lowest row that is a mark with such a use
-  pub outside-exact : (r : ℕ) → ((left .number ≡ 13) × (left .row ≡ r)) ↔ (Well-shaped t × Lowest (Escaping t) (rows t) r)
+  -- "13, with the lowest such old row, when some use of a mark that the script reaches is not inside the body of its
+  -- loop": where 1 to 5 and 7 are not given, 13 and row r exactly where r is the lowest row that is a mark with such a
+  -- use
+  pub outside-exact : (r : ℕ)
+      → ((left .number ≡ 13) × (left .row ≡ r)) ↔ (Well-shaped t × Lowest (Escaping t) (rows t) r)
   outside-exact r = (
-    λ h. thirteen t table-room origins-room r .0 (told (mend-verdict t table-room origins-room) refl 13 r (h .0, h .1, omega linear)),
+    λ h. thirteen t table-room origins-room r .0
+        (told (mend-verdict t table-room origins-room) refl 13 r (h .0, h .1, omega linear)),
     λ h.
         let e = by-verdict 13 r (thirteen t table-room origins-room r .1 h) in
         (ap (λ (m : Mended). m .number) e, ap (λ (m : Mended). m .row) e),
@@ -105,7 +113,8 @@ module _ (t : List ℤ) (table-room origins-room : ℕ) where
       (Well-shaped t × ((q : ℕ) → q < rows t → ¬ Escaping t q) × Too-long t table-room origins-room)
   too-long-exact = (
     λ h.
-        let f = fourteen t table-room origins-room 0 .0 (told (mend-verdict t table-room origins-room) refl 14 0 (h .0, h .1, omega linear)) in
+        let f =
+        fourteen t table-room origins-room 0 .0 (told (mend-verdict t table-room origins-room) refl 14 0 (h .0, h .1, omega linear)) in
         (f .0, f .1, f .2),
     λ h.
         let e = by-verdict 14 0 (fourteen t table-room origins-room 0 .1 (h .0, h .1, h .2, refl)) in
@@ -120,7 +129,8 @@ module _ (t : List ℤ) (table-room origins-room : ℕ) where
     λ h. ap (λ (m : Mended). m .number) (mends (mended-iff t table-room origins-room .1 h)),
   )
     where
-      accepts : (v : Verdict) → mend-verdict t table-room origins-room ≡ v → left .number ≡ 0 → mend-verdict t table-room origins-room ≡ accepted
+      accepts : (v : Verdict) → mend-verdict t table-room origins-room ≡ v → left .number ≡ 0
+          → mend-verdict t table-room origins-room ≡ accepted
       accepts accepted v z = v
       accepts (refused n r) v z =
           absurd (some-number t table-room origins-room n r (mend-numbers t table-room origins-room n r .0 v)
@@ -133,8 +143,10 @@ module _ (t : List ℤ) (table-room origins-room : ℕ) where
       filled : (ws : List ℤ) (n m : ℕ) → length ws ≡ n → n ≤ m → length (ws ++ zeros (m - n)) ≡ m
       filled ws n m e h = omega (linear, length-append ws (zeros (m - n)), length-replicate (m - n) (pos 0))
 
-      go : (v : Verdict) → mend-verdict t table-room origins-room ≡ v → (length (left .table) ≡ table-room) × (length (left .origins) ≡ origins-room)
-      go (refused n r) v = rw (by-verdict n r v) (length-replicate table-room (pos 0), length-replicate origins-room (pos 0))
+      go : (v : Verdict) → mend-verdict t table-room origins-room ≡ v
+          → (length (left .table) ≡ table-room) × (length (left .origins) ≡ origins-room)
+      go (refused n r) v =
+          rw (by-verdict n r v) (length-replicate table-room (pos 0), length-replicate origins-room (pos 0))
       go accepted v =
           let f = fits t table-room origins-room v in
           rw (mends v) (
@@ -163,7 +175,8 @@ module _ (t : List ℤ) (table-room origins-room : ℕ) where
     table-left = rw (left-is, new-length t) (refl, refl)
 
     -- "A lent run says, for each new row, the old row it came from": one word a row, with zeros after them
-    pub run-left : (rows new ≡ length (origins t)) × (left .origins ≡ map pos (origins t) ++ zeros (origins-room - rows new))
+    pub run-left : (rows new ≡ length (origins t))
+        × (left .origins ≡ map pos (origins t) ++ zeros (origins-room - rows new))
     run-left = rw (left-is, new-rows t) (refl, refl)
 
     -- "Old and new unfold to the same script, marks apart": a mark is how many loops stand between it and its own
@@ -174,12 +187,13 @@ module _ (t : List ℤ) (table-room origins-room : ℕ) where
     pub same-forgotten : erased-tree (tree new) ≡ erased-tree (tree t)
     same-forgotten = same-erased t ok
 
-    -- so both run alike. From a state the precondition of one holds where that of the other does; after any number of steps both
-    -- runs are the same without names; and one keeps demand 3's promise exactly where the other does
+    -- so both run alike. From a state the precondition of one holds where that of the other does; after any number of
+    -- steps both runs are the same without names; and one keeps demand 3's promise exactly where the other does
     module _ (𝔸 : Arithmetic) where
       new-scoped : Scoped-tree (tree new)
       new-scoped =
-          scoped-tree new (falls-of new (parts-pass new (passes t ok .row))) (omega (linear, new-rows t, some-rows t ok)) (λ k h. none-escapes t ok k)
+          scoped-tree new (falls-of new (parts-pass new (passes t ok .row)))
+          (omega (linear, new-rows t, some-rows t ok)) (λ k h. none-escapes t ok k)
 
       old-scoped : Scoped-tree (tree t)
       old-scoped = scoped-tree t (ok .falls) (ok .filled) (ok .inside)
@@ -196,8 +210,9 @@ module _ (t : List ℤ) (table-room origins-room : ℕ) where
         same-correct 𝔸 (tree t) (tree new) old-scoped new-scoped (sym same) s s refl,
       )
 
-      -- what is proved of the new table says it of the old one: if the new table is planned, and every condition of the list left is
-      -- true in all states, every run of the old script from a start that meets its precondition keeps the promise
+      -- what is proved of the new table says it of the old one: if the new table is planned, and every condition of the
+      -- list left is true in all states, every run of the old script from a start that meets its precondition keeps the
+      -- promise
       pub proved-through : (list scratch : ℕ) → let o = outcome new list scratch in
           o .answer .number ≡ 0 → List-valid 𝔸 (take (o .answer .words) (o .list))
           → (s : State) → T (holds 𝔸 s (tree t .pre)) → Total-correctness 𝔸 (tree t) s
@@ -216,9 +231,10 @@ module _ (t : List ℤ) (table-room origins-room : ℕ) where
     pub ordered : In-order new
     ordered = new-in-order t ok
 
-    -- "A mark is renamed to the copy of its loop whose body it stands in": wherever it stands, it is inside the body of the row that
-    -- it names, which is a copy of the loop that the old mark names
-    pub inside : {k : ℕ} {code : Bool} {loops : List ℕ} → Stands new k code loops → (m : RowNumber) → row new k ≡ Row.Expression (Mark m)
+    -- "A mark is renamed to the copy of its loop whose body it stands in": wherever it stands, it is inside the body of
+    -- the row that it names, which is a copy of the loop that the old mark names
+    pub inside : {k : ℕ} {code : Bool} {loops : List ℕ} → Stands new k code loops → (m : RowNumber)
+        → row new k ≡ Row.Expression (Mark m)
         → member (m .0) loops ≡ true
     inside S m e = marks-inside t ok S m e
 
@@ -226,11 +242,14 @@ module _ (t : List ℤ) (table-room origins-room : ℕ) where
         → (x : RowNumber) × (row t (origin t k) ≡ Row.Expression (Mark x)) × (origin t (m .0) ≡ x .0)
     mark-came k h m e = mark-right t ok k (omega (linear, new-rows t)) m e
 
-    -- "the old row it came from": the same row but for links and mark, and a link goes to what came from the row linked there
-    pub row-came : (k : ℕ) → k < rows new → row new k ≡ renew (renamed t k) (part-places t k (origin t k)) (row t (origin t k))
+    -- "the old row it came from": the same row but for links and mark, and a link goes to what came from the row linked
+    -- there
+    pub row-came : (k : ℕ) → k < rows new
+        → row new k ≡ renew (renamed t k) (part-places t k (origin t k)) (row t (origin t k))
     row-came k h = row-right t ok k (omega (linear, new-rows t))
 
-    pub link-came : (k : ℕ) → k < rows new → {j i : ℕ} → Link j i (parts (row new k)) → Link (origin t j) i (parts (row t (origin t k)))
+    pub link-came : (k : ℕ) → k < rows new → {j i : ℕ} → Link j i (parts (row new k))
+        → Link (origin t j) i (parts (row t (origin t k)))
     link-came k h l = links-right t ok k (omega (linear, new-rows t)) l
 
     -- "unreachable rows dropped": a row is among those that new rows came from exactly where it stands in the script
@@ -253,12 +272,16 @@ module _ (t : List ℤ) (table-room origins-room : ℕ) where
         shaped = shaped-iff new .0 (checked .length, parts-pass new (checked .row), checked .script)
 
         as-many : length (origins new) ≡ rows new
-        as-many = ap length (order-run new (omega (linear, new-rows t, some-rows t ok)) ordered) ∙ run-length 0 (rows new)
+        as-many =
+            ap length (order-run new (omega (linear, new-rows t, some-rows t ok)) ordered) ∙ run-length 0 (rows new)
 
         short : ¬ Too-long new table-room′ origins-room′
-        short = few (omega (linear, as-many, new-rows t, ok .few)) (omega (linear, as-many, new-rows t, new-length t)) (omega (linear, as-many))
+        short =
+            few (omega (linear, as-many, new-rows t, ok .few)) (omega (linear, as-many, new-rows t, new-length t))
+            (omega (linear, as-many))
           where
-            few : length (origins new) ≤ 2048 → 4 * length (origins new) ≤ table-room′ → length (origins new) ≤ origins-room′
+            few : length (origins new) ≤ 2048 → 4 * length (origins new) ≤ table-room′
+                → length (origins new) ≤ origins-room′
                 → ¬ Too-long new table-room′ origins-room′
             few x y z = ⊎-elim (λ h. omega linear) (⊎-elim (λ h. omega linear) (λ h. omega linear))
 
@@ -270,15 +293,21 @@ module _ (t : List ℤ) (table-room origins-room : ℕ) where
 module _ (t : List ℤ) (good : verdict t ≡ accepted) where
   -- an accepted table that fits is not refused, keeps its number of rows, and has none dropped and none copied again
   pub accepted-counts : (table-room origins-room : ℕ) → length t ≤ table-room → rows t ≤ origins-room
-      → let m = mended t table-room origins-room in (m .number ≡ 0) × (m .words ≡ length t) × (m .dropped ≡ 0) × (m .copied ≡ 0)
+      → let m = mended t table-room origins-room in (m .number ≡ 0) × (m .words ≡ length t) × (m .dropped ≡ 0)
+      × (m .copied ≡ 0)
   accepted-counts table-room origins-room a b =
       let n = AcceptedTables.no-more t good in
       let f = passed t good .fours in
       let v = accepted-mended t good table-room origins-room (omega linear) (omega linear) in
       let ok = mendable t table-room origins-room v in
       let w : 4 * length (origins t) ≡ length t = omega (linear, AcceptedTables.as-many t good ok) in
-      rw (mends t table-room origins-room v)
-      (refl, w, AcceptedTables.accepted-dropped t good ok table-room origins-room, AcceptedTables.accepted-copied t good ok table-room origins-room)
+      rw (mends t table-room origins-room v) (
+        refl,
+        w,
+        AcceptedTables.accepted-dropped t good ok table-room origins-room,
+        AcceptedTables.accepted-copied t good
+            ok table-room origins-room,
+      )
 
   -- "an accepted table already in that order comes back the same": the whole outcome, with every word of both buffers
   pub comes-back : In-order t → (table-room origins-room : ℕ) → length t ≤ table-room → rows t ≤ origins-room
@@ -286,4 +315,5 @@ module _ (t : List ℤ) (good : verdict t ≡ accepted) where
   comes-back o table-room origins-room a b =
       let n = AcceptedTables.no-more t good in
       let f = passed t good .fours in
-      SameTable.comes-back t table-room origins-room (accepted-mended t good table-room origins-room (omega linear) (omega linear)) o
+      SameTable.comes-back t table-room origins-room
+      (accepted-mended t good table-room origins-room (omega linear) (omega linear)) o

@@ -1,6 +1,6 @@
 -- The rows of the new table: row k is the old row that it came from, with its links and its mark renewed (`new-row`).
--- Argument: the words of row k of the new table are those written for it (`word-at`), and are read as the old row renewed
--- (`Renew.renew-row`). Assumes nothing.
+-- Argument: the words of row k of the new table are those written for it (`word-at`), and are read as the old row
+-- renewed (`Renew.renew-row`). Assumes nothing.
 use Prim.Native.Nat.{ℕ, zero, suc, _+_, _*_, _<_}
 use mathlib.Core.Path.{_≡_, refl, sym, ap, subst, _∙_}
 use mathlib.Core.List.{List, [], _∷_}
@@ -34,7 +34,8 @@ module _ (W : ℕ → ℕ → ℕ → ℤ) where
   first-word (suc (suc (suc (suc f)))) n r rs l = absurd (omega linear)
 
   -- word f of row k, where the first row is number n
-  pub word-at : (f n : ℕ) (rs : List ℕ) (k : ℕ) → f < 4 → k < length rs → getD (written W n rs) (4 * k + f) (pos 0) ≡ W (n + k) (getD rs k 0) f
+  pub word-at : (f n : ℕ) (rs : List ℕ) (k : ℕ) → f < 4 → k < length rs
+      → getD (written W n rs) (4 * k + f) (pos 0) ≡ W (n + k) (getD rs k 0) f
   unfolding written
   word-at f n [] k l h = absurd (omega linear)
   word-at f n (r ∷ rs) zero l h = first-word f n r rs l ∙ ap (λ (x : ℕ). W x r f) (plus-zero n)
@@ -70,18 +71,25 @@ module _ (t : List ℤ) where
 
     pub first-at : word (new-table t) k 1 ≡ fields-at 0
     unfolding new-table
-    first-at = word-at (new-word t) 1 0 (origins t) k (omega linear) h ∙ ap (λ (x : ℕ). new-word t x (origin t k) 1) (zero-add k)
+    first-at =
+        word-at (new-word t) 1 0 (origins t) k (omega linear) h
+        ∙ ap (λ (x : ℕ). new-word t x (origin t k) 1) (zero-add k)
 
     pub second-at : word (new-table t) k 2 ≡ fields-at 1
     unfolding new-table
-    second-at = word-at (new-word t) 2 0 (origins t) k (omega linear) h ∙ ap (λ (x : ℕ). new-word t x (origin t k) 2) (zero-add k)
+    second-at =
+        word-at (new-word t) 2 0 (origins t) k (omega linear) h
+        ∙ ap (λ (x : ℕ). new-word t x (origin t k) 2) (zero-add k)
 
     pub third-at : word (new-table t) k 3 ≡ fields-at 2
     unfolding new-table
-    third-at = word-at (new-word t) 3 0 (origins t) k (omega linear) h ∙ ap (λ (x : ℕ). new-word t x (origin t k) 3) (zero-add k)
+    third-at =
+        word-at (new-word t) 3 0 (origins t) k (omega linear) h
+        ∙ ap (λ (x : ℕ). new-word t x (origin t k) 3) (zero-add k)
 
     -- new row k is its old row renewed
-    pub new-row : (sort-of (row t (origin t k)) ≡ Unknown → ⊥) → row (new-table t) k ≡ renew (renamed t k) (part-places t k (origin t k)) (row t (origin t k))
+    pub new-row : (sort-of (row t (origin t k)) ≡ Unknown → ⊥)
+        → row (new-table t) k ≡ renew (renamed t k) (part-places t k (origin t k)) (row t (origin t k))
     unfolding new-word
     new-row u =
         let r = origin t k in
@@ -92,4 +100,5 @@ module _ (t : List ℤ) where
         let ρ = renamed t k in
         let js = part-places t k r in
         let kept = subst (λ (w : Row). Renews ρ js a b c n w) (row-is t r) (renew-row ρ js a b c n) u in
-        sym (row-read (new-table t) k (ap field-number (sym kind-at)) refl (sym first-at) (sym second-at) (sym third-at)) ∙ kept
+        sym (row-read (new-table t) k (ap field-number (sym kind-at)) refl (sym first-at) (sym second-at)
+        (sym third-at)) ∙ kept

@@ -1,6 +1,6 @@
--- The next copy of a loop above a new row, to which `NewTable.renamed` takes its mark: one row up (`hits`, `misses`), and over
--- rows that came from rows below the loop (`skips`). What stands in a copy of row r came from rows up to r (`copied-old`).
--- Assumes nothing.
+-- The next copy of a loop above a new row, to which `NewTable.renamed` takes its mark: one row up (`hits`, `misses`),
+-- and over rows that came from rows below the loop (`skips`). What stands in a copy of row r came from rows up to r
+-- (`copied-old`). Assumes nothing.
 use Prim.Native.Nat.{ℕ, zero, suc, _+_, _≤_, _<_}
 use mathlib.Core.Path.{_≡_, sym, ap, _∙_}
 use mathlib.Core.List.{List}
@@ -11,7 +11,6 @@ use lib.Dec.{T, ltb, ltb→lt}
 use lib.ListN.{length}
 use lib.Seq.{drop-cons}
 use borrow.Author.Tests.{eq-eqb, ne-eqb}
-use Rattle.script.specs.declared.Row.the-variants as Row
 use Rattle.script.specs.Rows.{Part}
 use Rattle.script.specs.Refusals.{all-below}
 use Rattle.theorems.specs.Truths.{both}
@@ -35,7 +34,8 @@ module _ (t : List ℤ) (ok : Mendable t) where
         last (yes d) f = let x : origin t q ≡ origin t k = ap (origin t) d in omega linear
         last (no d) f = let x = f (omega linear) in omega linear
 
-    spread-old : {lo k : ℕ} {ps : List Part} → Spread t lo k ps → (r : ℕ) → T (all-below t r ps) → (q : ℕ) → lo ≤ q → q < k
+    spread-old : {lo k : ℕ} {ps : List Part} → Spread t lo k ps → (r : ℕ) → T (all-below t r ps) → (q : ℕ) → lo ≤ q
+        → q < k
         → origin t q < r
     spread-old none r h q a b = absurd (omega linear)
     spread-old (more {j = j} {p = p} {ps = ps} c s) r h q a b =
@@ -55,7 +55,8 @@ module _ (t : List ℤ) (ok : Mendable t) where
   misses j m h e = rw (drop-cons (origins t) (suc j) 0 h, place-of, ne-eqb m (origin t (suc j)) (λ d. e (sym d)))
 
   -- d rows up
-  pub skips : (d j k m : ℕ) → j + d ≡ k → k < total → ((q : ℕ) → j < q → q ≤ k → origin t q < m) → renamed t j m ≡ renamed t k m
+  pub skips : (d j k m : ℕ) → j + d ≡ k → k < total → ((q : ℕ) → j < q → q ≤ k → origin t q < m)
+      → renamed t j m ≡ renamed t k m
   skips zero j k m e h f = ap (λ (x : ℕ). renamed t x m) (plus-zero e)
     where
       plus-zero : j + 0 ≡ k → j ≡ k

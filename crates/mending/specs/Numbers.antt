@@ -1,30 +1,27 @@
--- The mender's verdict as a whole (`mend-numbers`): "1 to 5 come as in document 01, then 7 only for a last row that is no
--- script, 13, with the lowest such old row, when some use of a mark that the script reaches is not inside the body of its
--- loop, and last 14 when the result passes 2,048 rows or either buffer." Then 13 and 14 by themselves (`thirteen`, `fourteen`),
--- where 1 to 5 and 7 are not given (`Well-shaped`). Assumes nothing.
+-- The mender's verdict as a whole (`mend-numbers`): "1 to 5 come as in document 01, then 7 only for a last row that is
+-- no script, 13, with the lowest such old row, when some use of a mark that the script reaches is not inside the body
+-- of its loop, and last 14 when the result passes 2,048 rows or either buffer." Assumes nothing.
 use Prim.Native.Nat.{ℕ, _-_, _<_}
 use native.Mathlib.Omega.{arith as linear}
-use mathlib.Core.Path.{_≡_, refl, sym, _∙_}
-use mathlib.Core.Logic.{_↔_, _≢_, inl, inr, Iff·trans}
+use mathlib.Core.Path.{_≡_}
+use mathlib.Core.Logic.{_≢_, inl, inr, Iff·trans}
 use mathlib.Core.List.{List}
 use mathlib.Core.Bool.{not}
 use lib.IntN.{ℤ}
 use lib.ListN.{length}
 use Rattle.script.specs.declared.Sort.the-variants.{Script}
 use Rattle.script.specs.Rows.{rows, row, sort-of}
-use Rattle.script.specs.Refusals.{accepted, refused, _and-then_, same-sort, row-fault, length-test, row-test, row-test-within, script-test}
-use Rattle.theorems.specs.Truths.{is-true}
-use Rattle.theorems.specs.Lowest.{Says, Lowest, First-fault, lowest-refuses, lowest-accepts}
+use Rattle.script.specs.Refusals.{accepted, refused, _and-then_, same-sort, length-test, script-test}
+use Rattle.theorems.specs.Lowest.{Says, Lowest, First-fault, lowest-refuses}
 use Rattle.theorems.specs.Tests.{not-iff, turned, sort-iff, false-iff}
 use Rattle.theorems.specs.Faults.{Fault, Well-made}
-use Rattle.theorems.specs.Numbers.{Then, then-says, accepts-iff, fact-says, fault-numbers, Bad-length, length-says}
-use Rattle.theorems.specs.Accepted.{pass-true}
+use Rattle.theorems.specs.Numbers.{Then, then-says, fact-says, Bad-length, length-says}
 use Rattle.mending.specs.Copies.{capped-total}
 use Rattle.mending.specs.Mended.{part-fault, part-test, mark-test, too-long, size-test, mend-verdict}
-use Rattle.mending.specs.PartFaults.{part-some, part-none, part-free}
+use Rattle.mending.specs.PartFaults.{part-some, part-none}
 use Rattle.mending.specs.Escape.{Escaping, mark-exact}
 use Rattle.mending.specs.Capped.{Too-long, too-long-iff}
-use Rattle.mending.specs.Mendable.{falls-of, filled-of, none-escapes, tests}
+use Rattle.mending.specs.Mendable.{falls-of, filled-of}
 
 -- ---- 2 to 5
 
@@ -56,7 +53,8 @@ part-says t k r = Iff·trans (lowest-refuses (part-fault t) (rows t) 0 k r) (out
 
 -- ---- 7
 
-script-says : (t : List ℤ) → Says (script-test t) (λ k r. (k ≡ 7) × (r ≡ rows t - 1) × (sort-of (row t (rows t - 1)) ≢ Script))
+pub script-says : (t : List ℤ)
+    → Says (script-test t) (λ k r. (k ≡ 7) × (r ≡ rows t - 1) × (sort-of (row t (rows t - 1)) ≢ Script))
 unfolding script-test
 script-says t =
     rw (turned (same-sort (sort-of (row t (rows t - 1))) Script) accepted (refused 7 (rows t - 1)))
@@ -75,18 +73,22 @@ Mend-occasion t table-room origins-room =
     (Then (mark-test t) (λ k r. (k ≡ 13) × Lowest (Escaping t) (rows t) r)
     (λ k r. (k ≡ 14) × (r ≡ 0) × Too-long t table-room origins-room))))
 
-pub mend-numbers : (t : List ℤ) (table-room origins-room : ℕ) → Says (mend-verdict t table-room origins-room) (Mend-occasion t table-room origins-room)
+pub mend-numbers : (t : List ℤ) (table-room origins-room : ℕ)
+    → Says (mend-verdict t table-room origins-room) (Mend-occasion t table-room origins-room)
 unfolding mend-verdict size-test
 mend-numbers t table-room origins-room =
-    then-says (length-test t) (part-test t and-then script-test t and-then mark-test t and-then size-test t table-room origins-room)
+    then-says (length-test t) (part-test t and-then script-test t and-then mark-test t and-then size-test t table-room
+    origins-room)
     (length-says t)
-    (λ l. then-says (part-test t) (script-test t and-then mark-test t and-then size-test t table-room origins-room) (part-says t)
+    (λ l. then-says (part-test t) (script-test t and-then mark-test t and-then size-test t table-room origins-room)
+    (part-says t)
     (λ p.
     let falls = falls-of t p in
     let filled = filled-of t l in
     then-says (script-test t) (mark-test t and-then size-test t table-room origins-room) (script-says t)
     (λ s. then-says (mark-test t) (size-test t table-room origins-room) (mark-exact t falls filled)
-    (λ m. fact-says (too-long table-room origins-room (capped-total t)) 14 0 (too-long-iff table-room origins-room t falls filled)))))
+    (λ m. fact-says (too-long table-room origins-room (capped-total t)) 14 0
+    (too-long-iff table-room origins-room t falls filled)))))
 
 -- no number is 0
 pub some-number : (t : List ℤ) (table-room origins-room k r : ℕ) → Mend-occasion t table-room origins-room k r → k ≢ 0
@@ -95,106 +97,3 @@ some-number t table-room origins-room k r (inr (a, inl F)) = F .some
 some-number t table-room origins-room k r (inr (a, inr (b, inl h))) = omega (linear, h .0)
 some-number t table-room origins-room k r (inr (a, inr (b, inr (c, inl h)))) = omega (linear, h .0)
 some-number t table-room origins-room k r (inr (a, inr (b, inr (c, inr (d, h))))) = omega (linear, h .0)
-
--- ---- 13 and 14 by themselves
-
--- 1 to 5 and 7 are not given
-pub record Well-shaped (t : List ℤ) : Type 0 where
-  pub long : ¬ Bad-length (length t)
-  pub parts : (r : ℕ) → r < rows t → Well-made t r
-  pub script : sort-of (row t (rows t - 1)) ≡ Script
-
-module _ (t : List ℤ) where
-  abbrev pub Shaped : Type 0
-  Shaped = (length-test t ≡ accepted) × (part-test t ≡ accepted) × (script-test t ≡ accepted)
-
-  pub shaped-iff : Shaped ↔ Well-shaped t
-  unfolding part-test script-test
-  shaped-iff = (
-    λ h. record {
-      long = λ b. accepts-iff (length-test t) (length-says t) .0 (h .0) 1 0 (refl, refl, b);
-      parts = λ r l. part-none t r .0 (lowest-accepts (part-fault t) (rows t) 0 .0 (h .1) r (omega linear) (omega linear));
-      script = sort-iff (sort-of (row t (rows t - 1))) Script .0 (is-true _ (pass-true (same-sort (sort-of (row t (rows t - 1))) Script) 7 _ (h .2)));
-    },
-    λ w. (
-      accepts-iff (length-test t) (length-says t) .1 (λ k r o. w .long (o .2)),
-      lowest-accepts (part-fault t) (rows t) 0 .1 (λ r a b. part-none t r .1 (w .parts r (omega linear))),
-      accepts-iff (script-test t) (script-says t) .1 (λ k r o. o .2 (w .script)),
-    ),
-  )
-
-  unmarked-iff : Well-shaped t → (mark-test t ≡ accepted) ↔ ((q : ℕ) → q < rows t → ¬ Escaping t q)
-  unmarked-iff w =
-      let s = shaped-iff .1 w in
-      let falls = falls-of t (s .1) in
-      let filled = filled-of t (s .0) in
-      (none-escapes t falls filled, λ f. accepts-iff (mark-test t) (mark-exact t falls filled) .1 (λ k r o. f r (o .1 .within) (o .1 .has)))
-
-  -- a table that passes 2 to 6 passes 2 to 5
-  pub parts-pass : row-test t ≡ accepted → part-test t ≡ accepted
-  unfolding row-test-within part-test
-  parts-pass h =
-      lowest-accepts (part-fault t) (rows t) 0 .1 (λ r a b. part-free t r (lowest-accepts (row-fault t) (rows t) 0 .0 h r a b))
-
-  module _ (table-room origins-room : ℕ) where
-    -- 13 with row r: "with the lowest such old row, when some use of a mark that the script reaches is not inside the body of its
-    -- loop"
-    pub thirteen : (r : ℕ) → (mend-verdict t table-room origins-room ≡ refused 13 r) ↔ (Well-shaped t × Lowest (Escaping t) (rows t) r)
-    thirteen r = (
-      λ e. out (mend-numbers t table-room origins-room 13 r .0 e),
-      λ h. let s = shaped-iff .1 (h .0) in mend-numbers t table-room origins-room 13 r .1 (inr (s .0, inr (s .1, inr (s .2, inl (refl, h .1))))),
-    )
-      where
-        out : Mend-occasion t table-room origins-room 13 r → Well-shaped t × Lowest (Escaping t) (rows t) r
-        out (inl h) = absurd (omega (linear, h .0))
-        out (inr (a, inl F)) = absurd (let n = fault-numbers t r 13 (F .fault) (F .some) in omega linear)
-        out (inr (a, inr (b, inl h))) = absurd (omega (linear, h .0))
-        out (inr (a, inr (b, inr (c, inl h)))) = (shaped-iff .0 (a, b, c), h .1)
-        out (inr (a, inr (b, inr (c, inr (d, h))))) = absurd (omega (linear, h .0))
-
-    -- "and last 14 when the result passes 2,048 rows or either buffer", with row 0
-    pub fourteen : (r : ℕ) → (mend-verdict t table-room origins-room ≡ refused 14 r) ↔
-        (Well-shaped t × ((q : ℕ) → q < rows t → ¬ Escaping t q) × Too-long t table-room origins-room × (r ≡ 0))
-    fourteen r = (
-      λ e. out (mend-numbers t table-room origins-room 14 r .0 e),
-      λ h.
-          let s = shaped-iff .1 (h .0) in
-          let m = unmarked-iff (h .0) .1 (h .1) in
-          mend-numbers t table-room origins-room 14 r .1 (inr (s .0, inr (s .1, inr (s .2, inr (m, (refl, h .3, h .2)))))),
-    )
-      where
-        out : Mend-occasion t table-room origins-room 14 r
-            → Well-shaped t × ((q : ℕ) → q < rows t → ¬ Escaping t q) × Too-long t table-room origins-room × (r ≡ 0)
-        out (inl h) = absurd (omega (linear, h .0))
-        out (inr (a, inl F)) = absurd (let n = fault-numbers t r 14 (F .fault) (F .some) in omega linear)
-        out (inr (a, inr (b, inl h))) = absurd (omega (linear, h .0))
-        out (inr (a, inr (b, inr (c, inl h)))) = absurd (omega (linear, h .0))
-        out (inr (a, inr (b, inr (c, inr (d, h))))) =
-            let w = shaped-iff .0 (a, b, c) in
-            (w, unmarked-iff w .0 d, h .2, h .1)
-
-    -- no number: none of these occasions
-    pub mended-iff : (mend-verdict t table-room origins-room ≡ accepted) ↔
-        (Well-shaped t × ((q : ℕ) → q < rows t → ¬ Escaping t q) × ¬ Too-long t table-room origins-room)
-    mended-iff = (out, λ h. accepts-iff (mend-verdict t table-room origins-room) (mend-numbers t table-room origins-room) .1 (none (h .0) (h .1) (h .2)))
-      where
-        out : mend-verdict t table-room origins-room ≡ accepted
-            → Well-shaped t × ((q : ℕ) → q < rows t → ¬ Escaping t q) × ¬ Too-long t table-room origins-room
-        out e =
-            let T = tests t table-room origins-room e in
-            let w = shaped-iff .0 (T .length, T .part, T .script) in
-            let m = unmarked-iff w .0 (T .mark) in (
-              w,
-              m,
-              λ l. accepts-iff (mend-verdict t table-room origins-room) (mend-numbers t table-room origins-room) .0 e 14 0
-                  (mend-numbers t table-room origins-room 14 0 .0 (fourteen 0 .1 (w, m, l, refl))),
-            )
-
-        none : Well-shaped t → ((q : ℕ) → q < rows t → ¬ Escaping t q) → ¬ Too-long t table-room origins-room → (k r : ℕ)
-            → ¬ Mend-occasion t table-room origins-room k r
-        none w m l k r (inl h) = w .long (h .2)
-        none w m l k r (inr (a, inl F)) =
-            F .some (sym (part-some t r k (F .some) .1 (F .fault, F .no-six)) ∙ part-none t r .1 (w .parts r (F .within)))
-        none w m l k r (inr (a, inr (b, inl h))) = h .2 (w .script)
-        none w m l k r (inr (a, inr (b, inr (c, inl h)))) = m r (h .1 .within) (h .1 .has)
-        none w m l k r (inr (a, inr (b, inr (c, inr (d, h))))) = l (h .2)

@@ -1,6 +1,7 @@
--- The marks of the new table stand inside the bodies of the loops that they name (`marks-inside`), and the run of old rows is
--- right: a new row is its old row but for links and marks (`row-right`), links go to copies of the rows linked (`links-right`),
--- marks to copies of their loops (`mark-right`). Each at the place that `Everywhere` gives. Assumes nothing.
+-- The marks of the new table stand inside the bodies of the loops that they name (`marks-inside`), and the run of old
+-- rows is right: a new row is its old row but for links and marks (`row-right`), links go to copies of the rows linked
+-- (`links-right`), marks to copies of their loops (`mark-right`). Each at the place that `Everywhere` gives. Assumes
+-- nothing.
 use Prim.Native.Nat.{ℕ, _<_}
 use mathlib.Core.Path.{_≡_, refl, sym, ap, subst, _∙_}
 use mathlib.Core.List.{List}
@@ -34,7 +35,8 @@ module _ (t : List ℤ) (ok : Mendable t) where
   abbrev u : List ℤ
   u = new-table t
 
-  old-mark : (ρ : ℕ → ℕ) (pl : List ℕ) (w : Row) → A-mark (renew ρ pl w) → (x : RowNumber) × (w ≡ Row.Expression (Mark x))
+  old-mark : (ρ : ℕ → ℕ) (pl : List ℕ) (w : Row) → A-mark (renew ρ pl w)
+      → (x : RowNumber) × (w ≡ Row.Expression (Mark x))
   old-mark ρ pl (Row.Expression (Mark x)) h = (x, refl)
   old-mark ρ pl (Row.Expression (Constant z)) h = absurd h
   old-mark ρ pl (Row.Expression (Variable v)) h = absurd h
@@ -63,7 +65,8 @@ module _ (t : List ℤ) (ok : Mendable t) where
     pub named : m .0 ≡ renamed t k (loop .0)
     pub renames : Renamed t ok k is js (loop .0)
 
-  pub mark-of : {k r : ℕ} {is js : List ℕ} → Here t ok k r is js → (m : RowNumber) → row u k ≡ Row.Expression (Mark m) → Mark-of k r is js m
+  pub mark-of : {k r : ℕ} {is js : List ℕ} → Here t ok k r is js → (m : RowNumber) → row u k ≡ Row.Expression (Mark m)
+      → Mark-of k r is js m
   mark-of {k} {r} {is} {js} H m e =
       let ρ = renamed t k in
       let pl = part-places t k r in
@@ -77,7 +80,8 @@ module _ (t : List ℤ) (ok : Mendable t) where
       number d = cc
 
   -- the marks of the new table stand inside the bodies of the loops that they name
-  pub marks-inside : {k : ℕ} {code : Bool} {js : List ℕ} → Stands u k code js → (m : RowNumber) → row u k ≡ Row.Expression (Mark m)
+  pub marks-inside : {k : ℕ} {code : Bool} {js : List ℕ} → Stands u k code js → (m : RowNumber)
+      → row u k ≡ Row.Expression (Mark m)
       → member (m .0) js ≡ true
   marks-inside {k} {code} {js} S m e =
       let P = here-of t ok S in
@@ -93,20 +97,24 @@ module _ (t : List ℤ) (ok : Mendable t) where
   kinds-right k h = kind-at t k h
 
   -- its fields other than links and marks are those of the old row
-  pub row-right : (k : ℕ) → k < total → row u k ≡ renew (renamed t k) (part-places t k (origin t k)) (row t (origin t k))
+  pub row-right : (k : ℕ) → k < total
+      → row u k ≡ renew (renamed t k) (part-places t k (origin t k)) (row t (origin t k))
   row-right k h =
       let S = here-at t ok k h in
-      subst (λ (x : ℕ). row u k ≡ renew (renamed t k) (part-places t k x) (row t x)) (sym (came t ok (S .place) .0)) (renewed-row t ok (S .place))
+      subst (λ (x : ℕ). row u k ≡ renew (renamed t k) (part-places t k x) (row t x)) (sym (came t ok (S .place) .0))
+      (renewed-row t ok (S .place))
 
   -- a link goes to a copy of the row that the old link goes to
-  pub links-right : (k : ℕ) → k < total → {j i : ℕ} → Link j i (parts (row u k)) → Link (origin t j) i (parts (row t (origin t k)))
+  pub links-right : (k : ℕ) → k < total → {j i : ℕ} → Link j i (parts (row u k))
+      → Link (origin t j) i (parts (row t (origin t k)))
   links-right k h {j} {i} l =
       let S = here-at t ok k h in
       let H = S .place in
       let o = old-link t ok H l in
       let N = here-part t ok H (row t (S .old)) refl (o .1) in
       let e : origin t j ≡ o .0 = ap (origin t) (sym (o .2)) ∙ came t ok N .0 in
-      subst (λ (x : ℕ). Link x i (parts (row t (origin t k)))) (sym e) (subst (λ (x : ℕ). Link (o .0) i (parts (row t x))) (sym (came t ok H .0)) (o .1))
+      subst (λ (x : ℕ). Link x i (parts (row t (origin t k)))) (sym e)
+      (subst (λ (x : ℕ). Link (o .0) i (parts (row t x))) (sym (came t ok H .0)) (o .1))
 
   -- a mark names a copy of the loop that the old mark names
   pub mark-right : (k : ℕ) → k < total → (m : RowNumber) → row u k ≡ Row.Expression (Mark m)

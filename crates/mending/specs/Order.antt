@@ -1,6 +1,7 @@
--- "already in that order", of a table's own links: `Laid lo k` says that rows lo to k are row k with its parts right before it, left
--- to right, each laid out likewise. A table is in that order (`In-order`) exactly where its rows would be copied in the order in
--- which they stand (`order-run`, `run-order`); the new table is (`new-in-order`), so mending once more changes nothing.
+-- "already in that order", of a table's own links: `Laid lo k` says that rows lo to k are row k with its parts right
+-- before it, left to right, each laid out likewise. A table is in that order (`In-order`) exactly where its rows would
+-- be copied in the order in which they stand (`order-run`, `run-order`); the new table is (`new-in-order`), so mending
+-- once more changes nothing.
 -- By induction over the layout. Assumes nothing.
 use Prim.Native.Nat.{ℕ, zero, suc, _+_, _-_, _≤_, _<_}
 use mathlib.Core.Path.{_≡_, refl, sym, ap, subst, _∙_}
@@ -28,7 +29,8 @@ module _ (t : List ℤ) where
     -- the rows from lo up to k are the parts ps and what is below them, in order
     pub data Parts-laid : ℕ → ℕ → List Part → Type 0 where
       none : {k : ℕ} → Parts-laid k k []
-      more : {lo k : ℕ} {p : Part} {ps : List Part} → Laid lo (p .at) → Parts-laid (suc (p .at)) k ps → Parts-laid lo k (p ∷ ps)
+      more : {lo k : ℕ} {p : Part} {ps : List Part} → Laid lo (p .at) → Parts-laid (suc (p .at)) k ps
+          → Parts-laid lo k (p ∷ ps)
 
   -- "from the last row down, parts left to right before their parent", each row once
   abbrev pub In-order : Type 0
@@ -80,7 +82,8 @@ module _ (t : List ℤ) where
   abbrev Runs : ℕ → Type 0
   Runs n = (lo k : ℕ) → Laid t lo k → k < n → copies t n k ≡ run lo (suc k - lo)
 
-  parts-run : (n : ℕ) → Runs n → {lo k : ℕ} {ps : List Part} → Parts-laid t lo k ps → k ≤ n → each (copies t n) ps ≡ run lo (k - lo)
+  parts-run : (n : ℕ) → Runs n → {lo k : ℕ} {ps : List Part} → Parts-laid t lo k ps → k ≤ n
+      → each (copies t n) ps ≡ run lo (k - lo)
   unfolding each run
   parts-run n f (none {k = k}) h = let a : k - k ≡ 0 = omega linear in rw (a, run)
   parts-run n f (more {lo = lo} {k = k} {p = p} c s) h =
@@ -90,7 +93,8 @@ module _ (t : List ℤ) where
       let x : suc j ≡ lo + (suc j - lo) = omega linear in
       let y : (suc j - lo) + (k - suc j) ≡ k - lo = omega linear in
       rw (f lo j c (omega linear), parts-run n f s h)
-      (ap (λ (z : ℕ). run lo (suc j - lo) ++ run z (k - suc j)) x ∙ run-append lo (suc j - lo) (k - suc j) ∙ ap (run lo) y)
+      (ap (λ (z : ℕ). run lo (suc j - lo) ++ run z (k - suc j)) x ∙ run-append lo (suc j - lo) (k - suc j)
+      ∙ ap (run lo) y)
 
   laid-run : (n : ℕ) → Runs n
   unfolding copies run
@@ -125,14 +129,16 @@ module _ (t : List ℤ) where
       spread-laid Layout.none = none
       spread-laid (Layout.more {lo = lo} {j = j} {k = k} {p = p} {ps = ps} c s) =
           let same : j ≡ p .at = place c in
-          more (subst (λ (x : ℕ). Laid t lo x) same (copied-laid c)) (subst (λ (x : ℕ). Parts-laid t (suc x) k ps) same (spread-laid s))
+          more (subst (λ (x : ℕ). Laid t lo x) same (copied-laid c))
+          (subst (λ (x : ℕ). Parts-laid t (suc x) k ps) same (spread-laid s))
 
       place : {lo k r : ℕ} → Copied t lo k r → k ≡ r
       place {lo} {k} (copy s o h i) = sym (itself k h) ∙ o
 
     pub run-order : In-order t
     run-order =
-        let n : length (origins t) - 1 ≡ rows t - 1 = ap (λ (l : List ℕ). length l - 1) e ∙ ap (λ (x : ℕ). x - 1) (run-length 0 (rows t)) in
+        let n : length (origins t) - 1 ≡ rows t - 1 =
+        ap (λ (l : List ℕ). length l - 1) e ∙ ap (λ (x : ℕ). x - 1) (run-length 0 (rows t)) in
         subst (λ (k : ℕ). Laid t 0 k) n (copied-laid (whole-copied t falls filled))
 
 -- ---- the new table

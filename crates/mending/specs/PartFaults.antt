@@ -1,5 +1,6 @@
--- The faults of one row for the mender, which are those of 01 but 6: in order (`part-fault-is`), in the words of 01 (`part-some`,
--- `part-none`), and what a row has that has none (`sound-part`). Each by cases on the tests of 01. Assumes nothing.
+-- The faults of one row for the mender, which are those of 01 but 6: in order (`part-fault-is`), in the words of 01
+-- (`part-some`, `part-none`), and what a row has that has none (`sound-part`). Each by cases on the tests of 01.
+-- Assumes nothing.
 use Prim.Native.Nat.{ℕ, suc}
 use native.Mathlib.Omega.{arith as linear}
 use mathlib.Core.Path.{_≡_, refl, sym, _∙_}
@@ -26,8 +27,10 @@ module _ (t : List ℤ) (r : ℕ) where
       (cond (not (all-below t r (parts (row t r)))) 4 (cond (not (well-sorted t (parts (row t r)))) 5 0)))
   unfolding part-fault row-fault-within
   part-fault-is =
-      go (same-sort (sort-of (row t r)) Unknown) (not (in-range t (fields (row t r)) && unused-zero t r (length (fields (row t r)))))
-      (not (all-below t r (parts (row t r)))) (not (well-sorted t (parts (row t r)))) (not (all-new t (linked t r) (parts (row t r))))
+      go (same-sort (sort-of (row t r)) Unknown)
+      (not (in-range t (fields (row t r)) && unused-zero t r (length (fields (row t r)))))
+      (not (all-below t r (parts (row t r)))) (not (well-sorted t (parts (row t r))))
+      (not (all-new t (linked t r) (parts (row t r))))
     where
       go : (a b c d e : Bool) → let x : ℕ = cond a 2 (cond b 3 (cond c 4 (cond d 5 (cond e 6 0)))) in
           cond (eqb x 6) 0 x ≡ cond a 2 (cond b 3 (cond c 4 (cond d 5 0)))
@@ -44,8 +47,13 @@ module _ (t : List ℤ) (r : ℕ) where
   part-some k some = go (eqb (row-fault t r) 6) refl
     where
       go : (b : Bool) → eqb (row-fault t r) 6 ≡ b → (cond b 0 (row-fault t r) ≡ k) ↔ (Fault t r k × (k ≢ 6))
-      go true e = (λ h. absurd (some (sym h)), λ h. absurd (h .1 (sym (row-faults t r k .1 (h .0)) ∙ eqb-true (row-fault t r) 6 e)))
-      go false e = (λ h. (row-faults t r k .0 h, λ s. eqb-false (row-fault t r) 6 e (h ∙ s)), λ h. row-faults t r k .1 (h .0))
+      go true e = (
+        λ h. absurd (some (sym h)),
+        λ h. absurd
+            (h .1 (sym (row-faults t r k .1 (h .0)) ∙ eqb-true (row-fault t r) 6 e)),
+      )
+      go false e =
+          (λ h. (row-faults t r k .0 h, λ s. eqb-false (row-fault t r) 6 e (h ∙ s)), λ h. row-faults t r k .1 (h .0))
 
   -- none: the row passes 2 to 5 of 01
   pub part-none : (part-fault t r ≡ 0) ↔ Well-made t r

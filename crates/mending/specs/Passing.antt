@@ -1,6 +1,6 @@
--- The new table passes 1 to 7 of the check (`passes`): each of its rows has a known kind, numbers in range, links that fall and
--- go to rows of the right sort; no row is linked twice, the last is a script, and nothing links to no other. Test by test, from
--- `KeptFields` and `LinkedOnce`. Assumes nothing.
+-- The new table passes 1 to 7 of the check (`passes`): each of its rows has a known kind, numbers in range, links that
+-- fall and go to rows of the right sort; no row is linked twice, the last is a script, and every other row is linked.
+-- Test by test, from `KeptFields` and `LinkedOnce`. Assumes nothing.
 use Prim.Native.Nat.{ℕ, suc, _*_, _%_, _-_, _≤_, _<_}
 use mathlib.Core.Path.{_≡_, refl, sym, ap, subst, _∙_}
 use mathlib.Core.Logic.{_⊎_, inl, inr}
@@ -26,7 +26,8 @@ use Rattle.mending.specs.Mendable.{Mendable}
 use Rattle.mending.specs.Renew.{renew, renew-fields, fields-renewed, sort-renewed}
 use Rattle.mending.specs.NewRows.{new-rows, new-length, first-at, second-at, third-at}
 use Rattle.mending.specs.NewLinks.{copied-parts, row-is, new-parts}
-use Rattle.mending.specs.LinkedOnce.{some-rows, inner-at, new-falls, one-link, one-field, some-link}
+use Rattle.mending.specs.InnerCopies.{some-rows, inner-at, new-falls}
+use Rattle.mending.specs.LinkedOnce.{one-link, one-field, some-link}
 use Rattle.mending.specs.KeptFields.{place-below, rest-kept, same-length, three, fields-count, still-ranged}
 
 -- a table passes 1 to 7 of the check
@@ -99,7 +100,8 @@ module _ (t : List ℤ) (ok : Mendable t) where
         renamed-row : (m : ℕ) → renamed t k m < rows (new-table t)
         renamed-row m =
             subst (λ (n : ℕ). place-of m (suc k) (drop (suc k) (origins t)) < n) (sym (new-rows t))
-            (place-below m (suc k) (drop (suc k) (origins t)) total (omega linear) (omega (linear, length-drop (suc k) (origins t))))
+            (place-below m (suc k) (drop (suc k) (origins t)) total (omega linear)
+            (omega (linear, length-drop (suc k) (origins t))))
 
     words-are : word (new-table t) k 1 ∷ word (new-table t) k 2 ∷ word (new-table t) k 3 ∷ [] ≡
         renewed ρ js 0 (fields (row t r)) (word t r 1 ∷ word t r 2 ∷ word t r 3 ∷ [])
@@ -111,16 +113,19 @@ module _ (t : List ℤ) (ok : Mendable t) where
 
     unused-still : T (unused-zero (new-table t) k (length (fields (row (new-table t) k))))
     unused-still =
-        subst (λ (n : ℕ). T (unused-zero (new-table t) k n)) (sym (ap length new-fields ∙ fields-count ρ js 0 (fields (row t r))))
+        subst (λ (n : ℕ). T (unused-zero (new-table t) k n))
+        (sym (ap length new-fields ∙ fields-count ρ js 0 (fields (row t r))))
         (subst (λ (ws : List ℤ). T (all-zero (drop (length (fields (row t r))) ws))) (sym words-are)
-        (subst (λ (ws : List ℤ). T (all-zero ws)) (sym (rest-kept ρ js 0 (fields (row t r)) (word t r 1 ∷ word t r 2 ∷ word t r 3 ∷ [])))
+        (subst (λ (ws : List ℤ). T (all-zero ws))
+        (sym (rest-kept ρ js 0 (fields (row t r)) (word t r 1 ∷ word t r 2 ∷ word t r 3 ∷ [])))
         (ok .unused r (a .below))))
 
   -- 4: the links of a copy stay below it
   all-below-by : (u : List ℤ) (k : ℕ) (ps : List Part) → ((j i : ℕ) → Link j i ps → j < k) → T (all-below u k ps)
   all-below-by u k [] f = tt
   all-below-by u k (p ∷ ps) f =
-      pair (ltb (p .at) k) (all-below u k ps) (lt→ltb (p .at) k (f (p .at) 0 (here refl))) (all-below-by u k ps (λ j i l. f j (suc i) (there l)))
+      pair (ltb (p .at) k) (all-below u k ps) (lt→ltb (p .at) k (f (p .at) 0 (here refl)))
+      (all-below-by u k ps (λ j i l. f j (suc i) (there l)))
 
   falls-still : (k : ℕ) → k < total → T (all-below (new-table t) k (parts (row (new-table t) k)))
   falls-still k h =
@@ -141,7 +146,8 @@ module _ (t : List ℤ) (ok : Mendable t) where
 
   sorted-still : (k : ℕ) → (h : k < total) → T (well-sorted (new-table t) (parts (row (new-table t) k)))
   sorted-still k h =
-      subst (λ (ps : List Part). T (well-sorted (new-table t) ps)) (sym (parts-are k h)) (spread-sorted (a k h .spread) (ok .sorted (r k h) (a k h .below)))
+      subst (λ (ps : List Part). T (well-sorted (new-table t) ps)) (sym (parts-are k h))
+      (spread-sorted (a k h .spread) (ok .sorted (r k h) (a k h .below)))
 
   -- 6
   not-shared : (k : ℕ) → k < total → ¬ Shared (new-table t) k
@@ -150,7 +156,8 @@ module _ (t : List ℤ) (ok : Mendable t) where
       own : Link (S .to) (S .field) (copied-parts t (a k h .spread))
       own = subst (λ (ps : List Part). Link (S .to) (S .field) ps) (parts-are k h) (S .link)
 
-      taken : Links-to (take (S .field) (parts (row (new-table t) k))) (S .to) ⊎ Linked-below (new-table t) k (S .to) → ⊥
+      taken : Links-to (take (S .field) (parts (row (new-table t) k))) (S .to) ⊎ Linked-below (new-table t) k (S .to)
+          → ⊥
       taken (inl l) =
           one-field t ok (a k h .spread) own
           (subst (λ (ps : List Part). Link (S .to) (l .0) (take (S .field) ps)) (parts-are k h) (l .1))
@@ -164,11 +171,14 @@ module _ (t : List ℤ) (ok : Mendable t) where
       go true e = tt
       go false e = not-shared k h (shared-iff (new-table t) k .0 e)
 
-  no-fault : (u : List ℤ) (k : ℕ) → (sort-of (row u k) ≡ Unknown → ⊥) → T (in-range u (fields (row u k))) → T (unused-zero u k (length (fields (row u k))))
-      → T (all-below u k (parts (row u k))) → T (well-sorted u (parts (row u k))) → T (all-new u (linked u k) (parts (row u k))) → row-fault u k ≡ 0
+  no-fault : (u : List ℤ) (k : ℕ) → (sort-of (row u k) ≡ Unknown → ⊥) → T (in-range u (fields (row u k)))
+      → T (unused-zero u k (length (fields (row u k))))
+      → T (all-below u k (parts (row u k))) → T (well-sorted u (parts (row u k)))
+      → T (all-new u (linked u k) (parts (row u k))) → row-fault u k ≡ 0
   unfolding row-fault-within
   no-fault u k n i z b s w =
-      go (same-sort (sort-of (row u k)) Unknown) (in-range u (fields (row u k))) (unused-zero u k (length (fields (row u k))))
+      go (same-sort (sort-of (row u k)) Unknown) (in-range u (fields (row u k)))
+      (unused-zero u k (length (fields (row u k))))
       (all-below u k (parts (row u k))) (well-sorted u (parts (row u k))) (all-new u (linked u k) (parts (row u k)))
       (λ e. n (sort-iff (sort-of (row u k)) Unknown .0 e)) i z b s w
     where
@@ -179,14 +189,16 @@ module _ (t : List ℤ) (ok : Mendable t) where
 
   new-fault : (k : ℕ) → k < total → row-fault (new-table t) k ≡ 0
   new-fault k h =
-      no-fault (new-table t) k (kind-known k h) (in-range-still k h) (unused-still k h) (falls-still k h) (sorted-still k h) (is-new k h)
+      no-fault (new-table t) k (kind-known k h) (in-range-still k h) (unused-still k h) (falls-still k h)
+      (sorted-still k h) (is-new k h)
 
   -- 7
   all-linked : (k : ℕ) → k < total - 1 → unlinked-fault (new-table t) k ≡ 0
   all-linked k h =
       let l = some-link t ok whole k (omega linear) h in
       let below : l .0 < rows (new-table t) = omega (linear, l .1, new-rows t, some-rows t ok) in
-      subst (λ (b : Bool). _≡_ {A = ℕ} (cond b 0 7) 0) (sym (linked-iff (new-table t) (rows (new-table t)) k .1 (l .0, below, l .2))) refl
+      subst (λ (b : Bool). _≡_ {A = ℕ} (cond b 0 7) 0)
+      (sym (linked-iff (new-table t) (rows (new-table t)) k .1 (l .0, below, l .2))) refl
 
   last-script : sort-of (row (new-table t) (total - 1)) ≡ Script
   last-script = copied-sort whole ∙ ok .script
@@ -202,9 +214,13 @@ module _ (t : List ℤ) (ok : Mendable t) where
   unfolding length-test row-test-within script-test unlinked-test
   passes = record {
     length = rw (good-length (length (new-table t)) total (new-length t) (some-rows t ok) (ok .few));
-    row = lowest-accepts (row-fault (new-table t)) (rows (new-table t)) 0 .1 (λ k i l. new-fault k (omega (linear, new-rows t)));
+    row =
+        lowest-accepts (row-fault (new-table t)) (rows (new-table t)) 0 .1
+        (λ k i l. new-fault k (omega (linear, new-rows t)));
     script =
         let e : rows (new-table t) - 1 ≡ total - 1 = omega (linear, new-rows t) in
         rw (e, sort-iff (sort-of (row (new-table t) (total - 1))) Script .1 last-script);
-    unlinked = lowest-accepts (unlinked-fault (new-table t)) (rows (new-table t) - 1) 0 .1 (λ k i l. all-linked k (omega (linear, new-rows t)));
+    unlinked =
+        lowest-accepts (unlinked-fault (new-table t)) (rows (new-table t) - 1) 0 .1
+        (λ k i l. all-linked k (omega (linear, new-rows t)));
   }

@@ -1,4 +1,5 @@
--- 02, P7, by computation: tables made by chance, with answers of an implementation written from the paper's words. Assumes nothing.
+-- 02, P7, by computation: tables made by chance, with answers of an implementation written from the paper's words.
+-- Assumes nothing.
 use mathlib.Core.Path.{_≡_, refl}
 use mathlib.Core.List.{List, [], _∷_, map}
 use Rattle.script.specs.Computed.{_⨾_, numbers}

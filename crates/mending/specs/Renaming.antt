@@ -1,8 +1,8 @@
--- The renamed marks. `Here k r is js`: new row k is a copy of row r, which stands in the script inside the loops `is`, and k
--- inside their copies `js`; each mark that may stand there is renamed to the copy in the same place of the list. It holds of
--- the script (`here-top`), and goes from a row to its parts (`here-part`).
--- Argument: the next copy of loop m above a row is the same for a row and its parts, since what stands between them came from
--- rows below m, except for the body of m, where it is the copy of m that it is the body of. Assumes nothing.
+-- The renamed marks. `Here k r is js`: new row k is a copy of row r, which stands in the script inside the loops `is`,
+-- and k inside their copies `js`; each mark that may stand there is renamed to the copy in the same place of the list.
+-- It holds of the script (`here-top`), and goes from a row to its parts (`here-part`).
+-- Argument: the next copy of loop m above a row is the same for a row and its parts, since what stands between them
+-- came from rows below m, except for the body of m, where it is the copy of m that it is the body of. Assumes nothing.
 use Prim.Native.Nat.{ℕ, suc, _-_, _≤_, _<_}
 use mathlib.Core.Path.{_≡_, refl, sym, ap, subst, _∙_}
 use mathlib.Core.Logic.{_⊎_, inl, inr}
@@ -95,7 +95,8 @@ module _ (t : List ℤ) (ok : Mendable t) where
   last-part (more c s) (there l) d = last-part s l (omega linear)
 
   -- the scope of a part that is no body
-  same-scope : {k r : ℕ} {is js : List ℕ} → Here k r is js → (j : ℕ) → j < k → ((q : ℕ) → j < q → q ≤ k → origin t q ≤ r) → k < total → Scoped j is js
+  same-scope : {k r : ℕ} {is js : List ℕ} → Here k r is js → (j : ℕ) → j < k
+      → ((q : ℕ) → j < q → q ≤ k → origin t q ≤ r) → k < total → Scoped j is js
   same-scope {k} {r} {is} {js} H j l f h m e =
       let up = above t (ok .falls) (ok .filled) (H .place) .1 m e in
       let R = H .scoped m e in
@@ -109,7 +110,8 @@ module _ (t : List ℤ) (ok : Mendable t) where
       }
 
   -- the scope of the body of loop r, which ends right before its row
-  body-scope : {k r : ℕ} {is js : List ℕ} → Here k r is js → (j : ℕ) → suc j ≡ k → k < total → origin t k ≡ r → Scoped j (r ∷ is) (k ∷ js)
+  body-scope : {k r : ℕ} {is js : List ℕ} → Here k r is js → (j : ℕ) → suc j ≡ k → k < total → origin t k ≡ r
+      → Scoped j (r ∷ is) (k ∷ js)
   body-scope {k} {r} {is} {js} H j l h o m e = go (eqb m r) refl (or-iff (eqb m r) (member m is) .0 e)
     where
       own : m ≡ r → Renamed j (r ∷ is) (k ∷ js) m
@@ -143,7 +145,8 @@ module _ (t : List ℤ) (ok : Mendable t) where
 
   -- ---- from a row to its parts
 
-  scope-part : (w : Row) (i k r j : ℕ) (is js : List ℕ) → Scoped j is js → (suc i ≡ length (parts w) → Scoped j (r ∷ is) (k ∷ js))
+  scope-part : (w : Row) (i k r j : ℕ) (is js : List ℕ) → Scoped j is js
+      → (suc i ≡ length (parts w) → Scoped j (r ∷ is) (k ∷ js))
       → Scoped j (inside-at r w i is) (inside-at k w i js)
   scope-part (Row.Expression x) i k r j is js f g = f
   scope-part (Row.Formula x) i k r j is js f g = f
@@ -168,31 +171,38 @@ module _ (t : List ℤ) (ok : Mendable t) where
       old-link : Link p i (parts (row t r))
       old-link = subst (λ (v : Row). Link p i (parts v)) (sym e) l
 
-      at-spot : {lo : ℕ} (j : ℕ) → Copied t lo k r → Part-at lo k p j → (suc i ≡ length (parts w) → suc j ≡ k) → k < total → origin t k ≡ r
+      at-spot : {lo : ℕ} (j : ℕ) → Copied t lo k r → Part-at lo k p j → (suc i ≡ length (parts w) → suc j ≡ k)
+          → k < total → origin t k ≡ r
           → Here j p (inside-at r w i is) (inside-at k w i js)
       at-spot j c P last h o = record {
         start = P .start;
         copied = P .copied;
         code = code-at w i (H .code);
-        place = subst (λ (v : Row). Stands t p (code-at v i (H .code)) (inside-at r v i is)) e (link (H .place) old-link);
+        place =
+            subst (λ (v : Row). Stands t p (code-at v i (H .code)) (inside-at r v i is)) e (link (H .place) old-link);
         scoped =
-            scope-part w i k r j is js (same-scope H j (P .lower) (λ q a b. copied-old t ok c q (let x = P .higher in omega linear) b) h)
+            scope-part w i k r j is js (same-scope H j (P .lower)
+            (λ q a b. copied-old t ok c q (let x = P .higher in omega linear) b) h)
             (λ d. body-scope H j (last d) h o);
       }
 
       go : {lo : ℕ} → Copied t lo k r → Here (getD (part-places t k r) i 0) p (inside-at r w i is) (inside-at k w i js)
       go (copy s o h b) =
-          subst (λ (ps : List ℕ). Here (getD ps i 0) p (inside-at r w i is) (inside-at k w i js)) (sym (places-are t (ok .falls) r s))
+          subst (λ (ps : List ℕ). Here (getD ps i 0) p (inside-at r w i is) (inside-at k w i js))
+          (sym (places-are t (ok .falls) r s))
           (at-spot (getD (spots t s) i 0) (copy s o h b) (part-at s old-link)
           (λ d. last-part s old-link (d ∙ ap (λ (v : Row). length (parts v)) (sym e))) h o)
 
-  pub here-lower : {k r : ℕ} {is js : List ℕ} → Here k r is js → {p i : ℕ} → Link p i (parts (row t r)) → (p < r) × (getD (part-places t k r) i 0 < k)
-  here-lower {k} {r} H {p} {i} l = (link-below t r (ok .falls r (above t (ok .falls) (ok .filled) (H .place) .0)) l, go (H .copied))
+  pub here-lower : {k r : ℕ} {is js : List ℕ} → Here k r is js → {p i : ℕ} → Link p i (parts (row t r))
+      → (p < r) × (getD (part-places t k r) i 0 < k)
+  here-lower {k} {r} H {p} {i} l =
+      (link-below t r (ok .falls r (above t (ok .falls) (ok .filled) (H .place) .0)) l, go (H .copied))
     where
       go : {lo : ℕ} → Copied t lo k r → getD (part-places t k r) i 0 < k
       go (copy s o h b) =
           subst (λ (ps : List ℕ). getD ps i 0 < k) (sym (places-are t (ok .falls) r s)) (part-at s l .lower)
 
   -- a mark stands inside the body of its loop
-  pub mark-inside : {k r : ℕ} {is js : List ℕ} → Here k r is js → (m : RowNumber) → row t r ≡ Row.Expression (Mark m) → member (m .0) is ≡ true
+  pub mark-inside : {k r : ℕ} {is js : List ℕ} → Here k r is js → (m : RowNumber) → row t r ≡ Row.Expression (Mark m)
+      → member (m .0) is ≡ true
   mark-inside H m e = mark-within t (ok .falls) (ok .filled) (ok .inside) (H .place) m e

@@ -1,5 +1,6 @@
 -- A row renewed: the same row with its links and its mark given anew (`renew`). Its fields are renewed one by one
--- (`fields-renewed`), its sort stays (`sort-renewed`), and the words that `NewTable.renewed` writes are read as it (`renew-row`).
+-- (`fields-renewed`), its sort stays (`sort-renewed`), and the words that `NewTable.renewed` writes are read as it
+-- (`renew-row`).
 -- Argument: by cases on rows; each of the kinds of 01 with renewed fields is that kind of row renewed. Assumes nothing.
 use Prim.Native.Nat.{ℕ, suc}
 use mathlib.Core.Path.{_≡_, refl}
@@ -116,7 +117,11 @@ module _ (ρ : ℕ → ℕ) (js : List ℕ) where
     unfolding row-of renewed
     renew-row n =
         listed-holds Renews n (kinds a b c) (λ u. absurd (u refl))
-        ((λ u. refl) also (λ u. refl) also (λ u. refl) also (λ u. refl) also (λ u. refl) also (λ u. refl) also (λ u. refl)
-        also (λ u. refl) also (λ u. refl) also (λ u. refl) also (λ u. refl) also (λ u. refl) also (λ u. refl) also (λ u. refl)
-        also (λ u. refl) also (λ u. refl) also (λ u. refl) also (λ u. refl) also (λ u. refl) also (λ u. refl) also (λ u. refl)
-        also (λ u. refl) also (λ u. refl) also (λ u. refl) also (λ u. refl) also (λ u. refl) also (λ u. refl) also (λ u. refl) also tt)
+        ((λ u. refl) also (λ u. refl) also (λ u. refl) also (λ u. refl) also (λ u. refl) also (λ u. refl) also
+        (λ u. refl)
+        also (λ u. refl) also (λ u. refl) also (λ u. refl) also (λ u. refl) also (λ u. refl) also (λ u. refl) also
+        (λ u. refl)
+        also (λ u. refl) also (λ u. refl) also (λ u. refl) also (λ u. refl) also (λ u. refl) also (λ u. refl) also
+        (λ u. refl)
+        also (λ u. refl) also (λ u. refl) also (λ u. refl) also (λ u. refl) also (λ u. refl) also (λ u. refl) also
+        (λ u. refl) also tt)

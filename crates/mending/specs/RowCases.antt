@@ -1,6 +1,7 @@
--- One row of the script and its copy, from their parts: where the parts of a row and of its copy are the same without names, so
--- are the two (`expr-case`, `formula-case`, `stmt-case`, `loop-case`). New row k is a copy of row r: its links go to pl, its mark
--- is renamed by ρ; `is` are the loops around r, `js` their copies. By cases on rows. Assumes nothing.
+-- One row of the script and its copy, from their parts: where the parts of a row and of its copy are the same without
+-- names, so are the two (`expr-case`, `formula-case`, `stmt-case`, `loop-case`). New row k is a copy of row r: its
+-- links go to pl, its mark is renamed by ρ; `is` are the loops around r, `js` their copies. By cases on rows. Assumes
+-- nothing.
 use Prim.Native.Nat.{ℕ}
 use mathlib.Core.Path.{_≡_, refl}
 use mathlib.Core.List.{List, [], _∷_}
@@ -21,21 +22,31 @@ use Rattle.mending.specs.Nameless.{index, nameless, namelessᶠ, nameles
 
 module _ (E E′ : ℕ → Expr) (F F′ : ℕ → Formula) (S S′ : ℕ → Stmt) (N N′ : ℕ → Row) (k r : ℕ) (is js pl : List ℕ) (ρ : ℕ → ℕ) where
   abbrev Exprs : Row → Type 0
-  Exprs w = (i p : ℕ) → Link p i (parts w) → nameless (inside-at k w i js) (E′ (getD pl i 0)) ≡ nameless (inside-at r w i is) (E p)
+  Exprs w =
+      (i p : ℕ) → Link p i (parts w) → nameless (inside-at k w i js) (E′ (getD pl i 0)) ≡ nameless (inside-at r w i is)
+      (E p)
 
   abbrev Formulas : Row → Type 0
-  Formulas w = (i p : ℕ) → Link p i (parts w) → namelessᶠ (inside-at k w i js) (F′ (getD pl i 0)) ≡ namelessᶠ (inside-at r w i is) (F p)
+  Formulas w =
+      (i p : ℕ) → Link p i (parts w) → namelessᶠ (inside-at k w i js) (F′ (getD pl i 0)) ≡ namelessᶠ
+      (inside-at r w i is) (F p)
 
   abbrev Stmts : Row → Type 0
-  Stmts w = (i p : ℕ) → Link p i (parts w) → namelessˢ (inside-at k w i js) (S′ (getD pl i 0)) ≡ namelessˢ (inside-at r w i is) (S p)
+  Stmts w =
+      (i p : ℕ) → Link p i (parts w) → namelessˢ (inside-at k w i js) (S′ (getD pl i 0)) ≡ namelessˢ
+      (inside-at r w i is) (S p)
 
   -- a loop with its note at link number 1
   abbrev Notes : Row → Type 0
-  Notes w = (p : ℕ) → Link p 1 (parts w) → (b b′ : Formula) (x x′ : Stmt) → namelessᶠ (inside-at k w 1 js) b′ ≡ namelessᶠ (inside-at r w 1 is) b
+  Notes w =
+      (p : ℕ) → Link p 1 (parts w) → (b b′ : Formula) (x x′ : Stmt)
+      → namelessᶠ (inside-at k w 1 js) b′ ≡ namelessᶠ (inside-at r w 1 is) b
       → namelessˢ (k ∷ inside-at k w 1 js) x′ ≡ namelessˢ (r ∷ inside-at r w 1 is) x
-      → namelessˢ (inside-at k w 1 js) (loop-node E′ F′ k b′ (N′ (getD pl 1 0)) x′) ≡ namelessˢ (inside-at r w 1 is) (loop-node E F r b (N p) x)
+      → namelessˢ (inside-at k w 1 js) (loop-node E′ F′ k b′ (N′ (getD pl 1 0)) x′) ≡
+      namelessˢ (inside-at r w 1 is) (loop-node E F r b (N p) x)
 
-  pub expr-case : (w : Row) → Exprs w → Formulas w → ((m : RowNumber) → w ≡ Row.Expression (Mark m) → index (ρ (m .0)) js ≡ index (m .0) is)
+  pub expr-case : (w : Row) → Exprs w → Formulas w
+      → ((m : RowNumber) → w ≡ Row.Expression (Mark m) → index (ρ (m .0)) js ≡ index (m .0) is)
       → nameless js (expr-node E′ F′ (renew ρ pl w)) ≡ nameless is (expr-node E F w)
   unfolding nameless namelessᶠ
   expr-case (Row.Expression (Constant z)) es fs m = refl
@@ -60,7 +71,8 @@ module _ (E E′ : ℕ → Expr) (F F′ : ℕ → Formula) (S S′ : ℕ → St
   expr-case (Row.Script p s q) es fs m = refl
   expr-case Row.Unknown es fs m = refl
 
-  pub formula-case : (w : Row) → Exprs w → Formulas w → namelessᶠ js (formula-node E′ F′ (renew ρ pl w)) ≡ namelessᶠ is (formula-node E F w)
+  pub formula-case : (w : Row) → Exprs w → Formulas w
+      → namelessᶠ js (formula-node E′ F′ (renew ρ pl w)) ≡ namelessᶠ is (formula-node E F w)
   unfolding nameless namelessᶠ
   formula-case (Row.Formula True) es fs = refl
   formula-case (Row.Formula False) es fs = refl
@@ -92,7 +104,8 @@ module _ (E E′ : ℕ → Expr) (F F′ : ℕ → Formula) (S S′ : ℕ → St
   stmt-case (Row.Statement (If b x y)) es fs ss ns =
       rw (fs 0 (b .0) (here refl), ss 1 (x .0) (there (here refl)), ss 2 (y .0) (there (there (here refl))))
   stmt-case (Row.Statement (While b n x)) es fs ss ns =
-      ns (n .0) (there (here refl)) (F (b .0)) (F′ (getD pl 0 0)) (S (x .0)) (S′ (getD pl 2 0)) (fs 0 (b .0) (here refl))
+      ns (n .0) (there (here refl)) (F (b .0)) (F′ (getD pl 0 0)) (S (x .0)) (S′ (getD pl 2 0))
+      (fs 0 (b .0) (here refl))
       (ss 2 (x .0) (there (there (here refl))))
   stmt-case (Row.Statement (Assert f)) es fs ss ns = rw (fs 0 (f .0) (here refl))
   stmt-case (Row.Expression (Constant z)) es fs ss ns = refl
@@ -111,11 +124,13 @@ module _ (E E′ : ℕ → Expr) (F F′ : ℕ → Formula) (S S′ : ℕ → St
   stmt-case Row.Unknown es fs ss ns = refl
 
   -- a loop at q′ that is a copy of the one at q: its note stands at k, a copy of row r, which is v
-  pub loop-case : (v : Row) (q q′ : ℕ) (b b′ : Formula) (x x′ : Stmt) → Exprs v → Formulas v → namelessᶠ js b′ ≡ namelessᶠ is b
+  pub loop-case : (v : Row) (q q′ : ℕ) (b b′ : Formula) (x x′ : Stmt) → Exprs v → Formulas v
+      → namelessᶠ js b′ ≡ namelessᶠ is b
       → namelessˢ (q′ ∷ js) x′ ≡ namelessˢ (q ∷ is) x
       → namelessˢ js (loop-node E′ F′ q′ b′ (renew ρ pl v) x′) ≡ namelessˢ is (loop-node E F q b v x)
   unfolding namelessˢ
-  loop-case (Row.Note i v) q q′ b b′ x x′ es fs hb hx = rw (hb, hx, fs 0 (i .0) (here refl), es 1 (v .0) (there (here refl)))
+  loop-case (Row.Note i v) q q′ b b′ x x′ es fs hb hx =
+      rw (hb, hx, fs 0 (i .0) (here refl), es 1 (v .0) (there (here refl)))
   loop-case (Row.Expression (Constant z)) q q′ b b′ x x′ es fs hb hx = refl
   loop-case (Row.Expression (Variable v)) q q′ b b′ x x′ es fs hb hx = refl
   loop-case (Row.Expression (Arithmetic o a c)) q q′ b b′ x x′ es fs hb hx = refl

@@ -1,7 +1,7 @@
--- Scripts that are the same without names have the same runs, where their marks are in scope: from states with the same variables
--- both are, after any number of steps, the same without names (`same-steps`), so one keeps demand 3's promise where the other does
--- (`same-correct`), and their preconditions hold in the same states (`same-pre`).
--- Argument: both runs, seen without names, are the nameless one (`NamelessRun.after-seen`). Assumes nothing.
+-- Scripts that are the same without names have the same runs, where their marks are in scope: from states with the same
+-- variables both are, after any number of steps, the same without names (`same-steps`), so one keeps demand 3's promise
+-- where the other does (`same-correct`), and their preconditions hold in the same states (`same-pre`).
+-- Argument: both runs, seen without names, are the nameless one (`RunSeen.after-seen`). Assumes nothing.
 use Prim.Native.Nat.{ℕ}
 use mathlib.Core.Path.{_≡_, refl, sym, ap, subst, _∙_}
 use mathlib.Core.List.{List, [], _∷_}
@@ -12,7 +12,8 @@ use Rattle.script.specs.Meaning.{Arithmetic, State, holds}
 use Rattle.script.specs.Run.{Frame, begin, again, Config, at, failed, after, start, Passes-bounded, Good, Total-correctness}
 use Rattle.mending.specs.Nameless.{namelessᶠ, namelessˢ, nameless-tree}
 use Rattle.mending.specs.InScope.{Inᶠ, Scoped-tree}
-use Rattle.mending.specs.NamelessRun.{Config₀, at₀, failed₀, state₀, after₀, frames₀, seen, holds-seen, after-seen}
+use Rattle.mending.specs.NamelessRun.{Config₀, at₀, failed₀, state₀, after₀, frames₀, seen}
+use Rattle.mending.specs.RunSeen.{holds-seen, after-seen}
 
 -- ---- what is seen of a configuration
 
@@ -67,7 +68,8 @@ module _ (𝔸 : Arithmetic) (a b : Tree) (in-a : Scoped-tree a) (in-b : Scoped-
   bodies = ap (λ (t : Tree). t .body) e
 
   -- a formula that stands in no loop
-  free : (f g : Formula) → Inᶠ [] f → Inᶠ [] g → namelessᶠ [] f ≡ namelessᶠ [] g → (s s′ : State) → s .var ≡ s′ .var → holds 𝔸 s f ≡ holds 𝔸 s′ g
+  free : (f g : Formula) → Inᶠ [] f → Inᶠ [] g → namelessᶠ [] f ≡ namelessᶠ [] g → (s s′ : State) → s .var ≡ s′ .var
+      → holds 𝔸 s f ≡ holds 𝔸 s′ g
   free f g hf hg same s s′ vars =
       holds-seen 𝔸 s [] f hf ∙ (λ i. holds 𝔸 (state₀ (vars i) []) (same i)) ∙ sym (holds-seen 𝔸 s′ [] g hg)
 
@@ -80,7 +82,8 @@ module _ (𝔸 : Arithmetic) (a b : Tree) (in-a : Scoped-tree a) (in-b : Scoped-
   same-post = free (a .post) (b .post) (in-a .post) (in-b .post) (ap (λ (t : Tree). t .post) e)
 
   -- after any number of steps
-  pub same-steps : (n : ℕ) (s s′ : State) → s .var ≡ s′ .var → seen (after 𝔸 n (start a s)) ≡ seen (after 𝔸 n (start b s′))
+  pub same-steps : (n : ℕ) (s s′ : State) → s .var ≡ s′ .var
+      → seen (after 𝔸 n (start a s)) ≡ seen (after 𝔸 n (start b s′))
   same-steps n s s′ vars =
       after-seen 𝔸 n (start a s) (in-a .body, tt) .same
       ∙ (λ i. after₀ 𝔸 n (at₀ (begin (bodies i) ∷ []) (vars i) []))
@@ -88,11 +91,14 @@ module _ (𝔸 : Arithmetic) (a b : Tree) (in-a : Scoped-tree a) (in-b : Scoped-
 
   pub same-correct : (s s′ : State) → s .var ≡ s′ .var → Total-correctness 𝔸 a s → Total-correctness 𝔸 b s′
   same-correct s s′ vars C =
-      let E = ended (after 𝔸 (C .steps) (start b s′)) (C .end .var) [] (sym (same-steps (C .steps) s s′ vars) ∙ ap seen (C .ends)) in
+      let E =
+      ended (after 𝔸 (C .steps) (start b s′)) (C .end .var) []
+      (sym (same-steps (C .steps) s s′ vars) ∙ ap seen (C .ends)) in
       record {
         steps = C .steps;
         end = E .end;
         ends = E .is;
         post = subst T (same-post (C .end) (E .end) (sym (E .same))) (C .post);
-        good = λ n. seen-good (after 𝔸 n (start b s′)) (subst Good₀ (same-steps n s s′ vars) (good-seen (after 𝔸 n (start a s)) (C .good n)));
+        good =
+            λ n. seen-good (after 𝔸 n (start b s′)) (subst Good₀ (same-steps n s s′ vars) (good-seen (after 𝔸 n (start a s)) (C .good n)));
       }

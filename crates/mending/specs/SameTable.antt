@@ -1,5 +1,5 @@
--- "an accepted table already in that order comes back the same": its words (`same-table`), with no row dropped and none copied
--- again; so does every table that the mender does not refuse and that is in that order (`comes-back`).
+-- "an accepted table already in that order comes back the same": its words (`same-table`), with no row dropped and none
+-- copied again; so does every table that the mender does not refuse and that is in that order (`comes-back`).
 -- Argument: where row k is the copy of row k, links and marks are renewed to themselves, and the words are kept
 -- (`FieldWords.renewed-same`). Assumes nothing.
 use Prim.Native.Nat.{ℕ, zero, suc, _+_, _*_, _/_, _%_, _-_, _<_}
@@ -41,13 +41,15 @@ unchanged t table-room origins-room = record {
 }
 
 -- what holds of the four words of each row holds of each word
-by-fours : (P : ℕ → Type 0) (n : ℕ) → ((k : ℕ) → k < n → P (4 * k + 0) × P (4 * k + 1) × P (4 * k + 2) × P (4 * k + 3)) → (i : ℕ) → i < 4 * n → P i
+by-fours : (P : ℕ → Type 0) (n : ℕ) → ((k : ℕ) → k < n → P (4 * k + 0) × P (4 * k + 1) × P (4 * k + 2) × P (4 * k + 3))
+    → (i : ℕ) → i < 4 * n → P i
 by-fours P n f i h = subst P (whole i) (pick (i % 4) (omega linear) (f (i / 4) (omega linear)))
   where
     whole : (i : ℕ) → 4 * (i / 4) + i % 4 ≡ i
     whole i = omega linear
 
-    pick : (r : ℕ) → r < 4 → P (4 * (i / 4) + 0) × P (4 * (i / 4) + 1) × P (4 * (i / 4) + 2) × P (4 * (i / 4) + 3) → P (4 * (i / 4) + r)
+    pick : (r : ℕ) → r < 4 → P (4 * (i / 4) + 0) × P (4 * (i / 4) + 1) × P (4 * (i / 4) + 2) × P (4 * (i / 4) + 3)
+        → P (4 * (i / 4) + r)
     pick zero l g = g .0
     pick (suc zero) l g = g .1
     pick (suc (suc zero)) l g = g .2
@@ -91,10 +93,12 @@ module _ (t : List ℤ) (ok : Mendable t) (ordered : In-order t) where
     new-at : (f : ℕ) → new-word t k (origin t k) (suc f) ≡ getD (word t k 1 ∷ word t k 2 ∷ word t k 3 ∷ []) f (pos 0)
     unfolding new-word
     new-at f =
-        ap (λ (r : ℕ). new-word t k r (suc f)) (came t ok (there-is .place) .0) ∙ ap (λ (l : List ℤ). getD l f (pos 0)) kept
+        ap (λ (r : ℕ). new-word t k r (suc f)) (came t ok (there-is .place) .0)
+        ∙ ap (λ (l : List ℤ). getD l f (pos 0)) kept
         ∙ ap (λ (r : ℕ). getD (word t r 1 ∷ word t r 2 ∷ word t r 3 ∷ []) f (pos 0)) old-is
 
-    words-same : (word (new-table t) k 0 ≡ word t k 0) × (word (new-table t) k 1 ≡ word t k 1) × (word (new-table t) k 2 ≡ word t k 2)
+    words-same : (word (new-table t) k 0 ≡ word t k 0) × (word (new-table t) k 1 ≡ word t k 1)
+        × (word (new-table t) k 2 ≡ word t k 2)
         × (word (new-table t) k 3 ≡ word t k 3)
     words-same =
         let l : k < length (origins t) = omega (linear, total-is) in (
@@ -107,10 +111,12 @@ module _ (t : List ℤ) (ok : Mendable t) (ordered : In-order t) where
   pub same-table : new-table t ≡ t
   same-table =
       ext-getD (pos 0) (new-table t) t (new-length t ∙ ap (λ (n : ℕ). 4 * n) total-is ∙ sym (ok .fours))
-      (λ i h. by-fours (λ i. getD (new-table t) i (pos 0) ≡ getD t i (pos 0)) (rows t) words-same i (omega (linear, new-length t, total-is)))
+      (λ i h. by-fours (λ i. getD (new-table t) i (pos 0) ≡ getD t i (pos 0)) (rows t) words-same i
+      (omega (linear, new-length t, total-is)))
 
   all-among : among (rows t) (origins t) ≡ rows t
-  all-among = among-all (rows t) (origins t) (λ q h. member-at q (origins t) .1 (q, omega (linear, total-is), itself q h))
+  all-among =
+      among-all (rows t) (origins t) (λ q h. member-at q (origins t) .1 (q, omega (linear, total-is), itself q h))
 
   none-dropped : (table-room origins-room : ℕ) → mend t table-room origins-room .dropped ≡ 0
   none-dropped table-room origins-room = omega (linear, dropped-is t ok table-room origins-room, all-among)
@@ -119,7 +125,8 @@ module _ (t : List ℤ) (ok : Mendable t) (ordered : In-order t) where
   none-copied table-room origins-room = omega (linear, copied-is t ok table-room origins-room, all-among, total-is)
 
 -- what the mender does not refuse and is in that order comes back, with the whole outcome
-pub comes-back : (t : List ℤ) (table-room origins-room : ℕ) → mend-verdict t table-room origins-room ≡ accepted → In-order t
+pub comes-back : (t : List ℤ) (table-room origins-room : ℕ) → mend-verdict t table-room origins-room ≡ accepted
+    → In-order t
     → mended t table-room origins-room ≡ unchanged t table-room origins-room
 unfolding mended
 comes-back t table-room origins-room v ordered =

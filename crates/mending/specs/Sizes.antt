@@ -1,4 +1,5 @@
--- The size of a row, from those of its parts (`size-step`); the number of new rows is that of the last one (`total-is`).
+-- The size of a row, from those of its parts (`size-step`); the number of new rows is that of the last one
+-- (`total-is`).
 -- Argument: links fall, so every bound on the depth above a row gives the same copies (`steady`). Assumes nothing.
 use Prim.Native.Nat.{ℕ, zero, suc, _-_, _<_}
 use mathlib.Core.Path.{_≡_, refl, ap}
@@ -14,7 +15,8 @@ use Rattle.mending.specs.Copies.{each, part-sum, copies, origins, size}
 use Rattle.mending.specs.Falling.{Falls}
 
 module _ (t : List ℤ) (falls : Falls t) where
-  each-same : (C D : ℕ → List ℕ) (r : ℕ) (ps : List Part) → T (all-below t r ps) → ((k : ℕ) → k < r → C k ≡ D k) → each C ps ≡ each D ps
+  each-same : (C D : ℕ → List ℕ) (r : ℕ) (ps : List Part) → T (all-below t r ps) → ((k : ℕ) → k < r → C k ≡ D k)
+      → each C ps ≡ each D ps
   unfolding each
   each-same C D r [] h f = refl
   each-same C D r (p ∷ ps) h f =
@@ -28,7 +30,8 @@ module _ (t : List ℤ) (falls : Falls t) where
   steady (suc n) zero r h i j = absurd (omega linear)
   steady (suc n) (suc m) r h i j =
       ap (λ (l : List ℕ). l ++ (r ∷ []))
-      (each-same (copies t n) (copies t m) r (parts (row t r)) (falls r j) (λ k l. steady n m k (omega linear) (omega linear) (omega linear)))
+      (each-same (copies t n) (copies t m) r (parts (row t r)) (falls r j)
+      (λ k l. steady n m k (omega linear) (omega linear) (omega linear)))
 
   each-length : (C : ℕ → List ℕ) (ps : List Part) → length (each C ps) ≡ part-sum (λ k. length (C k)) ps
   unfolding each part-sum

@@ -1,9 +1,9 @@
--- The mender with what a wrong turn changes as arguments (`Ways`): the order, where links go and how marks are renamed (`laying`);
--- what is outside a loop's body, where sums stop, the tests and their order (`testing`); the two counts and what stands behind
--- (`counting`). With the right ones it is the mender defined (`right-way`). A wrong turn changes one of them (`Wrong`), and is
--- told from the mender defined by another answer at one table (`all-told`). Assumes nothing.
+-- The mender with what a wrong turn changes as arguments (`Ways`): the order, where links go and how marks are renamed
+-- (`laying`); what is outside a loop's body, where sums stop, the tests and their order (`testing`); the two counts and
+-- what stands behind (`counting`). With the right ones it is the mender defined (`RightWay.right-way`). A wrong turn
+-- changes one of them (`Wrong`), and is told from the mender defined by another answer at one table (`all-told`).
+-- Assumes nothing.
 use Prim.Native.Nat.{ℕ, zero, suc, _*_, _-_, min}
-use mathlib.Core.Path.{_≡_, refl, _∙_}
 use mathlib.Core.Logic.{_≢_}
 use mathlib.Core.List.{List, [], _∷_, _++_, map}
 use mathlib.Core.Bool.{Bool, true, false, cond, _&&_}
@@ -18,10 +18,10 @@ use Rattle.script.specs.Refusals.{Verdict, accepted, refused, _and-then_, lowes
 use Rattle.script.specs.Generated.{zeros}
 use Rattle.theorems.specs.Truths.{both}
 use Rattle.theorems.specs.Differ.{other, told}
-use Rattle.mending.specs.Copies.{each, part-sum, copies, origins, size, cap, capped-at, capped-from, capped-total}
-use Rattle.mending.specs.NewTable.{places, renewed, place-of, written, renamed, part-places, new-word, new-table}
-use Rattle.mending.specs.Reached.{outside, targets, uncut, sweep, reached, among, reached-rows, escapes}
-use Rattle.mending.specs.Mended.{part-fault, mark-fault, part-test, mark-test, too-long, size-test, mend-verdict, Mended, refuse, mend, mended}
+use Rattle.mending.specs.Copies.{each, part-sum, origins, cap}
+use Rattle.mending.specs.NewTable.{places, renewed, place-of, written}
+use Rattle.mending.specs.Reached.{outside, targets, reached, among}
+use Rattle.mending.specs.Mended.{part-fault, too-long, Mended, refuse, mended}
 
 -- ---- what a wrong turn changes
 
@@ -67,7 +67,8 @@ right = record {
 }
 
 -- the right ways but for the order, links and marks; the tests; the counts and what stands behind
-abbrev pub laying : ((ℕ → List ℕ) → ℕ → List Part → List ℕ) → ((ℕ → ℕ) → ℕ → List Part → List ℕ) → (List ℕ → ℕ → ℕ → ℕ) → Ways
+abbrev pub laying : ((ℕ → List ℕ) → ℕ → List Part → List ℕ) → ((ℕ → ℕ) → ℕ → List Part → List ℕ) → (List ℕ → ℕ → ℕ → ℕ)
+    → Ways
 laying gather place rename = record {
   gather = gather;
   place = place;
@@ -145,7 +146,8 @@ module _ (W : Ways) (t : List ℤ) where
     word-by k r zero = word t r 0
     word-by k r (suc f) =
         getD
-        (renewed (W .rename origins-by k) (W .place (λ q. length (C (rows t) q)) k (parts (row t r))) 0 (fields (row t r))
+        (renewed (W .rename origins-by k) (W .place (λ q. length (C (rows t) q)) k (parts (row t r))) 0
+        (fields (row t r))
         (word t r 1 ∷ word t r 2 ∷ word t r 3 ∷ [])) f (pos 0)
 
     abbrev pub escapes-by : ℕ → Row → Bool
@@ -188,82 +190,13 @@ mended-by W t table-room origins-room =
     settled (verdict-by W t (copies-by W t) (sweep-by W t) (capped-by W t) table-room origins-room)
     (mend-by W t (copies-by W t) (sweep-by W t) (capped-by W t) table-room origins-room) table-room origins-room
 
--- ---- with the right ways it is the mender defined
-
-module _ (t : List ℤ) where
-  same-copies : (n r : ℕ) → copies-by right t n r ≡ copies t n r
-  unfolding copies-by copies
-  same-copies zero r = refl
-  same-copies (suc n) r = λ i. each (λ k. same-copies n k i) (parts (row t r)) ++ (r ∷ [])
-
-  same-sweep : (cut n : ℕ) (seen : List ℕ) → sweep-by right t cut n seen ≡ sweep t cut n seen
-  unfolding sweep-by sweep uncut
-  same-sweep cut zero seen = refl
-  same-sweep cut (suc r) seen = same-sweep cut r _
-
-  same-capped : (n r : ℕ) (sizes : List ℕ) → capped-by right t n r sizes ≡ capped-from t n r sizes
-  unfolding capped-by capped-from capped-at
-  same-capped zero r sizes = refl
-  same-capped (suc n) r sizes = same-capped n (suc r) _
-
-  same-escapes : (r : ℕ) (w : Row) → escapes-by right t (copies t) (sweep t) (capped-from t) r w ≡ escapes t r w
-  unfolding escapes reached
-  same-escapes r (Row.Expression (Constant z)) = refl
-  same-escapes r (Row.Expression (Variable v)) = refl
-  same-escapes r (Row.Expression (Arithmetic o a b)) = refl
-  same-escapes r (Row.Expression (Negate a)) = refl
-  same-escapes r (Row.Expression (Mark m)) = refl
-  same-escapes r (Row.Expression (Choose f a b)) = refl
-  same-escapes r (Row.Formula x) = refl
-  same-escapes r (Row.Statement x) = refl
-  same-escapes r (Row.Note i v) = refl
-  same-escapes r (Row.Script p s q) = refl
-  same-escapes r Row.Unknown = refl
-
-  same-word : (k r f : ℕ) → word-by right t (copies t) (sweep t) (capped-from t) k r f ≡ new-word t k r f
-  unfolding new-word renamed part-places size origins
-  same-word k r zero = refl
-  same-word k r (suc f) = refl
-
-  module _ (table-room origins-room : ℕ) where
-    same-verdict : verdict-by right t (copies t) (sweep t) (capped-from t) table-room origins-room ≡ mend-verdict t table-room origins-room
-    unfolding mend-verdict part-test mark-test mark-fault size-test capped-total
-    same-verdict = λ i.
-        length-test t and-then lowest (part-fault t) (rows t) 0 and-then script-test t
-        and-then lowest (λ r. cond (same-escapes r (row t r) i) 13 0) (rows t) 0 and-then size-test t table-room origins-room
-
-    same-mend : mend-by right t (copies t) (sweep t) (capped-from t) table-room origins-room ≡ mend t table-room origins-room
-    unfolding origins reached-rows reached new-table
-    same-mend = λ i. record {
-      number = 0;
-      row = 0;
-      words = 4 * length (origins t);
-      dropped = rows t - reached-rows t;
-      copied = length (origins t) - reached-rows t;
-      table = written (λ k r f. same-word k r f i) 0 (origins t) ++ zeros (table-room - 4 * length (origins t));
-      origins = map pos (origins t) ++ zeros (origins-room - length (origins t));
-    }
-
-    pub right-way : mended-by right t table-room origins-room ≡ mended t table-room origins-room
-    unfolding mended-by mended
-    right-way =
-        (λ i. settled
-        (verdict-by right t (λ n r. same-copies n r i) (λ c n s. same-sweep c n s i) (λ n r s. same-capped n r s i) table-room origins-room)
-        (mend-by right t (λ n r. same-copies n r i) (λ c n s. same-sweep c n s i) (λ n r s. same-capped n r s i) table-room origins-room)
-        table-room origins-room)
-        ∙ (λ i. settled (same-verdict i) (same-mend i) table-room origins-room) ∙ go (mend-verdict t table-room origins-room)
-      where
-        go : (v : Verdict) → settled v (mend t table-room origins-room) table-room origins-room ≡
-            elim v [ refused n r ↦ refuse n r table-room origins-room | accepted ↦ mend t table-room origins-room ]
-        go accepted = refl
-        go (refused n r) = refl
-
 -- ---- wrong turns, told by another answer
 
 -- an answer and both buffers as words
 abbrev pub words-of : Mended → List ℤ
 words-of m =
-    pos (m .number) ∷ pos (m .row) ∷ pos (m .words) ∷ pos (m .dropped) ∷ pos (m .copied) ∷ pos (length (m .table)) ∷ (m .table ++ m .origins)
+    pos (m .number) ∷ pos (m .row) ∷ pos (m .words) ∷ pos (m .dropped) ∷ pos (m .copied) ∷ pos
+    (length (m .table)) ∷ (m .table ++ m .origins)
 
 -- a wrong mender, and the table and lengths at which it answers otherwise
 pub record Wrong : Type 0 where
@@ -275,12 +208,14 @@ pub record Wrong : Type 0 where
 abbrev pub told-all : List Wrong → Bool
 told-all [] = true
 told-all (w ∷ ws) =
-    other words-of (mended-by (w .turn) (w .at) (w .table-room) (w .origins-room)) (mended (w .at) (w .table-room) (w .origins-room)) && told-all ws
+    other words-of (mended-by (w .turn) (w .at) (w .table-room) (w .origins-room))
+    (mended (w .at) (w .table-room) (w .origins-room)) && told-all ws
 
 abbrev pub Other-answers : List Wrong → Type 0
 Other-answers [] = Unit {0}
 Other-answers (w ∷ ws) =
-    (mended-by (w .turn) (w .at) (w .table-room) (w .origins-room) ≢ mended (w .at) (w .table-room) (w .origins-room)) × Other-answers ws
+    (mended-by (w .turn) (w .at) (w .table-room) (w .origins-room) ≢ mended (w .at) (w .table-room)
+    (w .origins-room)) × Other-answers ws
 
 pub all-told : (ws : List Wrong) → T (told-all ws) → Other-answers ws
 all-told [] h = tt

@@ -1,9 +1,9 @@
--- The hypotheses of `Mending` can hold. `looped` is a table with a shared loop that has its mark in its body: it is mended
--- (`mended-0`), with 13 rows copied again; in the new table a mark stands in a body (`stands`), there are rows to be linked
--- (`some-rows`), and the check accepts it (`accepted-new`), so it is an accepted table in that order, and comes back (`back`).
--- `tame` is another, whose new table is planned with conditions that are true in all states (`tame-list`), so that every run of
--- the old script keeps the promise (`tame-promised`). Marks used inside and outside get 13 (`outside`), a buffer too short 14
--- (`too-long`). Assumes nothing.
+-- The hypotheses of `Mending` can hold. `looped` is a table with a shared loop that has its mark in its body: it is
+-- mended (`mended-0`), with 13 rows copied again; in the new table a mark stands in a body (`stands`), there are rows
+-- to be linked (`some-rows`), and the check accepts it (`accepted-new`), so it is an accepted table in that order, and
+-- comes back (`back`). `tame` is another, whose new table is planned with conditions that are true in all states
+-- (`tame-list`), so that every run of the old script keeps the promise (`tame-promised`). Marks used inside and outside
+-- get 13 (`outside`), a buffer too short 14 (`too-long`). Assumes nothing.
 use Prim.Native.Nat.{ℕ, _<_, _≤_}
 use mathlib.Core.Path.{_≡_, refl, sym, subst, _∙_}
 use mathlib.Core.Bool.{true, false}
@@ -37,7 +37,7 @@ use Rattle.mending.specs.Reached as Reached
 use Rattle.mending.specs.Mended as Mended
 use Rattle.mending.specs.Escape.{Escaping}
 use Rattle.mending.specs.Capped.{Too-long}
-use Rattle.mending.specs.Numbers.{Well-shaped}
+use Rattle.mending.specs.Occasions.{Well-shaped}
 use Rattle.mending.specs.Order.{In-order}
 use Rattle.mending.specs.SameTable.{unchanged}
 use Rattle.mending.specs.Mending as Mending

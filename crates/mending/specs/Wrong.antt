@@ -1,5 +1,5 @@
--- Wrong turns of 02, P7, each told from the mender defined at one table (`other-answers`): the order, links, marks, refusals, counts
--- and buffers. Assumes nothing.
+-- Wrong turns of 02, P7, each told from the mender defined at one table (`other-answers`): the order, links, marks,
+-- refusals, counts and buffers. Assumes nothing.
 use Prim.Native.Nat.{ℕ, _+_, _*_, _-_}
 use mathlib.Core.List.{List, [], _∷_, _++_}
 use mathlib.Core.Bool.{cond, _||_, _&&_}
@@ -67,7 +67,8 @@ cap-one-short = testing outside 2048 part-fault script-test too-long (right .jud
 
 -- 5 is lost
 abbrev pub wrong-sort-passes : Ways
-wrong-sort-passes = testing outside cap (λ t r. cond (eqb (row-fault t r) 5) 0 (part-fault t r)) script-test too-long (right .judge)
+wrong-sort-passes =
+    testing outside cap (λ t r. cond (eqb (row-fault t r) 5) 0 (part-fault t r)) script-test too-long (right .judge)
 
 -- 6 is kept
 abbrev pub shared-row-refused : Ways
@@ -75,7 +76,8 @@ shared-row-refused = testing outside cap row-fault script-test too-long (right .
 
 -- 7 for a row that nothing links to, too
 abbrev pub unlinked-row-refused : Ways
-unlinked-row-refused = testing outside cap part-fault (λ t. script-test t and-then unlinked-test t) too-long (right .judge)
+unlinked-row-refused =
+    testing outside cap part-fault (λ t. script-test t and-then unlinked-test t) too-long (right .judge)
 
 -- 14 before 13, and before 7
 abbrev pub room-before-marks : Ways
@@ -90,15 +92,19 @@ abbrev pub marks-before-the-last-row : Ways
 marks-before-the-last-row =
     testing outside cap part-fault script-test too-long (λ l p s m z. l and-then p and-then m and-then s and-then z)
 
--- buffers that just hold the result are refused; a buffer for the table is measured in rows; both buffers must be passed
+-- buffers that just hold the result are refused; a buffer for the table is measured in rows; both buffers must be
+-- passed
 abbrev pub exact-fit-refused : Ways
-exact-fit-refused = testing outside cap part-fault script-test (λ a b n. ltb 2048 n || (leb a (4 * n) || leb b n)) (right .judge)
+exact-fit-refused =
+    testing outside cap part-fault script-test (λ a b n. ltb 2048 n || (leb a (4 * n) || leb b n)) (right .judge)
 
 abbrev pub table-measured-in-rows : Ways
-table-measured-in-rows = testing outside cap part-fault script-test (λ a b n. ltb 2048 n || (ltb a n || ltb b n)) (right .judge)
+table-measured-in-rows =
+    testing outside cap part-fault script-test (λ a b n. ltb 2048 n || (ltb a n || ltb b n)) (right .judge)
 
 abbrev pub both-buffers-passed : Ways
-both-buffers-passed = testing outside cap part-fault script-test (λ a b n. ltb 2048 n || (ltb a (4 * n) && ltb b n)) (right .judge)
+both-buffers-passed =
+    testing outside cap part-fault script-test (λ a b n. ltb 2048 n || (ltb a (4 * n) && ltb b n)) (right .judge)
 
 -- ---- counts and buffers
 
@@ -136,7 +142,8 @@ noted = (16, 0, 0, 0) ⨾ (9, 4, 0, 0) ⨾ (37, 0, 1, 0) ⨾ (32, 0, 0, 0) ⨾ (
 
 abbrev guarded : List ℤ
 guarded =
-    (16, 0, 0, 0) ⨾ (9, 6, 0, 0) ⨾ (18, 1, 1, 0) ⨾ (1, 1, 0, 0) ⨾ (37, 0, 3, 0) ⨾ (32, 0, 0, 0) ⨾ (36, 2, 4, 5) ⨾ (48, 0, 6, 0) ⨾ []
+    (16, 0, 0, 0) ⨾ (9, 6, 0, 0) ⨾ (18, 1, 1, 0) ⨾ (1, 1, 0, 0) ⨾ (37, 0, 3, 0) ⨾ (32, 0, 0, 0) ⨾ (36, 2, 4, 5) ⨾
+    (48, 0, 6, 0) ⨾ []
 
 -- a statement for a formula
 abbrev unsorted : List ℤ
