@@ -9,6 +9,7 @@ use lib.IntN.{ℤ}
 use lib.ListN.{length, getD, replicate}
 use Rattle.script.specs.declared.Line.{Line}
 use Rattle.script.specs.Listing.{Found, lines, line, no-line, first-place, step-back, next-place}
+use Rattle.theorems.specs.Clearing.{cleared-at}
 use Rattle.theorems.specs.Lookup.{walk-back, walk-back-list, walk-back-malformed}
 use Rattle.list_walker.specs.Steps.{place-back, answer-back}
 
@@ -28,13 +29,8 @@ among ws m (suc n) e d =
     ∙ ap (step-back ws) (back-first ws n e)
 
 -- what stands past the end changes nothing where it is the default
-past : (n k : ℕ) (d : Line) → getD (replicate k d) n d ≡ d
-past n zero d = refl
-past zero (suc k) d = refl
-past (suc n) (suc k) d = past n k d
-
 padded : (l : List Line) (n k : ℕ) (d : Line) → getD (l ++ replicate k d) n d ≡ getD l n d
-padded [] n k d = past n k d
+padded [] n k d = cleared-at d k n
 padded (x ∷ xs) zero k d = refl
 padded (x ∷ xs) (suc n) k d = padded xs n k d
 

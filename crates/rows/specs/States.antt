@@ -2,7 +2,7 @@
 -- that is tried by its letter, and a row by its three fields. Assumes nothing.
 use Prim.Native.Nat.{ℕ, suc, _+_, _*_, _≤_, _<_}
 use mathlib.Core.Path.{_≡_, refl, sym, ap, _∙_}
-use mathlib.Core.Logic.{_≢_}
+use mathlib.Core.Logic.{_≢_, inl, inr}
 use mathlib.Core.Bool.{Bool, true, false, cond, _&&_, _||_}
 use mathlib.Core.List.{List, [], _∷_}
 use native.Mathlib.Omega.{arith as linear}
@@ -19,7 +19,7 @@ use Rattle.script.specs.Rows.{field-number, fields, row-of, sort-of, rows, row,
 use Rattle.script.specs.Refusals.{linked, member, row-fault, row-fault-within, same-sort}
 use Rattle.theorems.specs.Accepted.{both}
 use Rattle.rows.specs.Patterns.{Asked, cell, cells, adds, blank, by-kind, capital, letter, limited, linking, none-zero, of-cells, of-row, pattern, patterns, proper, same-letter, sort-for, unlisted}
-use Rattle.rows.specs.Faults.{after, afters-are, fault, faults, faults-are, first, first-none}
+use Rattle.rows.specs.Faults.{Passed, Same, after, afters-same, fault, faults, faults-are, first, first-none}
 
 -- ---- the size of a table
 
@@ -44,6 +44,13 @@ pub record States (t : List ℤ) (r : ℕ) (xs : List ℕ) (s : List ℕ) : Type
 
 pub states-none : {t : List ℤ} {s : List ℕ} → length s ≡ 2048 → States t 0 [] s
 states-none h = record { long = h; at = λ k b. absurd (omega linear); lower = λ k b. refl }
+
+states-same : {t : List ℤ} {r : ℕ} {xs ys s : List ℕ} → Same xs ys → States t r xs s → States t r ys s
+states-same {t} same sh = record {
+  long = sh .long;
+  at = λ k b. sh .at k b ∙ ap (state (letter (sort-of (row t k)))) (same k);
+  lower = λ k b. sym (same k) ∙ sh .lower k b;
+}
 
 module _ {t : List ℤ} {r : ℕ} {xs s : List ℕ} (sh : States t r xs s) where
   -- a row that is linked now
@@ -164,10 +171,11 @@ pub record Ready (t : List ℤ) (r : ℕ) (s : List ℕ) : Type 0 where
 
 pub record Tested (t : List ℤ) (r f : ℕ) (s : List ℕ) : Type 0 where
   pub is : f ≡ row-fault t r
-  pub shown : f ≡ 0 → States t (suc r) (linked t (suc r)) s
+  pub shown : Passed f → States t (suc r) (linked t (suc r)) s
 
-no : {A : Type 0} {n : ℕ} → suc n ≡ 0 → A
-no e = absurd (omega linear)
+no : {A : Type 0} → Passed 2 → A
+no (inl e) = absurd (omega linear)
+no (inr e) = absurd (omega linear)
 
 module _ (t : List ℤ) (r : ℕ) {n : ℕ} (e : n ≡ field-number (word t r 0)) where
   pub unlisted-row : {s : List ℕ} → 48 < n → Tested t r 2 s
@@ -236,7 +244,7 @@ module _ (t : List ℤ) (r : ℕ) {n : ℕ} (e : n ≡ field-number (word t r 0)
         record {
           is = is ∙ fault-is (λ o. d (ex ∙ o));
           shown = λ o.
-              rw (its-sort ∙ sym ex, afters-are t r xs (ca ∷ cb ∷ cc′ ∷ []) (sym is ∙ o), linked-are) at (states-row (z .1) (omega linear));
+              rw (its-sort ∙ sym ex, linked-are) at (states-row {xs = adds xs (ca ∷ cb ∷ cc′ ∷ [])} (states-same (afters-same t r xs xs (ca ∷ cb ∷ cc′ ∷ []) (λ m. refl) (rw is at o)) (z .1)) (omega linear));
         }
 
 -- ---- the case of a state's letter says whether the row is linked

@@ -72,7 +72,7 @@ fn first(a: usize, b: usize) -> usize
     if a < b { a } else { b }
 }
 
-// The first fault of row r, or 0; where it has none, its links are in the states.
+// The first fault of row r, or 0; where it has none but 6, its links are in the states.
 pub fn row_fault(table: &[i32], kinds: &[u8; 196], r: usize, states: &mut [u8; 2048]) -> usize
     requires { ⌜ Ready (now table) r (now states) × (now kinds ≡ Patterns·patterns) ⌝ }
     ensures { λ f. ⌜ Tested (now (table .entry)) r f (now (states .exit)) ⌝ }

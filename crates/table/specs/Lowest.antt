@@ -2,7 +2,7 @@
 -- Argument: while no row below i has a fault, the test from row i up is the whole test. Assumes nothing.
 use Prim.Native.Nat.{ℕ, suc, _+_, _-_, _%_, _≤_, _<_}
 use mathlib.Core.Path.{_≡_, refl, sym, ap, _∙_}
-use mathlib.Core.Logic.{_≢_}
+use mathlib.Core.Logic.{_≢_, inl}
 use mathlib.Core.Bool.{Bool, true, false, _||_}
 use mathlib.Core.List.{List}
 use native.Mathlib.Omega.{arith as linear}
@@ -82,7 +82,7 @@ unfolding linked
 rows-none h = record { reached = reached-none; shown = states-none h }
 
 pub rows-more : {t : List ℤ} {i f : ℕ} {s s′ : List ℕ} → Rows-at t i s → i < rows t → Tested t i f s′ → f ≡ 0 → Rows-at t (i + 1) s′
-rows-more {i} a h d e = record { reached = reached-more (a .reached) h (sym (d .is) ∙ e); shown = rw (add-one i) (d .shown e) }
+rows-more {i} a h d e = record { reached = reached-more (a .reached) h (sym (d .is) ∙ e); shown = rw (add-one i) (d .shown (inl e)) }
 
 pub rows-refused : {t : List ℤ} {i f : ℕ} {s s′ : List ℕ} → Rows-at t i s → i < rows t → Tested t i f s′ → f ≢ 0
     → Rows-tested t (Answer.Refused f (record { 0 = i })) s′

@@ -6,7 +6,7 @@ use Prim.Native.Nat.{ℕ, zero, suc, _+_, _-_, _≤_, _<_}
 use native.Mathlib.Nat.{sub-zero, zero-sub, suc-sub-suc}
 use native.Mathlib.Omega.{arith}
 use native.Mathlib.Numerals.{add-one}
-use lib.ListN.{length, length-replicate, set, drop, replicate}
+use lib.ListN.{length, length-replicate, getD, set, drop, replicate}
 use lib.Seq.{sets-eq}
 use Rattle.theorems.specs.Writing.{Wrote, wrote-whole}
 
@@ -38,6 +38,12 @@ module _ {A : Type 0} (z : A) where
   cleared-all (suc n) (w ∷ l) h = ap (λ (k : List A). z ∷ k) (cleared-all n l (omega arith))
 
   -- ---- a run that is cleared
+
+  -- also past its end
+  pub cleared-at : (n i : ℕ) → getD (replicate n z) i z ≡ z
+  cleared-at zero i = refl
+  cleared-at (suc n) zero = refl
+  cleared-at (suc n) (suc i) = cleared-at n i
 
   pub drop-replicate : (n m : ℕ) → drop n (replicate m z) ≡ replicate (m - n) z
   drop-replicate zero m = rw sub-zero

@@ -1,0 +1,230 @@
+-- `mender::rewriting::write_row` meets its contract: its first word, then its three fields one after the other. Assumes nothing.
+use Prim.Native.Nat.{ℕ, _+_, _*_, _<_}
+use mathlib.Core.Path.{_≡_, refl, sym, ap, _∙_}
+use mathlib.Core.List.{List}
+use native.Mathlib.Omega.{arith}
+use lib.IntN.{ℤ, pos}
+use lib.ListN.{getD, length, length-set, set}
+use mir.Syntax.{w32}
+use mir.Val.{ofZ, toZ}
+use native.Mathlib.Nat.{add-zero}
+use Rattle.script.specs.Laws.{back}
+use Rattle.script.specs.Rows.{word}
+use Rattle.rows.specs.Patterns.{pattern}
+use Rattle.mender.specs.Checked.{listed-kind}
+use Rattle.mender.specs.FieldWriting.{Field-written, at-of, field-as, room-as, written-as}
+use Rattle.mender.specs.Letters.{end-by, field₁, field₂, field₃}
+use Rattle.mender.specs.RowWriting.{Row-ready, its-size, room₁, room₂, room₃, row-written, start₁}
+use borrow.Author.Needs.{needs}
+use Rattle.mender.proofs.rewriting.write_row.Statement.{statement}
+use Rattle.mender.proofs.rewriting.write_row.Tie as tie
+
+-- ---- from each call back to the one before it
+
+abbrev at-first : tie.After-write-field-arg4 → tie.After-field
+at-first c = c .before .before .before .before .before .before
+
+abbrev at-second : tie.After-write-field-arg8 → tie.After-write-field
+at-second c = c .before .before .before .before .before .before
+
+abbrev at-third : tie.After-write-field-arg12 → tie.After-write-field2
+at-third c = c .before .before .before .before .before .before
+
+-- ---- the row
+
+module _ (c : tie.After-field) where
+  abbrev start : tie.Start
+  start = c .before
+
+  abbrev kind : ℕ
+  kind = c .field .result
+
+  abbrev table : List ℤ
+  table = start .args .table .now
+
+  ready : Row-ready table (start .args .sizes .now) (start .args .latest .now) (start .args .k) (start .args .r) (length (start .args .new .now)) (length (start .args .origins .now))
+  ready = start .pre .0
+
+  letter : (i : ℕ) → pattern kind i ≡ getD (start .args .kinds .now) (4 * kind + i) 0
+  letter i = ap (λ (ks : List ℕ). getD ks (4 * kind + i) 0) (sym (start .pre .1))
+
+  in-kinds : kind < 49
+  in-kinds = listed-kind (ready .checked) (ready .inside) (c .field .ensures)
+
+  -- the new table once its first word is written
+  abbrev headed : List ℤ
+  headed = set (start .args .new .now) (4 * start .args .k) (toZ w32 (ofZ w32 (getD table (4 * start .args .r) (pos 0))))
+
+  head-long : length headed ≡ length (start .args .new .now)
+  head-long = length-set (start .args .new .now) (4 * start .args .k) (toZ w32 (ofZ w32 (getD table (4 * start .args .r) (pos 0))))
+
+-- ---- what each call wrote
+
+module _ (c : tie.After-write-field) where
+  abbrev f₁ : tie.After-field
+  f₁ = at-first (c .before)
+
+  abbrev new₁ : List ℤ
+  new₁ = c .write-field .last .1 .1 .1 .1 .1 .1 .0
+
+  abbrev os₁ : List ℤ
+  os₁ = c .write-field .last .1 .1 .1 .1 .1 .1 .1 .0
+
+  head : headed f₁ ≡ set (start f₁ .args .new .now) (4 * start f₁ .args .k) (word (table f₁) (start f₁ .args .r) 0)
+  head = rw (back (c .before .before .before .before .before .before .new .given), add-zero)
+
+  first-written : Field-written (start f₁ .args .sizes .now) (start f₁ .args .latest .now)
+      (start₁ (table f₁) (start f₁ .args .sizes .now) (start f₁ .args .k) (start f₁ .args .r) (kind f₁))
+      (field₁ (table f₁) (start f₁ .args .r) (kind f₁)) (4 * start f₁ .args .k + 1)
+      (set (start f₁ .args .new .now) (4 * start f₁ .args .k) (word (table f₁) (start f₁ .args .r) 0)) (start f₁ .args .origins .now)
+      (c .write-field .result) new₁ os₁
+  first-written =
+      written-as (sym (field-as (letter f₁ 1) (sym (back (c .before .before .before .write-field-arg2 .given))))) head (c .write-field .ensures)
+
+  table-long₁ : length new₁ ≡ length (start f₁ .args .new .now)
+  table-long₁ = first-written .table-long ∙ length-set (start f₁ .args .new .now) (4 * start f₁ .args .k) (word (table f₁) (start f₁ .args .r) 0)
+
+module _ (c : tie.After-write-field2) where
+  abbrev w₁ : tie.After-write-field
+  w₁ = at-second (c .before)
+
+  abbrev f₂ : tie.After-field
+  f₂ = f₁ w₁
+
+  abbrev new₂ : List ℤ
+  new₂ = c .write-field2 .last .1 .1 .1 .1 .1 .1 .0
+
+  abbrev os₂ : List ℤ
+  os₂ = c .write-field2 .last .1 .1 .1 .1 .1 .1 .1 .0
+
+  second-written : Field-written (start f₂ .args .sizes .now) (start f₂ .args .latest .now) (w₁ .write-field .result)
+      (field₂ (table f₂) (start f₂ .args .r) (kind f₂)) (4 * start f₂ .args .k + 2) (new₁ w₁) (os₁ w₁) (c .write-field2 .result) new₂ os₂
+  second-written =
+      written-as (sym (field-as (letter f₂ 2) (sym (back (c .before .before .before .write-field-arg6 .given))))) refl (c .write-field2 .ensures)
+
+module _ (c : tie.After-write-field3) where
+  abbrev w₂ : tie.After-write-field2
+  w₂ = at-third (c .before)
+
+  abbrev f₃ : tie.After-field
+  f₃ = f₂ w₂
+
+  abbrev new₃ : List ℤ
+  new₃ = c .write-field3 .last .1 .1 .1 .1 .1 .1 .0
+
+  abbrev os₃ : List ℤ
+  os₃ = c .write-field3 .last .1 .1 .1 .1 .1 .1 .1 .0
+
+  third-written : Field-written (start f₃ .args .sizes .now) (start f₃ .args .latest .now) (w₂ .write-field2 .result)
+      (field₃ (table f₃) (start f₃ .args .r) (kind f₃)) (4 * start f₃ .args .k + 3) (new₂ w₂) (os₂ w₂) (c .write-field3 .result) new₃ os₃
+  third-written =
+      written-as (sym (field-as (letter f₃ 3) (sym (back (c .before .before .before .write-field-arg10 .given))))) refl (c .write-field3 .ensures)
+
+mul-of : tie.Need-mul-of
+mul-of c = record { fits = omega (arith, in-kinds c) }
+
+cast-first : tie.Need-cast-first
+cast-first c =
+    let f = c .before .before in
+    record { fits = omega (arith, its-size (ready f) (f .field .ensures), ready f .small) }
+
+sub-first : tie.Need-sub-first
+sub-first c =
+    let f = c .before .before in
+    omega (arith, its-size (ready f) (f .field .ensures), ready f .below)
+
+add-write-field : tie.Need-add-write-field
+add-write-field c = record { fits = omega (arith, in-kinds (c .before .before)) }
+
+element-copy-out-write-field : tie.Need-element-copy-out-write-field
+element-copy-out-write-field c = omega (arith, in-kinds (c .before .before))
+
+write-field-requires : tie.Need-write-field-requires
+write-field-requires c κs =
+    let f = at-first c in
+    room-as (field-as (letter f 1) (sym (back (c .before .before .write-field-arg2 .given)))) refl (sym (head-long f)) refl (room₁ (ready f) (f .field .ensures))
+
+add-write-field-4 : tie.Need-add-write-field-4
+add-write-field-4 c = record { fits = omega (arith, in-kinds (at-first (c .before .before .before))) }
+
+element-copy-out-write-field-2 : tie.Need-element-copy-out-write-field-2
+element-copy-out-write-field-2 c = omega (arith, in-kinds (at-first (c .before .before .before)))
+
+write-field-requires-2 : tie.Need-write-field-requires-2
+write-field-requires-2 c κs =
+    let w = at-second c in
+    let f = f₁ w in
+    room-as (field-as (letter f 2) (sym (back (c .before .before .write-field-arg6 .given)))) (sym (first-written w .ends)) (sym (table-long₁ w)) (sym (first-written w .origins-long))
+    (room₂ (ready f) (f .field .ensures))
+
+add-write-field-7 : tie.Need-add-write-field-7
+add-write-field-7 c = record { fits = omega (arith, in-kinds (at-first (at-second (c .before .before .before) .before))) }
+
+element-copy-out-write-field-3 : tie.Need-element-copy-out-write-field-3
+element-copy-out-write-field-3 c = omega (arith, in-kinds (at-first (at-second (c .before .before .before) .before)))
+
+write-field-requires-3 : tie.Need-write-field-requires-3
+write-field-requires-3 c κs =
+    let v = at-third c in
+    let w = w₁ v in
+    let f = f₁ w in
+    room-as (field-as (letter f 3) (sym (back (c .before .before .write-field-arg10 .given))))
+    (sym (second-written v .ends ∙ ap (λ (q : ℕ). end-by (at-of (start f .args .sizes .now)) q (field₂ (table f) (start f .args .r) (kind f))) (first-written w .ends)))
+    (sym (second-written v .table-long ∙ table-long₁ w)) (sym (second-written v .origins-long ∙ first-written w .origins-long))
+    (room₃ (ready f) (f .field .ensures))
+
+same-length : tie.Need-same-length
+same-length c =
+    let u = c .before .before in
+    let v = w₂ u in
+    third-written u .table-long ∙ second-written v .table-long ∙ table-long₁ (w₁ v)
+
+returns : tie.Need-returns
+returns c =
+    let u = c .before .before in
+    let v = w₂ u in
+    let w = w₁ v in
+    let f = f₁ w in
+    row-written (ready f) (f .field .ensures) (start f .args .new .now) refl (first-written w) (second-written v) (third-written u)
+
+pub write-row-spec : {M : Type 1} → statement M
+write-row-spec =
+    tie.close
+    (tie.spec
+    (λ c κs. search needs)
+    mul-of
+    (λ c. search needs)
+    (λ c. search needs)
+    (λ c. search needs)
+    (λ c. search needs)
+    (λ c. search needs)
+    (λ c. search needs)
+    (λ c. search needs)
+    (λ c. search needs)
+    (λ c. search needs)
+    cast-first
+    sub-first
+    add-write-field
+    element-copy-out-write-field
+    (λ c. search needs)
+    (λ c. search needs)
+    (λ c. search needs)
+    (λ c. search needs)
+    write-field-requires
+    add-write-field-4
+    element-copy-out-write-field-2
+    (λ c. search needs)
+    (λ c. search needs)
+    (λ c. search needs)
+    (λ c. search needs)
+    write-field-requires-2
+    add-write-field-7
+    element-copy-out-write-field-3
+    (λ c. search needs)
+    (λ c. search needs)
+    (λ c. search needs)
+    (λ c. search needs)
+    write-field-requires-3
+    same-length
+    (λ c. search needs)
+    returns)
