@@ -12,3 +12,5 @@ pub mod RowUses
 pub mod Sizing
 pub mod FieldWriting
 pub mod RowWriting
+pub mod TableWriting
+pub mod Whole

@@ -179,13 +179,11 @@ module _ {t : List ℤ} {s l : List ℕ} {k r n table-room origins-room : ℕ} (
   known : n < 49
   known = listed-kind (R .checked) (R .inside) e
 
-
   step : size t r ≡ suc (part-sum (size t) (parts (row t r)))
   step = size-step t (R .checked .falls) r (R .inside)
 
   pub its-size : getD s r 0 ≡ size t r
   its-size = exact (R .checked) (R .sizes) r (R .inside) (R .small)
-
 
   start-is : k + 1 - getD s r 0 ≡ k - part-sum (size t) (parts (row t r))
   start-is = let a = its-size in let b = step in omega linear

@@ -1,9 +1,9 @@
 -- Laws for the code, which writes the new table in one pass from its last row down, without a stack: the run of old
 -- rows is its own list of work. When the pass comes to new row k, some row above has put there the old row of k; the
--- pass puts the parts of that row at their places, which are below k (`filled`). The capped sizes are exact wherever a
--- copy stands (`exact-row`). A mark's loop is the last copy of it that the pass came by (`renamed-step`). Assumes
--- nothing.
-use Prim.Native.Nat.{ℕ, zero, suc, _-_, _≤_, _<_, min}
+-- pass puts the parts of that row at their places, which are below k (`start-filled`, `due`, `step-filled`). That row takes no
+-- more rows than there are up to k (`turn`). A mark's loop is the last copy of it that the pass came by (`renamed-start`,
+-- `renamed-step`). Assumes nothing.
+use Prim.Native.Nat.{ℕ, zero, suc, _-_, _≤_, _<_}
 use mathlib.Core.Path.{_≡_, refl, sym, subst, _∙_}
 use mathlib.Core.List.{List, [], _∷_}
 use mathlib.Core.Bool.{Bool, true, false, cond}
@@ -11,16 +11,16 @@ use native.Mathlib.Omega.{arith as linear}
 use native.Mathlib.Decide.{ℕ-discrete}
 use lib.IntN.{ℤ}
 use lib.Dec.{eqb}
-use lib.ListN.{length, getD, set, replicate, length-set, length-replicate}
+use lib.ListN.{length, getD, set, replicate, drop-of-length-le, length-set, List·getD-eq-default, length-replicate}
 use lib.Seq.{getD-set-same, getD-set-other}
 use borrow.Author.Tests.{eqb-true, eqb-false}
 use Rattle.script.specs.Rows.{Part, parts, rows, row}
+use Rattle.theorems.specs.Clearing.{cleared-at}
 use Rattle.theorems.specs.Links.{Link, here, there}
-use Rattle.mending.specs.Copies.{cap, origins, size, capped-from}
-use Rattle.mending.specs.NewTable.{renamed, part-places}
+use Rattle.mending.specs.Copies.{origins, size}
+use Rattle.mending.specs.NewTable.{place-of, renamed, part-places}
 use Rattle.mending.specs.Reached.{targets}
 use Rattle.mending.specs.Layout.{origin, Copied, copy, Spread, none, more, spots, places-are, whole-copied, extent}
-use Rattle.mending.specs.Capped.{capped-row}
 use Rattle.mending.specs.NewLinks.{new-parts, copied-parts}
 use Rattle.mending.specs.InnerCopies.{some-rows, New-link, new-falls}
 use Rattle.mending.specs.LinkedOnce.{some-link}
@@ -39,11 +39,6 @@ module _ (t : List ℤ) where
   abbrev pub put-parts : ℕ → List ℕ → List ℕ
   put-parts k xs = put (part-places t k (getD xs k 0)) (targets (parts (row t (getD xs k 0)))) xs
 
-  -- the pass over the new rows below n, from the last down
-  unfoldable pub fill : ℕ → List ℕ → List ℕ
-  fill zero xs = xs
-  fill (suc k) xs = fill k (put-parts k xs)
-
 module _ (t : List ℤ) (ok : Mendable t) where
   abbrev total : ℕ
   total = length (origins t)
@@ -60,7 +55,7 @@ module _ (t : List ℤ) (ok : Mendable t) where
       go (yes d) = subst (λ (x : ℕ). Right (set xs p (origin t p)) x) (sym d) (getD-set-same xs p (origin t p) 0 h)
       go (no d) = getD-set-other xs p j (origin t p) 0 d ∙ e
 
-  put-length : (ps rs xs : List ℕ) → length (put ps rs xs) ≡ length xs
+  pub put-length : (ps rs xs : List ℕ) → length (put ps rs xs) ≡ length xs
   unfolding put
   put-length [] rs xs = refl
   put-length (p ∷ ps) [] xs = refl
@@ -95,10 +90,10 @@ module _ (t : List ℤ) (ok : Mendable t) where
 
   -- ---- the pass
 
-  -- after the rows from n up: the places of their parts are right, and so is the last
+  -- after the rows from n up: the places of their parts are right, and so is every place from the last on
   pub record Filled (n : ℕ) (xs : List ℕ) : Type 0 where
     pub long : total ≤ length xs
-    pub last : Right xs (total - 1)
+    pub last : (j : ℕ) → total ≤ suc j → Right xs j
     pub linked : (q j : ℕ) → n ≤ q → q < total → New-link t ok q j → Right xs j
 
   -- a row whose turn has come, or is past, is right
@@ -106,7 +101,7 @@ module _ (t : List ℤ) (ok : Mendable t) where
   due n j {xs} F a b = go (ℕ-discrete j (total - 1))
     where
       go : Dec (j ≡ total - 1) → Right xs j
-      go (yes e) = subst (λ (x : ℕ). Right xs x) (sym e) (F .last)
+      go (yes e) = F .last j (omega linear)
       go (no d) =
           let l = some-link t ok (whole-copied t (ok .falls) (ok .filled)) j (omega linear) (omega linear) in
           let q<total : l .0 < total = omega (linear, l .1) in
@@ -126,7 +121,7 @@ module _ (t : List ℤ) (ok : Mendable t) where
           subst (λ (ps : List ℕ). Filled k (put ps (targets (parts (row t r))) xs)) (sym (places-are t (ok .falls) r s))
           (record {
             long = omega (linear, put-length (spots t s) (targets (parts (row t r))) xs, F .long);
-            last = put-keeps s xs (F .long) (total - 1) (F .last);
+            last = λ j l. put-keeps s xs (F .long) j (F .last j l);
             linked = λ q j a d l. own q j a d l (ℕ-discrete q k);
           })
         where
@@ -137,44 +132,51 @@ module _ (t : List ℤ) (ok : Mendable t) where
               (subst (λ (ps : List Part). Link j (l′ .0) ps) (new-parts t ok r s o i b) (l′ .1))
           own q j a d l (no x) = put-keeps s xs (F .long) j (F .linked q j (omega linear) d l)
 
-  fill-filled : (n : ℕ) (xs : List ℕ) → n ≤ total → Filled n xs → Filled 0 (fill t n xs)
-  unfolding fill
-  fill-filled zero xs h F = F
-  fill-filled (suc k) xs h F = fill-filled k (put-parts t k xs) (omega linear) (step-filled k xs h F)
-
-  -- from zeros, with the script's row at the last place, the pass gives the run of old rows
-  pub filled : (room : ℕ) → total ≤ room → (j : ℕ) → j < total
-      → getD (fill t total (set (replicate room 0) (total - 1) (rows t - 1))) j 0 ≡ origin t j
-  filled room h j l =
+  -- at the start the script's row is at the last place, and zeros elsewhere
+  pub start-filled : (room : ℕ) → total ≤ room → Filled total (set (replicate room 0) (total - 1) (rows t - 1))
+  start-filled room h =
       let p = some-rows t ok in
-      let empty : List ℕ = replicate room 0 in
-      let first = set empty (total - 1) (rows t - 1) in
-      let long : length empty ≡ room = length-replicate room 0 in
-      let start : Filled total first = record {
-        long = omega (linear, length-set empty (total - 1) (rows t - 1), long);
-        last =
-            getD-set-same empty (total - 1) (rows t - 1) 0 (omega linear)
-            ∙ copied-from (whole-copied t (ok .falls) (ok .filled)) .0;
+      record {
+        long = omega (linear, length-set empty (total - 1) (rows t - 1), wide);
+        last = λ j l. go j l (ℕ-discrete j (total - 1));
         linked = λ q j a b l. absurd (omega linear);
-      } in
-      due 0 j (fill-filled total first (omega linear) start) (omega linear) l
+      }
+    where
+      empty : List ℕ
+      empty = replicate room 0
 
-  -- ---- sizes
+      wide : length empty ≡ room
+      wide = length-replicate {A = ℕ} room 0
 
-  -- the capped size of a row that is reached is its size
-  pub exact-row : (k : ℕ) → k < total → getD (capped-from t (rows t) 0 []) (origin t k) 0 ≡ size t (origin t k)
-  exact-row k h =
+      go : (j : ℕ) → total ≤ suc j → Dec (j ≡ total - 1) → Right (set empty (total - 1) (rows t - 1)) j
+      go j l (yes e) =
+          let p = some-rows t ok in
+          subst (λ (x : ℕ). Right (set empty (total - 1) (rows t - 1)) x) (sym e)
+          (getD-set-same empty (total - 1) (rows t - 1) 0 (omega (linear, wide)) ∙ copied-from (whole-copied t (ok .falls) (ok .filled)) .0)
+      go j l (no d) =
+          getD-set-other empty (total - 1) j (rows t - 1) 0 d ∙ cleared-at 0 room j ∙ sym (List·getD-eq-default (origins t) 0 (omega linear))
+
+  -- ---- the row whose turn has come
+
+  pub record Turn (k : ℕ) : Type 0 where
+    pub inside : origin t k < rows t
+    pub small : size t (origin t k) ≤ suc k
+
+  pub turn : (k : ℕ) → k < total → Turn k
+  turn k h =
       let S = here-at t ok k h in
       let c = came t ok (S .place) in
       let x = extent t (ok .falls) (S .place .copied) in
-      let y : getD (capped-from t (rows t) 0 []) (S .old) 0 ≡ size t (S .old) =
-      capped-row t (ok .falls) (S .old) (c .2) ∙ under (size t (S .old)) (omega (linear, c .1, ok .few)) in
-      subst (λ (r : ℕ). getD (capped-from t (rows t) 0 []) r 0 ≡ size t r) (sym (c .0)) y
-    where
-      under : (n : ℕ) → n ≤ 2048 → min cap n ≡ n
-      under n h = omega linear
+      let p : (origin t k < rows t) × (size t (origin t k) ≤ suc k) =
+      subst (λ (r : ℕ). (r < rows t) × (size t r ≤ suc k)) (sym (c .0)) (c .2, omega linear) in
+      record { inside = p .0; small = p .1 }
 
   -- ---- marks
+
+  -- no copy stands above the last row
+  pub renamed-start : (j m : ℕ) → total ≤ suc j → renamed t j m ≡ 0
+  unfolding renamed place-of
+  renamed-start j m h = rw (drop-of-length-le (origins t) h)
 
   -- one row down: the row that the pass leaves becomes the last copy of its old row
   pub renamed-step : (j m : ℕ) → suc j < total
