@@ -52,8 +52,7 @@ use Rattle.mending.specs.Order.{In-order, order-run, run-length, new-in-
 use Rattle.mending.specs.Counts.{In-script, origins-stand, dropped-is, copied-is}
 use Rattle.mending.specs.SameTable.{unchanged}
 use Rattle.mending.specs.SameTable as SameTable
-use Rattle.mending.specs.AcceptedTables.{accepted-mended}
-use Rattle.mending.specs.AcceptedTables as AcceptedTables
+use Rattle.mending.specs.AcceptedTables.{no-more, accepted-mended, as-many, accepted-dropped, accepted-copied}
 
 module _ (t : List ℤ) (table-room origins-room : ℕ) where
   abbrev pub left : Mended
@@ -113,8 +112,8 @@ module _ (t : List ℤ) (table-room origins-room : ℕ) where
       (Well-shaped t × ((q : ℕ) → q < rows t → ¬ Escaping t q) × Too-long t table-room origins-room)
   too-long-exact = (
     λ h.
-        let f =
-        fourteen t table-room origins-room 0 .0 (told (mend-verdict t table-room origins-room) refl 14 0 (h .0, h .1, omega linear)) in
+        let v = told (mend-verdict t table-room origins-room) refl 14 0 (h .0, h .1, omega linear) in
+        let f = fourteen t table-room origins-room 0 .0 v in
         (f .0, f .1, f .2),
     λ h.
         let e = by-verdict 14 0 (fourteen t table-room origins-room 0 .1 (h .0, h .1, h .2, refl)) in
@@ -271,14 +270,14 @@ module _ (t : List ℤ) (table-room origins-room : ℕ) where
         shaped : Well-shaped new
         shaped = shaped-iff new .0 (checked .length, parts-pass new (checked .row), checked .script)
 
-        as-many : length (origins new) ≡ rows new
-        as-many =
+        in-all : length (origins new) ≡ rows new
+        in-all =
             ap length (order-run new (omega (linear, new-rows t, some-rows t ok)) ordered) ∙ run-length 0 (rows new)
 
         short : ¬ Too-long new table-room′ origins-room′
         short =
-            few (omega (linear, as-many, new-rows t, ok .few)) (omega (linear, as-many, new-rows t, new-length t))
-            (omega (linear, as-many))
+            few (omega (linear, in-all, new-rows t, ok .few)) (omega (linear, in-all, new-rows t, new-length t))
+            (omega (linear, in-all))
           where
             few : length (origins new) ≤ 2048 → 4 * length (origins new) ≤ table-room′
                 → length (origins new) ≤ origins-room′
@@ -296,24 +295,20 @@ module _ (t : List ℤ) (good : verdict t ≡ accepted) where
       → let m = mended t table-room origins-room in (m .number ≡ 0) × (m .words ≡ length t) × (m .dropped ≡ 0)
       × (m .copied ≡ 0)
   accepted-counts table-room origins-room a b =
-      let n = AcceptedTables.no-more t good in
+      let n = no-more t good in
       let f = passed t good .fours in
       let v = accepted-mended t good table-room origins-room (omega linear) (omega linear) in
       let ok = mendable t table-room origins-room v in
-      let w : 4 * length (origins t) ≡ length t = omega (linear, AcceptedTables.as-many t good ok) in
-      rw (mends t table-room origins-room v) (
-        refl,
-        w,
-        AcceptedTables.accepted-dropped t good ok table-room origins-room,
-        AcceptedTables.accepted-copied t good
-            ok table-room origins-room,
-      )
+      let w : 4 * length (origins t) ≡ length t = omega (linear, as-many t good ok) in
+      let d = accepted-dropped t good ok table-room origins-room in
+      let c = accepted-copied t good ok table-room origins-room in
+      rw (mends t table-room origins-room v) (refl, w, d, c)
 
   -- "an accepted table already in that order comes back the same": the whole outcome, with every word of both buffers
   pub comes-back : In-order t → (table-room origins-room : ℕ) → length t ≤ table-room → rows t ≤ origins-room
       → mended t table-room origins-room ≡ unchanged t table-room origins-room
   comes-back o table-room origins-room a b =
-      let n = AcceptedTables.no-more t good in
+      let n = no-more t good in
       let f = passed t good .fours in
       SameTable.comes-back t table-room origins-room
       (accepted-mended t good table-room origins-room (omega linear) (omega linear)) o

@@ -40,7 +40,13 @@ part-says t k r = Iff·trans (lowest-refuses (part-fault t) (rows t) 0 k r) (out
     out : First-fault (part-fault t) (rows t) 0 k r → Faulty-part t k r
     out F =
         let h = part-some t r k (F .some) .0 (F .number) in
-        record { within = omega linear; fault = h .0; some = F .some; no-six = h .1; lower = λ j l. part-none t j .0 (F .lower j (omega linear) l) }
+        record {
+          within = omega linear;
+          fault = h .0;
+          some = F .some;
+          no-six = h .1;
+          lower = λ j l. part-none t j .0 (F .lower j (omega linear) l);
+        }
 
     back : Faulty-part t k r → First-fault (part-fault t) (rows t) 0 k r
     back F = record {

@@ -99,6 +99,7 @@ module _ (𝔸 : Arithmetic) (a b : Tree) (in-a : Scoped-tree a) (in-b : Scoped-
         end = E .end;
         ends = E .is;
         post = subst T (same-post (C .end) (E .end) (sym (E .same))) (C .post);
-        good =
-            λ n. seen-good (after 𝔸 n (start b s′)) (subst Good₀ (same-steps n s s′ vars) (good-seen (after 𝔸 n (start a s)) (C .good n)));
+        good = λ n.
+            seen-good (after 𝔸 n (start b s′))
+            (subst Good₀ (same-steps n s s′ vars) (good-seen (after 𝔸 n (start a s)) (C .good n)));
       }

@@ -73,8 +73,9 @@ module _ (t : List ℤ) (ok : Mendable t) (ordered : In-order t) where
     old-is : there-is .old ≡ k
     old-is = sym (came t ok (there-is .place) .0) ∙ itself k h
 
-    kept : renewed (renamed t k) (part-places t k (there-is .old)) 0 (fields (row t (there-is .old))) (word t (there-is .old) 1 ∷ word t (there-is .old) 2 ∷ word t (there-is .old) 3 ∷ []) ≡
-        word t (there-is .old) 1 ∷ word t (there-is .old) 2 ∷ word t (there-is .old) 3 ∷ []
+    kept : let r = there-is .old in
+        renewed (renamed t k) (part-places t k r) 0 (fields (row t r)) (word t r 1 ∷ word t r 2 ∷ word t r 3 ∷ []) ≡
+        word t r 1 ∷ word t r 2 ∷ word t r 3 ∷ []
     kept =
         let H = there-is .place in
         let r = there-is .old in
