@@ -50,13 +50,19 @@ fn refusal(words: &[i32]) -> Option<(u8, Row)> {
 }
 
 /// 1, short sheet: "no words, not a multiple of 4, or over 8,192".
-fn is_short_sheet(words: &[i32]) -> bool {
+pub(crate) fn is_short_sheet(words: &[i32]) -> bool {
     words.is_empty() || !words.len().is_multiple_of(4) || words.len() > LONGEST_TABLE
 }
 
 /// The first of the numbers 2 to 6 that fits `row`; `linked` tells which rows
 /// are linked by lower rows.
 fn fault_of_row(table: Table, row: Row, linked: &[bool]) -> Option<u8> {
+    fault_of_row_itself(table, row).or_else(|| has_shared_part(table, row, linked).then_some(6))
+}
+
+/// The first of the numbers 2 to 5 that fits `row`, whatever else links where
+/// it links.
+pub(crate) fn fault_of_row_itself(table: Table, row: Row) -> Option<u8> {
     if shape(table.kind(row)).is_none() {
         Some(2)
     } else if is_off_the_scale(table, row) {
@@ -65,15 +71,13 @@ fn fault_of_row(table: Table, row: Row, linked: &[bool]) -> Option<u8> {
         Some(4)
     } else if has_wrong_part(table, row) {
         Some(5)
-    } else if has_shared_part(table, row, linked) {
-        Some(6)
     } else {
         None
     }
 }
 
 /// The roles and values of the fields of a row whose kind is listed.
-fn fields_with_roles(table: Table, row: Row) -> impl Iterator<Item = (Role, i32)> {
+pub(crate) fn fields_with_roles(table: Table, row: Row) -> impl Iterator<Item = (Role, i32)> {
     let roles = shape(table.kind(row)).expect("a listed kind").roles;
     roles.into_iter().zip(table.fields(row))
 }
@@ -119,11 +123,15 @@ fn has_shared_part(table: Table, row: Row, linked: &[bool]) -> bool {
 /// 7, loose part: "last row is no script (that row); else the lowest row but
 /// the last that nothing links to".
 fn loose_part(table: Table, linked: &[bool]) -> Option<Row> {
+    let last = table.rows() - 1;
+    let unlinked = || (0..last).find(|&row| !linked[row]).map(Row);
+    last_row_if_no_script(table).or_else(unlinked)
+}
+
+/// Of 7: "last row is no script (that row)".
+pub(crate) fn last_row_if_no_script(table: Table) -> Option<Row> {
     let last = Row(table.rows() - 1);
-    if sort_of(table, last) != Sort::Script {
-        return Some(last);
-    }
-    (0..last.0).find(|&row| !linked[row]).map(Row)
+    (sort_of(table, last) != Sort::Script).then_some(last)
 }
 
 /// 8, sealed point: "an assignment to a frozen name; lowest such row".

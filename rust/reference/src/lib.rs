@@ -1,5 +1,5 @@
-//! Document 01 and requests P1, P2, P4, P5 and P6 a second time, written from
-//! the documents alone: trees, `Vec` and `Box`, clear rather than fast.
+//! Document 01 and requests P1, P2, P4, P5, P6 and P7 a second time, written
+//! from the documents alone: trees, `Vec` and `Box`, clear rather than fast.
 //!
 //! Whole numbers of runs are kept as `i128`. Where a value would leave that
 //! range the evaluation answers [`TooLarge`] instead of a wrong number; the
@@ -8,7 +8,8 @@
 //! Trees are walked by recursion, at most about as deep as a table has rows;
 //! a thread with a very small stack is not enough for the deepest scripts.
 //! Formulas of a list, deeper still, are checked, written for the bench (P1)
-//! and shortened (P6) without recursion.
+//! and shortened (P6) without recursion. Tables with shared parts, whose trees
+//! may be too large to build, are mended (P7) as rows, without recursion.
 
 mod check;
 mod conditions;
@@ -16,6 +17,7 @@ mod evaluate;
 mod generate;
 mod kinds;
 mod list;
+mod mend;
 mod program;
 mod run;
 mod script_text;
@@ -35,6 +37,7 @@ pub use evaluate::{worked_out_truth, worked_out_value, NoValue};
 pub use generate::{generate, need, Need, Outcome, LONGEST_LIST};
 pub use kinds::{shape, Role, Shape, Sort};
 pub use list::{is_whole_formula, line_at, lines, Line, ListReader};
+pub use mend::{mend, Mended};
 pub use program::{output_with, program_output};
 pub use run::{run, run_observed, Arrival, End, Run};
 pub use script_text::{read_text, TextAnswer};
