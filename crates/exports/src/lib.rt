@@ -1,5 +1,5 @@
-// The entries for other languages: the reader of text, the check, the list reader, the generator, the pass that shortens lists, and the
-// writer of solver scripts, with their answers as numbers that the caller lends. A slice is its place and its length.
+// The entries for other languages: the reader of text, the check, the mender, the list reader, the generator, the pass that shortens
+// lists, and the writer of solver scripts, with their answers as numbers that the caller lends. A slice is its place and its length.
 
 use editor::Record;
 use script::Answer;
@@ -14,6 +14,7 @@ ghost use Rattle.script.specs.Promise.{Demand-3};
 ghost use Rattle.smt.specs.Written.{written};
 ghost use Rattle.shortening.specs.Simplify.{order};
 ghost use Rattle.shortening.specs.Shortened.{written as written-short, shorter};
+ghost use Rattle.mending.specs.Mended.{mended};
 ghost use Rattle.grammar.specs.Answer.{answer};
 ghost use Rattle.exports.specs.Told.{Told, answer-of};
 ghost use Rattle.exports.specs.Verdicts.{number-of, row-of};
@@ -241,4 +242,33 @@ pub extern "C" fn leqwarti_shorter(
     } else {
         *side = 0;
     }
+}
+
+// Writes a table with shared parts anew: number and row, how many words the new table has, how many old rows were dropped, and how
+// many new rows were copied again.
+#[no_mangle]
+pub extern "C" fn leqwarti_mend(
+    table: &[i32],
+    new: &mut [i32],
+    origins: &mut [i32],
+    number: &mut usize,
+    row: &mut usize,
+    words: &mut usize,
+    dropped: &mut usize,
+    copied: &mut usize,
+)
+    ensures number { λ _. ⌜ now (number .exit) ≡ mended (now (table .entry)) (length (now (new .entry))) (length (now (origins .entry))) .number ⌝ }
+    ensures row { λ _. ⌜ now (row .exit) ≡ mended (now (table .entry)) (length (now (new .entry))) (length (now (origins .entry))) .row ⌝ }
+    ensures words { λ _. ⌜ now (words .exit) ≡ mended (now (table .entry)) (length (now (new .entry))) (length (now (origins .entry))) .words ⌝ }
+    ensures dropped { λ _. ⌜ now (dropped .exit) ≡ mended (now (table .entry)) (length (now (new .entry))) (length (now (origins .entry))) .dropped ⌝ }
+    ensures copied { λ _. ⌜ now (copied .exit) ≡ mended (now (table .entry)) (length (now (new .entry))) (length (now (origins .entry))) .copied ⌝ }
+    ensures new { λ _. ⌜ now (new .exit) ≡ mended (now (table .entry)) (length (now (new .entry))) (length (now (origins .entry))) .table ⌝ }
+    ensures origins { λ _. ⌜ now (origins .exit) ≡ mended (now (table .entry)) (length (now (new .entry))) (length (now (origins .entry))) .origins ⌝ }
+{
+    let mending = mender::mend(table, new, origins);
+    *number = mending.number;
+    *row = mending.row;
+    *words = mending.words;
+    *dropped = mending.dropped;
+    *copied = mending.copied;
 }

@@ -49,4 +49,4 @@ answers-malformed ws n q =
     let d = no-line 20 in
     sym (among ws n n (first-place ws) d)
     ∙ ap (λ (l : List Line). getD l n d) (walk-back-malformed ws (suc (n + n)) q)
-    ∙ past n (suc (n + n)) d
+    ∙ cleared-at d (suc (n + n)) n
