@@ -95,6 +95,19 @@ mod exported {
             start: *mut usize,
             end: *mut usize,
         );
+        pub fn leqwarti_mend(
+            table: *const i32,
+            table_length: usize,
+            new: *mut i32,
+            new_length: usize,
+            origins: *mut i32,
+            origins_length: usize,
+            number: *mut usize,
+            row: *mut usize,
+            words: *mut usize,
+            dropped: *mut usize,
+            copied: *mut usize,
+        );
     }
 }
 
@@ -159,6 +172,19 @@ pub struct ShorterPart {
     pub side: usize,
     pub start: usize,
     pub end: usize,
+}
+
+/// What the mender answers: the new table stands in the first `words` words, and the
+/// old row of each new one in as many words as it has rows. `dropped` counts the old
+/// rows that the script does not reach, `copied` how many more rows the new table has
+/// than it reaches.
+#[derive(Clone, Copy, Debug, Default, PartialEq, Eq)]
+pub struct MendAnswer {
+    pub number: usize,
+    pub row: usize,
+    pub words: usize,
+    pub dropped: usize,
+    pub copied: usize,
 }
 
 /// The check of a table.
@@ -372,4 +398,28 @@ pub fn shorter(old: &[i32], new: &[i32], index: i32) -> ShorterPart {
         );
     }
     part
+}
+
+/// A table in which two rows may link to one, written anew with a copy for every use.
+/// Whatever both buffers held before the call, after it the new table and the old rows
+/// of its rows are followed by zeros; refused, both are all zeros.
+pub fn mend(table: &[i32], new: &mut [i32], origins: &mut [i32]) -> MendAnswer {
+    let mut answer = MendAnswer::default();
+    // SAFETY: as in `check`, for all words and every length of the buffers.
+    unsafe {
+        exported::leqwarti_mend(
+            table.as_ptr(),
+            table.len(),
+            new.as_mut_ptr(),
+            new.len(),
+            origins.as_mut_ptr(),
+            origins.len(),
+            from_mut(&mut answer.number),
+            from_mut(&mut answer.row),
+            from_mut(&mut answer.words),
+            from_mut(&mut answer.dropped),
+            from_mut(&mut answer.copied),
+        );
+    }
+    answer
 }

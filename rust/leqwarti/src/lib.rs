@@ -42,19 +42,21 @@
 //! ```
 //!
 //! A condition is also written as a script for solvers, with [`Plan::smt`],
-//! [`Plan::shortened`] has shorter conditions that hold in the same states, and
-//! [`read_text`] makes a table of a script that comes as text.
+//! [`Plan::shortened`] has shorter conditions that hold in the same states,
+//! [`read_text`] makes a table of a script that comes as text, and [`mend`] one of
+//! a table in which two rows link to one.
 //!
 //! The check, the generator, the list reader, the writer of solvers' scripts, the
-//! reader of text, the shortening of lists and the choice between two lists are
-//! functions of a static library whose contracts are proved; this crate adds
-//! types, and the text of formulas and refusals, which are not. A stack of
+//! reader of text, the shortening of lists, the choice between two lists and the
+//! mender are functions of a static library whose contracts are proved; this crate
+//! adds types, and the text of formulas and refusals, which are not. A stack of
 //! 512 KiB is enough for the deepest scripts and lists (a thread of Rust's has
 //! 2 MiB by default); [`smt`] takes a stack of its own where it needs more.
 
 mod condition;
 pub mod entries;
 mod formula;
+mod mend;
 mod refusal;
 mod shorten;
 mod smt;
@@ -65,6 +67,7 @@ use entries::Answer;
 pub use condition::{Condition, ConditionKind, Conditions, Plan};
 pub use entries::Record;
 pub use formula::Formula;
+pub use mend::{mend, mend_into, Mended, MendedParts};
 pub use refusal::{Reason, Refusal};
 pub use shorten::{shorten, shorter};
 pub use smt::{smt, LONGEST_TEXT};

@@ -1,4 +1,5 @@
-//! Why there is no plan, no condition, no text, no shortened list, or no table.
+//! Why there is no plan, no condition, no text, no shortened list, or no table, be it
+//! read or mended.
 
 use std::error::Error;
 use std::fmt;
@@ -37,6 +38,12 @@ pub enum Reason {
     ScratchTooShort = 11,
     /// "full sheet": the list is longer than its buffer or 16,384 words.
     ListTooLong = 12,
+    /// A use of the mark is not inside the body of its loop. (Document 02 gives 13
+    /// and 14 no words.)
+    MarkOutsideBody = 13,
+    /// The mended table is longer than its buffer or 2,048 rows, or has more rows
+    /// than the buffer for their old rows has words.
+    MendedTooLong = 14,
     /// "torn list": the words are no well-formed list.
     TornList = 20,
     /// "no such line": the list has no condition at that index.
@@ -62,7 +69,7 @@ pub enum Reason {
 
 impl Reason {
     /// All reasons, by number.
-    pub const ALL: [Reason; 21] = [
+    pub const ALL: [Reason; 23] = [
         Reason::TableLength,
         Reason::UnknownKind,
         Reason::FieldOutOfRange,
@@ -75,6 +82,8 @@ impl Reason {
         Reason::NestedTooDeep,
         Reason::ScratchTooShort,
         Reason::ListTooLong,
+        Reason::MarkOutsideBody,
+        Reason::MendedTooLong,
         Reason::TornList,
         Reason::NoSuchLine,
         Reason::TextTooLong,
@@ -102,7 +111,7 @@ impl Reason {
 
     /// Whether a refusal for this reason points at a row of the table.
     pub fn has_row(self) -> bool {
-        (2..=9).contains(&self.number())
+        matches!(self.number(), 2..=9 | 13)
     }
 
     /// Whether a refusal for this reason points at a byte of a script's text.
@@ -133,6 +142,17 @@ impl Reason {
             Reason::NestedTooDeep => "more than eight ifs and whiles stand in one another",
             Reason::ScratchTooShort => "the scratch buffer is too short for the list's room",
             Reason::ListTooLong => "the list is longer than its buffer, or than 16,384 words",
+            Reason::MarkOutsideBody => {
+                "the row is a mark, and a place where it is used is not inside the body of the loop \
+                 that it names (the loop's own guard, invariant and variant are outside, and a row \
+                 that is no loop has no inside): let all that uses the row stand in that body, or \
+                 use another row there that reads no such mark"
+            }
+            Reason::MendedTooLong => {
+                "with a copy for every use of a shared row, the table has more than 2,048 rows, or \
+                 more than its buffers hold: let fewer places share their rows, most of all where \
+                 shared rows share others, since copies then multiply"
+            }
             Reason::TornList => "the words are no well-formed list",
             Reason::NoSuchLine => "the list has no condition at that index",
             Reason::TextTooLong => "the condition's text is longer than its buffer",
