@@ -1,5 +1,5 @@
-//! A yardstick for the proved library: document 01 and requests P1, P2, P4, P5
-//! and P6 written by hand for speed.
+//! A yardstick for the proved library: document 01 and requests P1, P2, P4, P5, P6
+//! and P7 written by hand for speed.
 //!
 //! Nothing of it is proved. `fuzz/tests/peer.rs` compares it with the proved
 //! library word for word, and the benchmark times the library beside it; it has
@@ -11,16 +11,19 @@
 //! notes once which rows divide. The reader goes over the words
 //! of a line once. [`smt`] writes a part once and copies it where it stands
 //! again. [`read_text`] goes over the text once. [`shorten`] goes over a formula
-//! once to find its nodes and once back over these. Nothing is taken from the heap,
-//! and working memory is cleared only as far as the table has rows, or assigns to
-//! variables; the module `stack` has the only `unsafe` code.
+//! once to find its nodes and once back over these. [`mend`] goes over the old rows
+//! once, or twice where there are marks, and over the new ones once. Nothing is taken
+//! from the heap, and working memory is cleared only as far as the table has rows, or
+//! assigns to variables; the module `stack` has the only `unsafe` code.
 
 mod check;
 mod divisors;
 mod faults;
 mod generate;
+mod mend;
 mod names;
 mod reader;
+mod scopes;
 mod script;
 mod shorten;
 mod spell;
@@ -30,6 +33,7 @@ mod weakest;
 
 pub use check::check;
 pub use generate::generate;
+pub use mend::mend;
 pub use reader::{first_place, line_at, step};
 pub use script::read_text;
 pub use shorten::{shorten, shorter};
@@ -109,4 +113,14 @@ pub struct ShorterPart {
     pub side: usize,
     pub start: usize,
     pub end: usize,
+}
+
+/// What the mender answers beside the new table and the run of old rows.
+#[derive(Clone, Copy, Debug, Default, PartialEq, Eq)]
+pub struct MendAnswer {
+    pub number: usize,
+    pub row: usize,
+    pub words: usize,
+    pub dropped: usize,
+    pub copied: usize,
 }
