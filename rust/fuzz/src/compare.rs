@@ -10,7 +10,7 @@ use crate::divisions::places_of_divisions;
 use crate::inputs::Input;
 use crate::lent::{same, Lent};
 use crate::prng::Prng;
-use crate::subject::{Answer, Reference, Subject, Written};
+use crate::subject::{Answer, MendAnswer, Reference, Subject, Written};
 use crate::texts::text_need;
 
 /// With this environment variable set, every case is named before it is tried:
@@ -62,6 +62,12 @@ pub struct Tally {
     /// The formulas that are the shorter ones, in old lists and in new ones.
     pub shorter_old: u64,
     pub shorter_new: u64,
+    pub mend: BTreeMap<u8, u64>,
+    /// The tables that are mended: those with rows copied again, with rows dropped, and
+    /// with a mark that is renamed.
+    pub copied: u64,
+    pub dropped: u64,
+    pub renamed: u64,
     /// The tables that the check accepts, those of them that divide in code, and
     /// how many divide in each place.
     pub accepted: u64,
@@ -77,6 +83,20 @@ impl Tally {
         for place in places {
             *self.divisions.entry(place).or_default() += 1;
         }
+    }
+}
+
+impl Tally {
+    fn count_mended(&mut self, old: &[i32], answer: &MendAnswer, new: &[i32], origins: &[i32]) {
+        count(&mut self.mend, answer.number);
+        self.copied += u64::from(answer.copied > 0);
+        self.dropped += u64::from(answer.dropped > 0);
+        let new_rows = new[..answer.words].chunks(4).zip(origins);
+        let is_renamed = |(row, origin): (&[i32], &i32)| {
+            let old_row = &old[4 * *origin as usize..];
+            row[0] == 9 && row[1] != old_row[1]
+        };
+        self.renamed += u64::from(new_rows.into_iter().any(is_renamed));
     }
 }
 
@@ -161,6 +181,11 @@ pub fn compare_input(
         Input::Script { text, room } => compare_reading(subject, text, *room, tally),
         Input::Shorten { list, room } => compare_shortening(subject, list, *room, tally),
         Input::Shorter { old, new, index } => compare_shorter(subject, old, new, *index, tally),
+        Input::Mend {
+            table,
+            new_len,
+            origins_len,
+        } => compare_mending(subject, table, *new_len, *origins_len, tally),
     }
 }
 
@@ -362,6 +387,27 @@ fn compare_shorter(
         _ => (),
     }
     same(&format!("the shorter one at {index}"), expected, found)
+}
+
+/// Counts a mending only where the subject mends tables.
+fn compare_mending(
+    subject: &mut dyn Subject,
+    table: &[i32],
+    new_len: usize,
+    origins_len: usize,
+    tally: &mut Tally,
+) -> Result<(), String> {
+    let (mut new, mut origins) = (Lent::new(new_len), Lent::new(origins_len));
+    let Some(found) = subject.mend(table, new.cells(), origins.cells()) else {
+        return Ok(());
+    };
+    let (mut words, mut rows) = (vec![0; new_len], vec![0; origins_len]);
+    let expected = Reference.mend(table, &mut words, &mut rows);
+    let expected = expected.expect("an answer");
+    tally.count_mended(table, &expected, &words, &rows);
+    same("mended", expected, found)?;
+    new.same("mended, table", &words)?;
+    origins.same("mended, old rows", &rows)
 }
 
 fn compare_program(subject: &mut dyn Subject, bytes: &[u8]) -> Result<(), String> {

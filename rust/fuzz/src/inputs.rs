@@ -5,6 +5,7 @@ use std::fmt::Write;
 use reference::{check, conditions, list_words, need, script_of, Verdict, LONGEST_LIST};
 
 use crate::limits::{dividing_limit_words, limit_words, list_of_length};
+use crate::mending::{any_rooms_for_mended, any_table_to_mend};
 use crate::mutate::{change_words, list_with_length, made_up_list, random_words, tear, tiny_list};
 use crate::prng::Prng;
 use crate::script_texts::{any_room_for_table, any_script_text};
@@ -42,6 +43,13 @@ pub enum Input {
         old: Vec<i32>,
         new: Vec<i32>,
         index: i64,
+    },
+    /// A table to be mended, with the lengths of the buffers for the new one and for the
+    /// old rows of its rows. These are not among those of [`Input::any`] either.
+    Mend {
+        table: Vec<i32>,
+        new_len: usize,
+        origins_len: usize,
     },
 }
 
@@ -87,6 +95,17 @@ impl Input {
         Input::Shorten { list, room }
     }
 
+    /// Tables to be mended.
+    pub fn any_mend(random: &mut Prng) -> Input {
+        let table = any_table_to_mend(random);
+        let (new_len, origins_len) = any_rooms_for_mended(&table, random);
+        Input::Mend {
+            table,
+            new_len,
+            origins_len,
+        }
+    }
+
     /// The whole input as text, for the file of a difference.
     pub fn text(&self) -> String {
         match self {
@@ -95,12 +114,8 @@ impl Input {
                 list_len,
                 scratch_len,
             } => {
-                let mut text =
-                    format!("table, list length {list_len}, scratch length {scratch_len}\n");
-                for row in words.chunks(4) {
-                    text += &spaced(row);
-                }
-                text
+                let lengths = format!("list length {list_len}, scratch length {scratch_len}");
+                format!("table, {lengths}\n{}", row_lines(words))
             }
             Input::List(words) => format!("list\n{}", spaced(words)),
             Input::Text { list, index, room } => {
@@ -117,8 +132,20 @@ impl Input {
                 let (old, new) = (spaced(old), spaced(new));
                 format!("the shorter one at {index}\n{old}{new}")
             }
+            Input::Mend {
+                table,
+                new_len,
+                origins_len,
+            } => {
+                let lengths = format!("{new_len} words for it, {origins_len} for old rows");
+                format!("table to be mended, {lengths}\n{}", row_lines(table))
+            }
         }
     }
+}
+
+fn row_lines(words: &[i32]) -> String {
+    words.chunks(4).map(spaced).collect()
 }
 
 fn spaced<T: std::fmt::Display>(numbers: &[T]) -> String {

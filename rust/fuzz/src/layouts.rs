@@ -44,6 +44,21 @@ pub const LAYOUTS: [Layout; 8] = [
 pub fn relaid(words: &[i32], layout: Layout, random: &mut Prng) -> Vec<i32> {
     let rows: Vec<[i32; 4]> = words.as_chunks().0.to_vec();
     let order = order(&rows, layout, random);
+    ordered(&rows, &order)
+}
+
+/// The table with the last of its scripts behind all other rows; nothing links to one. Kinds are
+/// listed.
+pub fn with_script_last(words: &[i32]) -> Vec<i32> {
+    let rows: Vec<[i32; 4]> = words.as_chunks().0.to_vec();
+    let script = rows.iter().rposition(|row| row[0] == 48);
+    let others = (0..rows.len()).filter(|row| Some(*row) != script);
+    let order: Vec<usize> = others.chain(script).collect();
+    ordered(&rows, &order)
+}
+
+/// The words of these rows in this order.
+fn ordered(rows: &[[i32; 4]], order: &[usize]) -> Vec<i32> {
     let mut new_row = vec![0; rows.len()];
     for (new, &old) in order.iter().enumerate() {
         new_row[old] = new as i32;

@@ -18,6 +18,7 @@ pub mod lent;
 pub mod limits;
 pub mod lists;
 mod memory;
+pub mod mending;
 pub mod mutate;
 pub mod mutate_text;
 pub mod nests;
@@ -33,12 +34,13 @@ pub mod subject;
 pub mod templates;
 pub mod texts;
 pub mod tokens;
+pub mod woven;
 
 pub use compare::{compare, compare_case, compare_counting, compare_input};
 pub use compare::{Difference, Making, Tally, CHECKS_OF_TEXTS};
 pub use inputs::Input;
 pub use prng::{cases_from_environment, seed_from_environment, Prng};
-pub use subject::{Answer, ReadAnswer, Reference, Subject, Written};
+pub use subject::{Answer, MendAnswer, ReadAnswer, Reference, Subject, Written};
 
 /// Writes a line to standard error, which a test that passes shows too.
 pub fn tell(text: impl std::fmt::Display) {

@@ -28,6 +28,17 @@ pub struct ReadAnswer {
     pub used: usize,
 }
 
+/// What request P7's entry answers beside the new table and the run of old rows: number,
+/// row, words used, and how many rows are dropped and copied again.
+#[derive(Clone, Copy, Debug, PartialEq, Eq)]
+pub struct MendAnswer {
+    pub number: u8,
+    pub row: usize,
+    pub words: usize,
+    pub dropped: usize,
+    pub copied: usize,
+}
+
 /// An implementation of document 01 and of the requests as its callers see it.
 pub trait Subject {
     /// The check of a table, numbers 1 to 10.
@@ -76,6 +87,18 @@ pub trait Subject {
     /// Request P6: where the shorter of two lists' formulas at an index stands; a
     /// subject without it answers nothing.
     fn shorter(&mut self, _old: &[i32], _new: &[i32], _index: i64) -> Option<ShorterPart> {
+        None
+    }
+
+    /// Request P7: "A mender writes a new table", and "A lent run says, for each new row,
+    /// the old row it came from"; both buffers hold anything before the call; a subject
+    /// without it answers nothing.
+    fn mend(
+        &mut self,
+        _table: &[i32],
+        _new: &mut [i32],
+        _origins: &mut [i32],
+    ) -> Option<MendAnswer> {
         None
     }
 
@@ -157,6 +180,19 @@ impl Subject for Reference {
 
     fn shorter(&mut self, old: &[i32], new: &[i32], index: i64) -> Option<ShorterPart> {
         Some(reference::shorter(old, new, index))
+    }
+
+    fn mend(&mut self, table: &[i32], new: &mut [i32], origins: &mut [i32]) -> Option<MendAnswer> {
+        let mended = reference::mend(table, new.len(), origins.len());
+        new.copy_from_slice(&mended.table);
+        origins.copy_from_slice(&mended.origins);
+        Some(MendAnswer {
+            number: mended.number,
+            row: mended.row,
+            words: mended.words,
+            dropped: mended.dropped,
+            copied: mended.copied,
+        })
     }
 
     fn program_output(&mut self, bytes: &[u8]) -> Option<Vec<u8>> {

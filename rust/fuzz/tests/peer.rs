@@ -19,6 +19,9 @@ const SCRIPTS: u64 = 100_000;
 /// And lists to be shortened, and pairs of lists.
 const SHORTENINGS: u64 = 100_000;
 
+/// And tables to be mended.
+const MENDINGS: u64 = 100_000;
+
 /// How often each number was given.
 type Tally = BTreeMap<usize, u64>;
 
@@ -210,6 +213,64 @@ fn not_one_difference_in_shortenings() {
     assert!(chosen.keys().copied().eq([0, 20, 21]));
 }
 
+fn compare_mending(
+    table: &[i32],
+    new_len: usize,
+    origins_len: usize,
+    mended: &mut Tally,
+) -> Result<(), String> {
+    let (mut new, mut origins) = (Lent::new(new_len), Lent::new(origins_len));
+    let expected = entries::mend(table, new.cells(), origins.cells());
+    *mended.entry(expected.number).or_default() += 1;
+    let (mut peer_new, mut peer_origins) = (Lent::new(new_len), Lent::new(origins_len));
+    let peer::MendAnswer {
+        number,
+        row,
+        words,
+        dropped,
+        copied,
+    } = peer::mend(table, peer_new.cells(), peer_origins.cells());
+    let found = entries::MendAnswer {
+        number,
+        row,
+        words,
+        dropped,
+        copied,
+    };
+    same("mended", expected, found)?;
+    peer_new.same("mended, table", new.cells())?;
+    peer_origins.same("mended, old rows", origins.cells())?;
+    let second = reference::mend(table, new_len, origins_len);
+    let answer = (second.number.into(), second.row, second.words);
+    same("mended, second", answer, (number, row, words))?;
+    let counts = (second.dropped, second.copied);
+    same("mended, second's counts", counts, (dropped, copied))?;
+    peer_new.same("mended, second's table", &second.table)?;
+    peer_origins.same("mended, second's old rows", &second.origins)
+}
+
+#[test]
+fn not_one_difference_in_mendings() {
+    let seed = seed_from_environment();
+    let mut mended = Tally::new();
+    for case in 0..MENDINGS {
+        let input = Input::any_mend(&mut Prng::for_case(seed, case));
+        let Input::Mend {
+            table,
+            new_len,
+            origins_len,
+        } = &input
+        else {
+            continue;
+        };
+        if let Err(what) = compare_mending(table, *new_len, *origins_len, &mut mended) {
+            panic!("seed {seed}, case {case}: {what}\n{}", input.text());
+        }
+    }
+    tell(format!("mended {mended:?}"));
+    assert!(mended.keys().copied().eq([0, 1, 2, 3, 4, 5, 7, 13, 14]));
+}
+
 #[test]
 fn not_one_difference() {
     let Tallies {
@@ -253,7 +314,7 @@ fn compare_cases(making: Making, cases: u64) -> Tallies {
                 compare_text(list, index, *room, &mut texts)
             }
             Input::Bytes(_) | Input::Script { .. } => Ok(()),
-            Input::Shorten { .. } | Input::Shorter { .. } => Ok(()),
+            Input::Shorten { .. } | Input::Shorter { .. } | Input::Mend { .. } => Ok(()),
         };
         if let Err(what) = result {
             panic!("seed {seed}, case {case}: {what}\n{}", input.text());

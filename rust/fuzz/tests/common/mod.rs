@@ -3,7 +3,7 @@
 use std::io::Write;
 use std::process::{Command, Stdio};
 
-use fuzz::{Answer, ReadAnswer, Subject, Written};
+use fuzz::{Answer, MendAnswer, ReadAnswer, Subject, Written};
 use leqwarti::entries;
 use leqwarti::Record;
 use reference::{Line, ShorterPart, Side, Verdict};
@@ -112,6 +112,17 @@ impl Subject for Proved {
             },
             start: found.start,
             end: found.end,
+        })
+    }
+
+    fn mend(&mut self, table: &[i32], new: &mut [i32], origins: &mut [i32]) -> Option<MendAnswer> {
+        let found = entries::mend(table, new, origins);
+        Some(MendAnswer {
+            number: found.number as u8,
+            row: found.row,
+            words: found.words,
+            dropped: found.dropped,
+            copied: found.copied,
         })
     }
 

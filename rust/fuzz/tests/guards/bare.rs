@@ -87,6 +87,19 @@ extern "C" {
         start: Number,
         end: Number,
     );
+    fn leqwarti_mend(
+        table: *const i32,
+        length: usize,
+        new: *mut i32,
+        new_length: usize,
+        origins: *mut i32,
+        origins_length: usize,
+        number: Number,
+        row: Number,
+        words: Number,
+        dropped: Number,
+        copied: Number,
+    );
 }
 
 /// What a number holds before a call.
@@ -224,14 +237,14 @@ impl Bare {
         self.told_with_buffers()
     }
 
-    fn lend_with_buffers(&mut self, list: usize, scratch: usize) -> [Number; 4] {
+    fn lend_with_buffers<const N: usize>(&mut self, list: usize, scratch: usize) -> [Number; N] {
         let edges = self.edges();
         self.list.hold(&self.junk_words[..list], edges[2]);
         self.scratch.hold(&self.junk_words[..scratch], edges[3]);
         self.lend(None, edges[1])
     }
 
-    fn told_with_buffers(&self) -> [usize; 4] {
+    fn told_with_buffers<const N: usize>(&self) -> [usize; N] {
         assert!(self.list.margin_is_kept() && self.scratch.margin_is_kept());
         self.told()
     }
@@ -308,5 +321,29 @@ impl Bare {
         }
         assert!(self.new_words.as_slice() == new && self.new_words.margin_is_kept());
         self.told()
+    }
+
+    /// Number, row, words, rows dropped and rows copied again; the buffers are `list` for the new
+    /// table and `scratch` for the old rows.
+    pub fn mend(&mut self, new: usize, origins: usize) -> [usize; 5] {
+        let [number, row, words, dropped, copied] = self.lend_with_buffers(new, origins);
+        let (table, length) = self.words();
+        // SAFETY: as in `check`.
+        unsafe {
+            leqwarti_mend(
+                table,
+                length,
+                self.list.as_mut_slice().as_mut_ptr(),
+                new,
+                self.scratch.as_mut_slice().as_mut_ptr(),
+                origins,
+                number,
+                row,
+                words,
+                dropped,
+                copied,
+            );
+        }
+        self.told_with_buffers()
     }
 }

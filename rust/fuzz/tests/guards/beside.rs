@@ -189,3 +189,27 @@ pub fn take_shorter(bare: &mut Bare, old: &[i32], new: &[i32], index: i32) -> [u
     );
     [number, side]
 }
+
+pub fn mend_table(bare: &mut Bare, table: &[i32], new_len: usize, origins_len: usize) -> usize {
+    let mended = reference::mend(table, new_len, origins_len);
+    let number = usize::from(mended.number);
+    let counts = [mended.words, mended.dropped, mended.copied];
+    let expected = [number, mended.row, counts[0], counts[1], counts[2]];
+    bare.hold(table);
+    let found = bare.mend(new_len, origins_len);
+    let is_same = found == expected
+        && bare.keeps(table)
+        && bare.list.as_slice() == mended.table
+        && bare.scratch.as_slice() == mended.origins;
+    let text = || {
+        let table = table.to_vec();
+        let input = Input::Mend {
+            table,
+            new_len,
+            origins_len,
+        };
+        input.text()
+    };
+    assert!(is_same, "mended: {expected:?}, {found:?}: {}", text());
+    number
+}

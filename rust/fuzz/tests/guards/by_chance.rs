@@ -7,8 +7,8 @@ use fuzz::{cases_from_environment, seed_from_environment, tell, Input, Prng};
 
 use crate::bare::Bare;
 use crate::beside::{
-    check_table, count, generate_table, read_line, shorten_list, step_from, take_shorter, walk,
-    write_text, Numbers,
+    check_table, count, generate_table, mend_table, read_line, shorten_list, step_from,
+    take_shorter, walk, write_text, Numbers,
 };
 
 #[test]
@@ -83,7 +83,12 @@ fn usual_inputs() {
     let (mut bare, mut numbers) = (Bare::new(), Numbers::new());
     for case in 0..cases {
         let random = &mut Prng::for_case(seed ^ 4, case);
-        let making = random.pick(&[Input::any, Input::any_dividing, Input::any_shortening]);
+        let making = random.pick(&[
+            Input::any,
+            Input::any_dividing,
+            Input::any_shortening,
+            Input::any_mend,
+        ]);
         let number = match making(random) {
             Input::Table {
                 words,
@@ -101,11 +106,16 @@ fn usual_inputs() {
                 let [number, _] = take_shorter(&mut bare, &old, &new, index);
                 number
             }
+            Input::Mend {
+                table,
+                new_len,
+                origins_len,
+            } => mend_table(&mut bare, &table, new_len, origins_len),
             Input::Bytes(_) | Input::Script { .. } => continue,
         };
         count(&mut numbers, number);
     }
     tell(format!("{cases} usual inputs: {numbers:?}"));
-    let wanted = [0, 11, 12, 20, 21, 30, 31];
+    let wanted = [0, 11, 12, 13, 14, 20, 21, 30, 31];
     assert!(wanted.iter().all(|number| numbers.contains_key(number)));
 }

@@ -22,6 +22,9 @@ fn tables() {
         let (mut list, mut scratch) = ([7; 20], [7; 40]);
         let answer = entries::generate(table.as_slice(), &mut list, &mut scratch);
         assert_eq!((answer.number, list, scratch), (1, [0; 20], [0; 40]));
+        let (mut new, mut origins) = ([7; 20], [7; 5]);
+        let answer = entries::mend(table.as_slice(), &mut new, &mut origins);
+        assert_eq!((answer.number, new, origins), (1, [0; 20], [0; 5]));
     }
 }
 

@@ -6,5 +6,6 @@ mod beside;
 mod by_chance;
 mod changed;
 mod long;
+mod mended;
 mod shortened;
 mod small;

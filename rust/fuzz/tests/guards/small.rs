@@ -6,8 +6,8 @@ use reference::{need, LONGEST_LIST};
 
 use crate::bare::Bare;
 use crate::beside::{
-    check_table, count, generate_table, read_line, shorten_list, take_shorter, walk, write_text,
-    Numbers,
+    check_table, count, generate_table, mend_table, read_line, shorten_list, take_shorter, walk,
+    write_text, Numbers,
 };
 
 /// Calls with every run of so many of the values.
@@ -60,16 +60,18 @@ const ROW_WORDS: [i32; 9] = [-1, 0, 1, 2, 9, 16, 22, 32, 48];
 #[test]
 fn every_table_of_a_row_or_two() {
     let mut bare = Bare::new();
-    let mut checked = Numbers::new();
-    for_each_run(&ROW_WORDS, 4, &mut |table| {
+    let (mut checked, mut mended) = (Numbers::new(), Numbers::new());
+    let mut call = |table: &[i32]| {
         count(&mut checked, check_table(&mut bare, table));
-    });
+        count(&mut mended, mend_table(&mut bare, table, 8, 2));
+    };
+    for_each_run(&ROW_WORDS, 4, &mut call);
     for_each_run(&ROW_WORDS, 4, &mut |words| {
-        let table = [words[0], words[1], 0, 0, words[2], words[3], 0, 0];
-        count(&mut checked, check_table(&mut bare, &table));
+        call(&[words[0], words[1], 0, 0, words[2], words[3], 0, 0]);
     });
-    tell(format!("tables of a row or two: {checked:?}"));
+    tell(format!("tables of a row or two: {checked:?}, {mended:?}"));
     assert!(checked.keys().copied().eq([2, 3, 4, 5, 7]));
+    assert!(mended.keys().copied().eq([2, 3, 4, 5, 7]));
 }
 
 const KINDS: Kinds = Kinds {
