@@ -1,6 +1,7 @@
 //! The harness tried on the reference itself and on broken subjects.
 
 mod misdivided;
+mod mismended;
 mod misnumbered;
 mod misread;
 mod misshortened;
@@ -12,6 +13,7 @@ use fuzz::texts::dividing_list;
 use fuzz::{compare, compare_counting, faults, limits, seed_from_environment};
 use fuzz::{Answer, Input, Making, Prng, Reference, Subject, Tally};
 use misdivided::{division_faults, DivisionFault, Misdivided};
+use mismended::{mend_faults, MendFault, Mismended};
 use misread::{Misread, ReadFault};
 use misshortened::{short_faults, Misshortened, ShortFault};
 use misspelt::{Misspelt, TextFault};
@@ -365,4 +367,12 @@ fn every_mistake_in_shortening_is_found() {
     let faulty = short_faults().map(misshortened);
     let faultless = Misshortened(ShortFault::Nothing);
     assert_all_found(faultless, faulty, Input::any_shortening, 5);
+}
+
+#[test]
+fn every_mistake_in_mending_is_found() {
+    let mismended = |fault| (format!("{fault:?}"), Mismended(fault));
+    let faulty = mend_faults().map(mismended);
+    let faultless = Mismended(MendFault::Nothing);
+    assert_all_found(faultless, faulty, Input::any_mend, 6);
 }
