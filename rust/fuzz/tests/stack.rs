@@ -55,7 +55,35 @@ impl Call {
     }
 }
 
-const TABLE_ENTRIES: [Entry; 4] = [
+/// The mender, beside code that does not nest.
+const MEND_ENTRIES: [Entry; 2] = [
+    (
+        "entries::mend",
+        OnWords(|table, _| {
+            let (mut new, mut origins) = mended_buffers();
+            let answer = entries::mend(table, &mut new, &mut origins);
+            let (mut peer_new, mut peer_origins) = mended_buffers();
+            let expected = peer::mend(table, &mut peer_new, &mut peer_origins);
+            let counts = (answer.dropped, answer.copied);
+            assert_eq!(
+                (answer.number, answer.row, answer.words),
+                (expected.number, expected.row, expected.words)
+            );
+            assert_eq!(counts, (expected.dropped, expected.copied));
+            assert!(new == peer_new && origins == peer_origins);
+        }),
+    ),
+    (
+        "mend",
+        OnWords(|table, _| {
+            let refusal = leqwarti::mend(table).err();
+            let found = refusal.map_or(0, |refusal| refusal.reason.number());
+            assert_eq!(usize::from(found), mend_number_by_peer(table));
+        }),
+    ),
+];
+
+const TABLE_ENTRIES: [Entry; 6] = [
     (
         "check",
         OnWords(|table, number| {
@@ -97,6 +125,8 @@ const TABLE_ENTRIES: [Entry; 4] = [
             Err(refusal) => assert_eq!(usize::from(refusal.reason.number()), number),
         }),
     ),
+    MEND_ENTRIES[0],
+    MEND_ENTRIES[1],
 ];
 
 /// The entry that writes text.
@@ -211,10 +241,16 @@ fn write_out(plan: &Plan) {
     }
 }
 
+/// Room for every mended table, with other things in it.
+fn mended_buffers() -> (Vec<i32>, Vec<i32>) {
+    (vec![7; LARGEST_TABLE], vec![7; LARGEST_TABLE / 4])
+}
+
 impl Input {
     fn entries(&self) -> &'static [Entry] {
         match self {
             Input::Table { .. } | Input::TablesByChance => &TABLE_ENTRIES,
+            Input::Shared { .. } => &MEND_ENTRIES,
             Input::List { .. } => &LIST_ENTRIES,
             Input::Script(_) => &READ_ENTRIES,
         }
@@ -223,7 +259,9 @@ impl Input {
     /// What to call an entry with, and the number that it must answer.
     fn calls(self) -> Vec<(Given, usize)> {
         match self {
-            Input::Table { words, number } | Input::List { words, number } => {
+            Input::Table { words, number }
+            | Input::Shared { words, number }
+            | Input::List { words, number } => {
                 vec![(Given::Words(words), number)]
             }
             Input::Script(text) => {
@@ -247,11 +285,21 @@ fn number_by_peer(table: &[i32]) -> usize {
     peer::generate(table, &mut list, &mut scratch).number
 }
 
+fn mend_number_by_peer(table: &[i32]) -> usize {
+    let (mut new, mut origins) = mended_buffers();
+    peer::mend(table, &mut new, &mut origins).number
+}
+
 #[test]
 fn the_cases_are_what_they_say() {
     for Case { name, input } in cases() {
         match input {
             Input::Table { words, number } => assert_eq!(number_by_peer(&words), number, "{name}"),
+            Input::Shared { words, number } => {
+                let expected = reference::mend(&words, LARGEST_TABLE, LARGEST_TABLE / 4);
+                assert_eq!(usize::from(expected.number), number, "{name}");
+                assert_eq!(mend_number_by_peer(&words), number, "{name}");
+            }
             Input::List { words, number } => {
                 assert_eq!(words.len(), LONGEST_LIST, "{name}");
                 assert_eq!(peer::line_at(&words, 0).number, number, "{name}");

@@ -5,6 +5,7 @@ mod formulas;
 mod lists;
 mod rows;
 mod sequences;
+mod shared;
 mod tables;
 mod texts;
 
@@ -16,9 +17,10 @@ pub struct Case {
     pub input: Input,
 }
 
-/// A number is what the generator or the reader answers.
+/// A number is what the generator, the mender or the reader answers.
 pub enum Input {
     Table { words: Vec<i32>, number: usize },
+    Shared { words: Vec<i32>, number: usize },
     List { words: Vec<i32>, number: usize },
     TablesByChance,
     Script(Vec<u8>),
@@ -26,6 +28,7 @@ pub enum Input {
 
 pub fn cases() -> Vec<Case> {
     let mut cases = tables::cases();
+    cases.extend(shared::cases());
     cases.extend(lists::cases());
     cases.extend(texts::cases());
     cases.push(Case {

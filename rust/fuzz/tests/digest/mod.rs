@@ -73,6 +73,16 @@ impl Digest {
         }
     }
 
+    pub fn add_mended(&mut self, answer: entries::MendAnswer, new: &[i32], origins: &[i32]) {
+        *self.numbers.entry(answer.number).or_default() += 1;
+        let counts = [answer.words, answer.dropped, answer.copied];
+        for part in [answer.number, answer.row].into_iter().chain(counts) {
+            self.add(part as u64);
+        }
+        self.add_words(new);
+        self.add_words(origins);
+    }
+
     pub fn add_line(&mut self, line: entries::Line) {
         *self.numbers.entry(line.number).or_default() += 1;
         for part in [line.number, line.kind, line.row, line.start, line.end] {

@@ -8,6 +8,7 @@ pub mod divisions;
 pub mod formulas;
 pub mod limits;
 pub mod lists;
+pub mod mending;
 pub mod noise;
 pub mod numbers;
 pub mod shortening;
