@@ -1,4 +1,4 @@
-//! What the contestants do: generate, check, read, write text, read text, shorten.
+//! What the contestants do: generate, check, read, write text, read text, shorten, mend.
 
 use std::hint::black_box;
 
@@ -259,6 +259,50 @@ pub fn time_choosing(watch: &Stopwatch, name: &str, old: &[i32], new: &[i32], in
             floor: &mut || {
                 add_up(old);
                 add_up(new);
+            },
+        },
+    );
+}
+
+/// A table mended, in just the room that the new one needs, or the largest where it is
+/// refused. The floor adds up the words, clears both runs and copies the new table and its
+/// old rows.
+pub fn time_mending(watch: &Stopwatch, name: &str, table: &[i32]) {
+    let most_rows = LARGEST_TABLE / 4;
+    let expected = reference::mend(table, LARGEST_TABLE, most_rows);
+    let new_rows = expected.words / 4;
+    let (outcome, rows) = match expected.number {
+        0 => (format!("to {new_rows} rows"), new_rows),
+        number => (format!("rows, refused {number}"), most_rows),
+    };
+    let written = &expected.table[..expected.words];
+    let written_rows = &expected.origins[..new_rows];
+    let buffers = || (vec![0; 4 * rows], vec![0; rows]);
+    let (mut new, mut origins) = buffers();
+    let (mut peer_new, mut peer_origins) = buffers();
+    let (mut floor_new, mut floor_origins) = buffers();
+    watch.print_times(
+        &format!("{name} ({} {outcome})", table.len() / 4),
+        Contestants {
+            proved: &mut || {
+                black_box(entries::mend(black_box(table), &mut new, &mut origins));
+            },
+            peer: &mut || {
+                black_box(peer::mend(
+                    black_box(table),
+                    &mut peer_new,
+                    &mut peer_origins,
+                ));
+            },
+            second: &mut || {
+                black_box(reference::mend(black_box(table), 4 * rows, rows));
+            },
+            floor: &mut || {
+                add_up(table);
+                black_box(&mut floor_new).fill(0);
+                black_box(&mut floor_origins).fill(0);
+                black_box(&mut floor_new)[..written.len()].copy_from_slice(written);
+                black_box(&mut floor_origins)[..new_rows].copy_from_slice(written_rows);
             },
         },
     );

@@ -8,7 +8,8 @@
 //! of the list; for what only reads, add up all words once; for the text of a
 //! condition, clear its room and copy it; for a script's text, add up its bytes,
 //! clear the room of its table and copy the table; for shortening a list, add up its
-//! words, clear the room of the new one and copy that.
+//! words, clear the room of the new one and copy that; for mending a table the same, and
+//! the old rows of its rows too.
 //!
 //! `--rounds N` for fewer rounds or more.
 
@@ -16,12 +17,13 @@ mod clock;
 mod contests;
 mod lists;
 mod scripts;
+mod shared;
 mod texts;
 mod timing;
 
 use contests::{
-    time_checking, time_choosing, time_generating, time_generating_at_the_need, time_reading_at,
-    time_reading_back, time_reading_text, time_shortening, time_writing,
+    time_checking, time_choosing, time_generating, time_generating_at_the_need, time_mending,
+    time_reading_at, time_reading_back, time_reading_text, time_shortening, time_writing,
 };
 use fuzz::scripts::EXAMPLE_A;
 use leqwarti::{LARGEST_SCRATCH, LONGEST_LIST, LONGEST_SCRIPT};
@@ -203,6 +205,36 @@ fn time_shortenings(watch: &Stopwatch) {
     }
 }
 
+/// Tables with shared rows and without, with marks in many loops and in none, refused at
+/// the first row and at the last moment.
+fn time_mendings(watch: &Stopwatch) {
+    let tables = [
+        ("a shared constant", shared::constant()),
+        ("example A", EXAMPLE_A.to_vec()),
+        ("in order", shared::in_order()),
+        ("in any order", shared::in_any_order()),
+        ("a block used 10 times", shared::block_used_often(10)),
+        ("a loop and its mark used often", shared::doubled_loop(7)),
+        ("a sum that doubles 1,000 times", shared::doubled_sum(1_000)),
+        (
+            "200 loops, 90 marks used twice",
+            shared::nested_loops(200, 90),
+        ),
+        (
+            "500 loops, 300 marks used twice",
+            shared::nested_loops(500, 300),
+        ),
+        ("a mark outside its loop", shared::mark_outside()),
+        (
+            "a mark outside 500 loops",
+            shared::mark_outside_loops(500, 300),
+        ),
+    ];
+    for (name, table) in &tables {
+        time_mending(watch, &format!("mend: {name}"), table);
+    }
+}
+
 fn time_texts(watch: &Stopwatch) {
     let texts = [
         ("example A, step", list_of(&EXAMPLE_A), 2),
@@ -249,6 +281,7 @@ fn main() {
     time_refusals(&watch);
     time_readings(&watch);
     time_shortenings(&watch);
+    time_mendings(&watch);
     watch.print_head_of_rates("Text of a condition");
     time_texts(&watch);
     watch.print_head_of_rates("Script's text");
