@@ -71,6 +71,16 @@ impl Json {
         Json::Object(fields.map(|(name, value)| (name.to_string(), value)).into())
     }
 
+    /// Why there is no answer: the number, and the row or the byte, by its name.
+    pub fn refusal(number: u8, (place, at): (&str, usize), text: String) -> Json {
+        Json::object([
+            ("verdict", Json::text("refused")),
+            ("number", Json::number(number)),
+            (place, Json::number(at)),
+            ("text", Json::text(text)),
+        ])
+    }
+
     /// An object with one more field.
     pub fn with(self, name: &str, value: Json) -> Json {
         match self {

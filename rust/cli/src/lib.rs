@@ -3,6 +3,7 @@
 
 mod answer;
 mod json;
+mod mended;
 mod names;
 mod point;
 mod proof;
@@ -15,9 +16,11 @@ mod source;
 mod system;
 mod text;
 mod tokens;
+mod unmended;
 
 pub use answer::Answer;
 pub use json::Json;
+pub use mended::MendedRows;
 pub use names::Names;
 pub use point::Point;
 pub use proof::{
@@ -30,5 +33,6 @@ pub use smt::{scripts, Script};
 pub use source::{Fault, Source, Unread};
 pub use system::columns;
 pub use text::Text;
+pub use unmended::Unmended;
 
 pub const HELP: &str = include_str!("help.txt");

@@ -1,6 +1,7 @@
 //! The command: `vcgen [list] [--words] FILE`, `vcgen smt FILE [INDEX]`,
 //! `vcgen smt --into FOLDER FILE` and
-//! `vcgen prove [--timeout SECONDS] [--json] FILE`, each also with `--short`.
+//! `vcgen prove [--timeout SECONDS] [--json] FILE`, each also with `--short`; and
+//! `vcgen mend [--json] FILE`.
 
 mod progress;
 mod request;
@@ -12,10 +13,11 @@ use std::path::Path;
 use std::process::ExitCode;
 
 use cli::solvers::Solver;
-use cli::{scripts, Answer, Outcome, Progress, Proof, Report, Script, HELP};
+use cli::{scripts, Answer, Fault, MendedRows, Outcome, Progress, Proof};
+use cli::{Report, Rows, Script, Source, Unread, HELP};
 use leqwarti::Plan;
 use progress::ProgressLine;
-use request::{request, List, Prove, Request, Smt, Wanted};
+use request::{request, List, Mend, Prove, Request, Smt, Wanted};
 
 const REFUSED: u8 = 1;
 const UNREADABLE: u8 = 2;
@@ -46,19 +48,13 @@ fn carry_out(request: Request) -> Result<u8, Failure> {
         Request::List(request) => list(&request),
         Request::Smt(request) => smt(&request).map(|()| 0),
         Request::Prove(request) => prove(&request),
+        Request::Mend(request) => mend(&request),
     }
 }
 
 /// The answer to a file, or which line is none of a file.
 fn answer(file: &Path) -> Result<Answer, Failure> {
-    let (name, bytes) = match file.as_os_str() == "-" {
-        true => (Path::new("standard input"), read_input()),
-        false => (file, fs::read(file)),
-    };
-    let bytes = bytes.map_err(|error| no_file(name, error))?;
-    let name = name.display();
-    Answer::to(&bytes)
-        .map_err(|fault| unreadable(format!("{name}:{}: {}\n", fault.line, fault.problem)))
+    Answer::to(&content(file)?).map_err(|fault| faulty(file, fault))
 }
 
 /// The same, its conditions shortened where that is asked for.
@@ -68,6 +64,31 @@ fn answer_with(file: &Path, is_short: bool) -> Result<Answer, Failure> {
         true => answer.shortened(),
         false => answer,
     })
+}
+
+fn content(file: &Path) -> Result<Vec<u8>, Failure> {
+    let bytes = match is_input(file) {
+        true => read_input(),
+        false => fs::read(file),
+    };
+    bytes.map_err(|error| no_file(name(file), error))
+}
+
+fn is_input(file: &Path) -> bool {
+    file.as_os_str() == "-"
+}
+
+/// A file as it is told of.
+fn name(file: &Path) -> &Path {
+    match is_input(file) {
+        true => Path::new("standard input"),
+        false => file,
+    }
+}
+
+fn faulty(file: &Path, fault: Fault) -> Failure {
+    let Fault { line, problem } = fault;
+    unreadable(format!("{}:{line}: {problem}\n", name(file).display()))
 }
 
 fn read_input() -> io::Result<Vec<u8>> {
@@ -159,6 +180,43 @@ fn prove(request: &Prove) -> Result<u8, Failure> {
         report.conclusion(&proof)
     })?;
     Ok(status(proof.outcome()))
+}
+
+fn mend(request: &Mend) -> Result<u8, Failure> {
+    match MendedRows::of(rows(request.file)?) {
+        Ok(mended) => print_mended(&mended, request.as_json).map(|()| 0),
+        Err(unmended) if request.as_json => {
+            print(&format!("{}\n", unmended.json())).map(|()| REFUSED)
+        }
+        Err(unmended) => Err(refused(unmended.text())),
+    }
+}
+
+/// The file of rows is to be read again, so what is still wrong with them is no
+/// part of it.
+fn print_mended(mended: &MendedRows, as_json: bool) -> Result<(), Failure> {
+    if as_json {
+        return print(&format!("{}\n", mended.json()));
+    }
+    print(&mended.text())?;
+    if let Some(warning) = mended.warning() {
+        // Where standard error takes nothing, the rows are written all the same.
+        let _ = io::stderr().write_all(format!("vcgen: {warning}\n").as_bytes());
+    }
+    Ok(())
+}
+
+/// The rows of a file, which must not be a text.
+fn rows(file: &Path) -> Result<Rows, Failure> {
+    match Source::read(&content(file)?) {
+        Ok(Source::Rows(rows)) => Ok(rows),
+        Err(Unread::Fault(fault)) => Err(faulty(file, fault)),
+        Ok(Source::Text(_)) | Err(Unread::Refused(_)) => Err(unreadable(format!(
+            "{}: this is a script's text (rows begin with a number), in which nothing is shared: \
+             there is nothing to mend\n",
+            name(file).display()
+        ))),
+    }
 }
 
 /// Those that there are, one at least.

@@ -72,6 +72,12 @@ impl Names {
         text.split_inclusive(is_separator).map(named).collect()
     }
 
+    /// The lines that give the names, by variable number.
+    pub fn lines(&self) -> String {
+        let line = |(number, name): (&usize, &String)| format!("v{number} is {name}\n");
+        self.of.iter().map(line).collect()
+    }
+
     /// The number of the variable that has the name.
     pub fn variable(&self, name: &str) -> Option<usize> {
         let mut named = self.of.iter();
@@ -121,6 +127,16 @@ mod tests {
         assert_eq!(names.put_into("v0"), "x");
         assert_eq!(names.variable("old_x"), Some(128));
         assert_eq!(names.variable("old"), None);
+    }
+
+    #[test]
+    fn lines_give_the_same_names() {
+        let given = names(&["v128 is old_x", "v+07 is seven", "v0 is x"]);
+        assert_eq!(given.lines(), "v0 is x\nv7 is seven\nv128 is old_x\n");
+        let lines: Vec<String> = given.lines().lines().map(str::to_string).collect();
+        let lines: Vec<&str> = lines.iter().map(String::as_str).collect();
+        assert_eq!(names(&lines), given);
+        assert_eq!(Names::default().lines(), "");
     }
 
     #[test]

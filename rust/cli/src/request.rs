@@ -12,6 +12,7 @@ pub enum Request<'a> {
     List(List<'a>),
     Smt(Smt<'a>),
     Prove(Prove<'a>),
+    Mend(Mend<'a>),
 }
 
 pub struct List<'a> {
@@ -44,6 +45,11 @@ pub struct Prove<'a> {
     pub is_short: bool,
     /// The time that a solver has for a condition.
     pub limit: Duration,
+    pub as_json: bool,
+}
+
+pub struct Mend<'a> {
+    pub file: &'a Path,
     pub as_json: bool,
 }
 
@@ -112,11 +118,17 @@ enum Subcommand {
     List,
     Smt,
     Prove,
+    Mend,
 }
 
 impl Subcommand {
     fn named(argument: &OsStr) -> Option<Subcommand> {
-        let all = [Subcommand::List, Subcommand::Smt, Subcommand::Prove];
+        let all = [
+            Subcommand::List,
+            Subcommand::Smt,
+            Subcommand::Prove,
+            Subcommand::Mend,
+        ];
         all.into_iter().find(|one| argument == one.name())
     }
 
@@ -125,6 +137,7 @@ impl Subcommand {
             Subcommand::List => "list",
             Subcommand::Smt => "smt",
             Subcommand::Prove => "prove",
+            Subcommand::Mend => "mend",
         }
     }
 
@@ -138,6 +151,7 @@ impl Subcommand {
                 ("--timeout", Some("SECONDS")),
                 ("--json", None),
             ],
+            Subcommand::Mend => &[("--json", None)],
         }
     }
 
@@ -217,6 +231,13 @@ impl<'a> Given<'a> {
                     file,
                     is_short,
                     limit: self.limit()?,
+                    as_json: self.has("--json"),
+                })
+            }
+            Subcommand::Mend => {
+                none_of(rest)?;
+                Request::Mend(Mend {
+                    file,
                     as_json: self.has("--json"),
                 })
             }
@@ -322,8 +343,11 @@ mod tests {
             }
             Ok(Request::Prove(prove)) => {
                 let (short, file) = (short(prove.is_short), prove.file.display());
-                let form = if prove.as_json { "json" } else { "text" };
+                let form = form(prove.as_json);
                 format!("prove{short} {file} {:?} {form}", prove.limit)
+            }
+            Ok(Request::Mend(mend)) => {
+                format!("mend {} {}", mend.file.display(), form(mend.as_json))
             }
         }
     }
@@ -333,6 +357,14 @@ mod tests {
             " short"
         } else {
             ""
+        }
+    }
+
+    fn form(as_json: bool) -> &'static str {
+        if as_json {
+            "json"
+        } else {
+            "text"
         }
     }
 
@@ -373,6 +405,9 @@ mod tests {
             ("smt --into --words a", "smt a into --words"),
             ("prove --short a", "prove short a 10s text"),
             ("prove --json a --short", "prove short a 10s json"),
+            ("mend a", "mend a text"),
+            ("mend -", "mend - text"),
+            ("mend a --json", "mend a json"),
             ("--help", "help"),
             ("smt -h", "help"),
         ] {
@@ -388,6 +423,8 @@ mod tests {
         assert_eq!(told("--words smt"), "list smt true");
         assert_eq!(told("prove prove"), "prove prove 10s text");
         assert_eq!(told("list prove"), "list prove false");
+        assert_eq!(told("mend mend"), "mend mend text");
+        assert_eq!(told("list mend"), "list mend false");
     }
 
     #[test]
@@ -431,6 +468,13 @@ mod tests {
             "--short prove a",
             "smt --short a 0 --short",
             "prove --shorter a",
+            "mend",
+            "mend a b",
+            "mend --json",
+            "mend --short a",
+            "mend --words a",
+            "mend --json --json a",
+            "--json mend a",
         ] {
             assert_eq!(told(arguments), "usage", "{arguments}");
         }
@@ -451,6 +495,7 @@ mod tests {
                 "usage: ./vcgen smt [--short] FILE [INDEX]\n       \
                  ./vcgen smt [--short] --into FOLDER FILE"
             }
+            "mend" => "usage: ./vcgen mend [--json] FILE",
             _ => "usage: ./vcgen prove [--short] [--timeout SECONDS] [--json] FILE",
         };
         for (arguments, name, wanted) in [
@@ -489,6 +534,10 @@ mod tests {
                 "prove",
                 "`prove` has to stand first",
             ),
+            ("mend", "mend", "no file is given"),
+            ("mend a b", "mend", "`b` is an argument too many"),
+            ("mend --short a", "mend", "`--short` is no option of mend"),
+            ("--json mend a", "mend", "`mend` has to stand first"),
             ("--word a prove", "list", "`--word` is no option of list"),
             ("a prove", "list", "`prove` is an argument too many"),
             ("prove --json", "prove", "no file is given"),

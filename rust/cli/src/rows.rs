@@ -46,6 +46,12 @@ impl Rows {
         Ok(rows)
     }
 
+    /// What is told of a row, with its line.
+    pub fn shown(&self, row: usize, told: &str) -> String {
+        let RowLine { line, text, .. } = &self.lines[row];
+        format!("row {row}, line {line}: {told}\n    {text}\n")
+    }
+
     fn add_line(&mut self, line: usize, text: &str) -> Result<(), String> {
         let (content, comment) = text.split_once('#').unwrap_or((text, ""));
         let content = content.trim();

@@ -110,6 +110,8 @@ fn wrong_usage_builds_nothing() {
         "--short --words",
         "list",
         "smt",
+        "mend",
+        "mend --json",
         "",
     ];
     let usage = cli::HELP.split("\n\n").next().unwrap();
@@ -121,6 +123,7 @@ fn wrong_usage_builds_nothing() {
             &["prove a.script --timeout 5 a.script"],
             "too many arguments: a.script a.script",
         ),
+        (&["mend a.script 5"], "too many arguments: a.script 5"),
         (&["smt a.script 5 5"], "too many arguments: a.script 5 5"),
         (
             &[
@@ -128,6 +131,7 @@ fn wrong_usage_builds_nothing() {
                 "--jsn a.script --words",
                 "prove --jsn",
                 "smt --jsn a.script",
+                "mend --jsn a.script",
             ],
             "--jsn is no option",
         ),
@@ -145,6 +149,7 @@ fn wrong_usage_builds_nothing() {
         ),
         (&["--short smt a.script 5"], "`smt` has to stand first"),
         (&["--words list a.script"], "`list` has to stand first"),
+        (&["--json mend a.script"], "`mend` has to stand first"),
     ] {
         let error = format!("vcgen: {told}\n{usage}\n./vcgen --help says more\n");
         assert_unbuilt(all_arguments, (Some(2), "", &error));
@@ -159,6 +164,7 @@ fn a_file_that_is_not_there_builds_nothing() {
         "prove none --timeout 5",
         "prove --json none",
         "list none",
+        "mend none",
         "none",
     ];
     assert_unbuilt(&all_arguments, (Some(2), "", "vcgen: cannot read none\n"));
@@ -239,6 +245,9 @@ fn what_is_built_gets_the_arguments_as_they_are() {
         "smt --into none a.script",
         "smt --into none --short a.script",
         "smt --into ./--short a.script",
+        "mend a.script",
+        "mend --json a.script",
+        "mend -",
         "a.script",
     ] {
         let passed: String = arguments
