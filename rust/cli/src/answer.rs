@@ -2,7 +2,6 @@
 
 use leqwarti::{Condition, ConditionKind, Formula, Plan, Reason, Refusal};
 
-use crate::rows::RowLine;
 use crate::{Fault, Json, RefusedText, Shortened, Source, Text, Unread};
 
 /// What the generator says of a file.
@@ -93,12 +92,7 @@ impl Answer {
             Answer::Table(_, Err(refusal)) => (refusal.reason.number(), "row", refusal.row),
             Answer::Unread(text) => (text.refusal.reason.number(), "byte", text.place_in_file()),
         };
-        Some(Json::object([
-            ("verdict", Json::text("refused")),
-            ("number", Json::number(number)),
-            (place, Json::number(at)),
-            ("text", Json::text(self.text())),
-        ]))
+        Some(Json::refusal(number, (place, at), self.text()))
     }
 
     fn first_line(&self) -> String {
@@ -164,15 +158,20 @@ fn refusal_text(refusal: &Refusal, source: &Source) -> String {
         return format!("{words}\n");
     }
     match source {
-        Source::Rows(rows) => {
-            let RowLine { line, text, .. } = &rows.lines[row];
-            format!("row {row}, line {line}: {words}\n    {text}\n")
-        }
+        Source::Rows(rows) => rows.shown(row, words) + way_out(reason),
         Source::Text(text) if text.has_place(row) => {
             let (point, words) = (text.point(row), words_for_text(reason, text, row));
             format!("{point}: {words}\n{}", point.shown())
         }
         Source::Text(_) => format!("row {row}: {words}\n"),
+    }
+}
+
+/// Which command helps, where one does.
+fn way_out(reason: Reason) -> &'static str {
+    match reason {
+        Reason::SharedRow => "`./vcgen mend FILE` writes the rows anew, with a copy for each use\n",
+        _ => "",
     }
 }
 
@@ -238,6 +237,19 @@ mod tests {
             "refused 2 1\nrow 1, line 3: the row has a kind that does not exist\n    99 0 0 0 # odd\n"
         );
         assert_eq!(words, "refused 2 1\n");
+    }
+
+    #[test]
+    fn who_shares_a_row_is_told_what_mends_it() {
+        let (text, words) = both("2 0 0 0\n3 0 0 0 # x + x");
+        assert_eq!(
+            text,
+            "refused 6 1\n\
+             row 1, line 2: the row links to a row that is linked already; each row is used once\n    \
+             3 0 0 0 # x + x\n\
+             `./vcgen mend FILE` writes the rows anew, with a copy for each use\n"
+        );
+        assert_eq!(words, "refused 6 1\n");
     }
 
     #[test]
