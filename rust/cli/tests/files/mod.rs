@@ -55,6 +55,12 @@ pub fn expected_short(file: &Path) -> Option<String> {
     stored.exists().then(|| text(&stored))
 }
 
+/// What `mend` is to print of an example of rows, where that is stored.
+pub fn expected_mended(file: &Path) -> Option<String> {
+    let stored = file.with_extension("mend.expected");
+    stored.exists().then(|| text(&stored))
+}
+
 pub fn name(file: &Path) -> &str {
     file.file_stem().unwrap().to_str().unwrap()
 }
