@@ -1,12 +1,11 @@
 -- What a table has that passed 1 to 5 (`Checked`), and what that says of the kind and the links of a row. Assumes nothing.
-use Prim.Native.Nat.{ℕ, suc, _+_, _*_, _<_, _≤_}
-use mathlib.Core.Path.{_≡_, refl, sym, ap, subst, _∙_}
-use mathlib.Core.Bool.{Bool, true, false, cond, _&&_}
-use mathlib.Core.List.{List, [], _∷_}
+use Prim.Native.Nat.{ℕ, _+_, _*_, _<_}
+use mathlib.Core.Path.{_≡_, sym, ap, _∙_}
+use mathlib.Core.List.{List, []}
 use native.Mathlib.Omega.{arith as linear}
 use native.Mathlib.Decide.{decLt}
 use borrow.Author.Tests.{lt-ltb}
-use lib.Dec.{T, ltb, ltb→lt}
+use lib.Dec.{T, ltb→lt}
 use lib.IntN.{ℤ}
 use lib.ListN.{length, getD}
 use Rattle.script.specs.declared.Sort.the-variants.{Unknown}
@@ -14,7 +13,7 @@ use Rattle.script.specs.Laws.{row-is}
 use Rattle.script.specs.Rows.{field-number, fields, row, row-of, rows, sort-of, word}
 use Rattle.script.specs.Refusals.{in-range}
 use Rattle.theorems.specs.Accepted.{both}
-use Rattle.rows.specs.Patterns.{Asked, by-kind, below, cell, limited, linking, pattern, patterns, unlisted}
+use Rattle.rows.specs.Patterns.{Asked, by-kind, below, cell, limited, pattern, patterns, unlisted}
 use Rattle.rows.specs.States.{Sized, in-table}
 use Rattle.mending.specs.Falling.{Falls}
 

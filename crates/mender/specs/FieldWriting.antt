@@ -1,16 +1,12 @@
 -- One field of a new row, written (`Field-written`), where there is room for it (`Field-room`). S gives the sizes that the array has,
 -- ρ the latest copies. Assumes nothing.
 use Prim.Native.Nat.{ℕ, zero, suc, _+_, _-_, _≤_, _<_}
-use mathlib.Core.Path.{_≡_, refl, sym, ap, subst, _∙_}
+use mathlib.Core.Path.{_≡_, refl, ap, subst}
 use mathlib.Core.Logic.{_≢_}
-use mathlib.Core.Bool.{Bool, true, false, cond}
 use mathlib.Core.List.{List, [], _∷_, map}
-use native.Mathlib.Omega.{arith as linear}
 use borrow.Author.Tests.{eq-eqb, ne-eqb, le-ltb, lt-ltb}
-use lib.Dec.{eqb}
 use lib.IntN.{ℤ, pos}
 use lib.ListN.{length, getD, set, length-set}
-use Rattle.rows.specs.Patterns.{linking}
 use Rattle.mender.specs.Letters.{Field, number, end-by, word-by, put-by}
 
 abbrev pub at-of : List ℕ → ℕ → ℕ

@@ -1,8 +1,8 @@
 -- What the passes make of a row, by the letters that the code's table of kinds has for its three fields (`by-letters`): the rows
 -- that it links to, a sum over its parts, its words renewed, and its parts put at their places.
 -- Argument: each of the 49 numbers up to 48 computes. Assumes nothing.
-use Prim.Native.Nat.{ℕ, zero, suc, _+_, _*_, _-_, _<_}
-use mathlib.Core.Path.{_≡_, refl, ap}
+use Prim.Native.Nat.{ℕ, _+_, _-_, _<_}
+use mathlib.Core.Path.{_≡_, refl}
 use mathlib.Core.Bool.{cond}
 use mathlib.Core.List.{List, [], _∷_}
 use lib.Dec.{eqb}

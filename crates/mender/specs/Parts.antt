@@ -1,18 +1,18 @@
 -- The loop over the rows that looks for 2 to 5 (`Parts-at`); what a table has that passes them and 7 (`checked-of`).
 -- Assumes nothing.
-use Prim.Native.Nat.{ℕ, suc, _+_, _≤_, _<_}
-use mathlib.Core.Path.{_≡_, refl, sym, ap, _∙_}
+use Prim.Native.Nat.{ℕ, _+_, _≤_, _<_}
+use mathlib.Core.Path.{_≡_, sym, ap, _∙_}
 use mathlib.Core.Logic.{_≢_, inl, inr}
-use mathlib.Core.Bool.{Bool, true, false, cond}
+use mathlib.Core.Bool.{false, cond}
 use mathlib.Core.List.{List}
 use native.Mathlib.Numerals.{add-one}
 use native.Mathlib.Decide.{ℕ-discrete}
-use borrow.Author.Tests.{eq-eqb, ne-eqb}
+use borrow.Author.Tests.{ne-eqb}
 use lib.Dec.{eqb}
 use lib.IntN.{ℤ}
 use lib.ListN.{length}
 use Rattle.script.specs.Rows.{fields, row, rows}
-use Rattle.script.specs.Refusals.{accepted, refused, linked, row-fault, in-range, unused-zero, bad-length}
+use Rattle.script.specs.Refusals.{accepted, refused, linked, in-range, unused-zero, bad-length}
 use Rattle.theorems.specs.Accepted.{both, sound-length}
 use Rattle.rows.specs.Faults.{Passed}
 use Rattle.rows.specs.States.{Sized, States, Tested, states-none}

@@ -1,16 +1,15 @@
 -- A new row, written: its words (`Words-at`), and the run of old rows after its parts are put (`row-written`).
 -- Argument: where the row that is copied takes at most as many rows as a table has, so do its parts, and the capped sizes are exact;
 -- the parts stand one after the other up to the row. Assumes nothing.
-use Prim.Native.Nat.{ℕ, zero, suc, _+_, _*_, _-_, _≤_, _<_, min}
-use mathlib.Core.Path.{_≡_, refl, sym, ap, subst, _∙_}
+use Prim.Native.Nat.{ℕ, zero, suc, _+_, _*_, _-_, _≤_, _<_}
+use mathlib.Core.Path.{_≡_, refl, ap, _∙_}
 use mathlib.Core.Logic.{_⊎_, inl, inr, _≢_}
-use mathlib.Core.Bool.{Bool, true, false, cond, _&&_}
+use mathlib.Core.Bool.{Bool, true, false, cond}
 use mathlib.Core.List.{List, [], _∷_, map}
 use native.Mathlib.Nat.{add-zero}
 use native.Mathlib.Omega.{arith as linear}
-use native.Mathlib.Decide.{ℕ-discrete}
-use borrow.Author.Tests.{ltb-true, lt-ltb, le-ltb}
-use lib.Dec.{T, eqb, ltb, ltb→lt}
+use borrow.Author.Tests.{lt-ltb}
+use lib.Dec.{T, ltb, ltb→lt}
 use lib.IntN.{ℤ, pos}
 use lib.ListN.{length, getD, set, length-set}
 use lib.Seq.{getD-set-same, getD-set-other}
@@ -18,8 +17,8 @@ use Rattle.script.specs.Rows.{Part, field-number, fields, parts, row, rows, wor
 use Rattle.script.specs.Rows.{Field as Row-field, value, variable, target, loop, link}
 use Rattle.script.specs.Refusals.{all-below}
 use Rattle.theorems.specs.Truths.{both}
-use Rattle.rows.specs.Patterns.{linking, pattern}
-use Rattle.mending.specs.Copies.{cap, part-sum, size}
+use Rattle.rows.specs.Patterns.{linking}
+use Rattle.mending.specs.Copies.{part-sum, size}
 use Rattle.mending.specs.NewTable.{places, renewed, part-places, renamed, new-word}
 use Rattle.mending.specs.Reached.{targets}
 use Rattle.mending.specs.Filling.{put}

@@ -1,19 +1,18 @@
 -- Sizes of rows, counted upward in an array and capped (`Sizings`); the size of a row from those of its parts, by its letters
 -- (`sized-row`). Assumes nothing.
-use Prim.Native.Nat.{ℕ, zero, suc, _+_, _-_, _≤_, _<_, min}
+use Prim.Native.Nat.{ℕ, suc, _+_, _-_, _≤_, _<_, min}
 use mathlib.Core.Path.{_≡_, refl, sym, ap, _∙_}
 use mathlib.Core.Bool.{Bool, true, false, cond}
 use mathlib.Core.List.{List, [], _∷_}
 use native.Mathlib.Omega.{arith as linear}
 use native.Mathlib.Decide.{ℕ-discrete}
-use native.Mathlib.Numerals.{add-one}
 use borrow.Author.Tests.{le-ltb, lt-ltb, ltb-true}
 use lib.IntN.{ℤ}
 use lib.ListN.{length, getD, set, length-set}
 use lib.Seq.{getD-set-same, getD-set-other}
 use Rattle.script.specs.Rows.{field-number, parts, row, rows, word}
 use Rattle.rows.specs.Patterns.{linking, pattern}
-use Rattle.mending.specs.Copies.{cap, part-sum, origins, size, capped-total}
+use Rattle.mending.specs.Copies.{cap, part-sum, size, capped-total}
 use Rattle.mending.specs.Capped.{capped-step, capped-exact}
 use Rattle.mending.specs.Sizes.{total-is}
 use Rattle.mender.specs.Checked.{Checked, links-low, listed-kind}

@@ -2,8 +2,8 @@
 -- one row more (`wrote-row`), and in the end (`wrote-all`). Assumes nothing.
 use Prim.Native.Nat.{ℕ, zero, suc, _+_, _*_, _/_, _%_, _-_, _≤_, _<_}
 use mathlib.Core.Path.{_≡_, refl, sym, ap, subst, _∙_}
-use mathlib.Core.Logic.{_⊎_, inl, inr, _≢_}
-use mathlib.Core.Bool.{Bool, true, false, cond}
+use mathlib.Core.Logic.{inr}
+use mathlib.Core.Bool.{Bool, cond}
 use mathlib.Core.List.{List, [], _∷_, _++_, map}
 use native.Mathlib.Nat.{zero-add}
 use native.Mathlib.Omega.{arith as linear}
@@ -16,7 +16,7 @@ use lib.Seq.{ext-getD, getD-set-same, getD-set-other}
 use Rattle.script.specs.Generated.{zeros}
 use Rattle.script.specs.Rows.{field-number, parts, row, rows}
 use Rattle.theorems.specs.Clearing.{cleared-at}
-use Rattle.mending.specs.Copies.{origins, size}
+use Rattle.mending.specs.Copies.{origins}
 use Rattle.mending.specs.NewTable.{new-table, new-word, part-places, renamed}
 use Rattle.mending.specs.Reached.{targets}
 use Rattle.mending.specs.Layout.{origin}

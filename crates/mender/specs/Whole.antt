@@ -1,8 +1,7 @@
 -- The whole answer: each way out of the entry is the outcome that `Mended.mended` defines (`told-refused`, `told-mended`).
 -- Assumes nothing.
-use Prim.Native.Nat.{ℕ, suc, _+_, _*_, _-_, _≤_, _<_}
+use Prim.Native.Nat.{ℕ, _*_, _-_, _≤_, _<_}
 use mathlib.Core.Path.{_≡_, refl, sym, ap, subst, _∙_}
-use mathlib.Core.Logic.{_≢_}
 use mathlib.Core.Bool.{Bool, true, false, cond}
 use mathlib.Core.List.{List, _++_, map}
 use native.Mathlib.Omega.{arith as linear}
@@ -14,7 +13,7 @@ use Rattle.script.specs.Generated.{zeros}
 use Rattle.script.specs.Rows.{rows}
 use Rattle.script.specs.Refusals.{Verdict, accepted, refused, _and-then_, bad-length, length-test, script-test}
 use Rattle.theorems.specs.Accepted.{both-accept, clash, pass-false}
-use Rattle.mending.specs.Copies.{cap, origins, capped-total}
+use Rattle.mending.specs.Copies.{origins, capped-total}
 use Rattle.mending.specs.NewTable.{new-table}
 use Rattle.mending.specs.Reached.{reached-rows}
 use Rattle.mending.specs.Mended.{Mended, mend-verdict, mended, mark-test, part-test, size-test, too-long}
