@@ -6,14 +6,12 @@ mod sizes; // 14: how many rows a use of a row takes
 mod rewriting; // the new table
 
 use clearing::clear;
-use loops::Reach;
 use script::RowNumber;
 use table::Verdict;
 use table::tests;
 ghost use mathlib.Core.Path.{_≡_};
-ghost use Prim.Native.Nat.{_<_, _≤_};
+ghost use Prim.Native.Nat.{_≤_};
 ghost use lib.ListN.{length};
-ghost use Rattle.script.specs.Rows.{rows};
 ghost use Rattle.script.specs.Refusals.{_and-then_, length-test, script-test};
 ghost use Rattle.table.specs.Verdicts.{verdict-of};
 ghost use Rattle.mending.specs.Mended.{mended, part-test};
