@@ -3,13 +3,13 @@
 use Prim.Native.Nat.{ℕ, zero, suc, _+_}
 use mathlib.Core.Path.{_≡_, refl, sym, ap, _∙_}
 use mathlib.Core.Option.{none, some}
-use mathlib.Core.List.{List, [], _∷_, _++_, map, reverse}
+use mathlib.Core.List.{List, map, reverse}
 use native.Mathlib.Nat.{add-suc}
 use lib.IntN.{ℤ}
-use lib.ListN.{length, getD, replicate}
+use lib.ListN.{length, getD}
 use Rattle.script.specs.declared.Line.{Line}
 use Rattle.script.specs.Listing.{Found, lines, line, no-line, first-place, step-back, next-place}
-use Rattle.theorems.specs.Clearing.{cleared-at}
+use Rattle.theorems.specs.Clearing.{cleared-at, padded}
 use Rattle.theorems.specs.Lookup.{walk-back, walk-back-list, walk-back-malformed}
 use Rattle.list_walker.specs.Steps.{place-back, answer-back}
 
@@ -28,12 +28,6 @@ among ws m (suc n) e d =
     ∙ among ws m n (next-place ws e) d
     ∙ ap (step-back ws) (back-first ws n e)
 
--- what stands past the end changes nothing where it is the default
-padded : (l : List Line) (n k : ℕ) (d : Line) → getD (l ++ replicate k d) n d ≡ getD l n d
-padded [] n k d = cleared-at d k n
-padded (x ∷ xs) zero k d = refl
-padded (x ∷ xs) (suc n) k d = padded xs n k d
-
 pub answers-list : (ws : List ℤ) (fs : List Found) (n : ℕ) → lines ws ≡ some fs
     → answer-back ws n ≡ getD (reverse (map line fs)) n (no-line 21)
 answers-list ws fs n q =
@@ -42,7 +36,7 @@ answers-list ws fs n q =
     sym (among ws (length fs) n e d)
     ∙ ap (λ (k : ℕ). getD (walk-back ws k e) n d) (sym (add-suc (length fs) n))
     ∙ ap (λ (l : List Line). getD l n d) (walk-back-list ws fs (suc n) q)
-    ∙ padded (reverse (map line fs)) n (suc n) d
+    ∙ padded d (reverse (map line fs)) (suc n) n
 
 pub answers-malformed : (ws : List ℤ) (n : ℕ) → lines ws ≡ none → answer-back ws n ≡ no-line 20
 answers-malformed ws n q =

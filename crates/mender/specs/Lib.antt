@@ -1,5 +1,5 @@
--- The mender, for the code's proofs: rows by their letters; the loops around the uses of a row, and the pass that finds them; sizes; the
--- new table as it is written.
+-- The mender, for the code's proofs: rows by their letters; the loops around the uses of a row, and the pass that finds them;
+-- sizes; the new table as it is written; the whole answer.
 pub mod Letters
 pub mod Checked
 pub mod Parts
@@ -13,4 +13,5 @@ pub mod Sizing
 pub mod FieldWriting
 pub mod RowWriting
 pub mod TableWriting
+pub mod TableWritten
 pub mod Whole

@@ -1,28 +1,25 @@
--- The new table, written from its last row down: what is written after the rows from k up (`Wrote`), at the start (`wrote-start`), after
--- one row more (`wrote-row`), and in the end (`wrote-all`). Assumes nothing.
-use Prim.Native.Nat.{ℕ, zero, suc, _+_, _*_, _/_, _%_, _-_, _≤_, _<_}
+-- The new table, written from its last row down: what is written after the rows from k up (`Wrote`), at the start (`wrote-start`),
+-- and after one row more (`wrote-row`). Assumes nothing.
+use Prim.Native.Nat.{ℕ, zero, suc, _+_, _*_, _-_, _≤_, _<_}
 use mathlib.Core.Path.{_≡_, refl, sym, ap, subst, _∙_}
 use mathlib.Core.Logic.{inr}
 use mathlib.Core.Bool.{Bool, cond}
-use mathlib.Core.List.{List, [], _∷_, _++_, map}
-use native.Mathlib.Nat.{zero-add}
+use mathlib.Core.List.{List, _∷_, map}
 use native.Mathlib.Omega.{arith as linear}
-use native.Mathlib.Decide.{ℕ-discrete, decLt}
+use native.Mathlib.Decide.{ℕ-discrete}
 use borrow.Author.Tests.{eq-eqb, ne-eqb}
 use lib.Dec.{eqb}
 use lib.IntN.{ℤ, pos}
-use lib.ListN.{length, getD, set, replicate, length-append, length-replicate, length-set, List·getD-append, List·getD-eq-default}
-use lib.Seq.{ext-getD, getD-set-same, getD-set-other}
+use lib.ListN.{length, getD, set, replicate, length-replicate, length-set, List·getD-map}
+use lib.Seq.{getD-set-same, getD-set-other}
 use Rattle.script.specs.Generated.{zeros}
 use Rattle.script.specs.Rows.{field-number, parts, row, rows}
 use Rattle.theorems.specs.Clearing.{cleared-at}
 use Rattle.mending.specs.Copies.{origins}
-use Rattle.mending.specs.NewTable.{new-table, new-word, part-places, renamed}
+use Rattle.mending.specs.NewTable.{new-word, part-places, renamed}
 use Rattle.mending.specs.Reached.{targets}
 use Rattle.mending.specs.Layout.{origin}
-use Rattle.mending.specs.NewRows.{new-length, word-at}
 use Rattle.mending.specs.Mendable.{Mendable}
-use Rattle.mending.specs.Sizes.{size-step, total-is}
 use Rattle.mending.specs.Filling.{Filled, due, put, put-length, put-parts, renamed-start, renamed-step, start-filled, step-filled, turn}
 use Rattle.mender.specs.Checked.{Checked}
 use Rattle.mender.specs.Sizing.{Sizings}
@@ -31,24 +28,9 @@ use Rattle.mender.specs.RowWriting.{Row-ready, Row-written, word-new}
 
 -- ---- runs of words that are row numbers
 
-map-length : (xs : List ℕ) → length (map pos xs) ≡ length xs
-map-length [] = refl
-map-length (x ∷ xs) = ap suc (map-length xs)
-
-map-at : (xs : List ℕ) (i : ℕ) → getD (map pos xs) i (pos 0) ≡ pos (getD xs i 0)
-map-at [] i = refl
-map-at (x ∷ xs) zero = refl
-map-at (x ∷ xs) (suc i) = map-at xs i
-
 map-zeros : (n : ℕ) → zeros n ≡ map pos (replicate n 0)
 map-zeros zero = refl
 map-zeros (suc n) = ap (λ (zs : List ℤ). pos 0 ∷ zs) (map-zeros n)
-
--- what stands behind a list
-behind : (xs : List ℤ) (n i : ℕ) → length xs ≤ i → getD (xs ++ zeros n) i (pos 0) ≡ pos 0
-behind [] n i h = cleared-at (pos 0) n i
-behind (x ∷ xs) n zero h = absurd (omega linear)
-behind (x ∷ xs) n (suc i) h = behind xs n i (omega linear)
 
 module _ (t : List ℤ) (ok : Mendable t) (table-room origins-room : ℕ) where
   abbrev total : ℕ
@@ -99,7 +81,7 @@ module _ (t : List ℤ) (ok : Mendable t) (table-room origins-room : ℕ) where
     -- the row of the turn
     pub at-turn : field-number (getD os (k - 1) (pos 0)) ≡ origin t (k - 1)
     at-turn =
-        ap field-number (ap (λ (zs : List ℤ). getD zs (k - 1) (pos 0)) (W .is) ∙ map-at (W .run) (k - 1))
+        ap field-number (ap (λ (zs : List ℤ). getD zs (k - 1) (pos 0)) (W .is) ∙ List·getD-map pos (W .run) (k - 1) 0)
         ∙ due t ok k (k - 1) (W .filled) (omega linear) inside
 
     pub row-ready : {s : List ℕ} {r : ℕ} → Checked t → Sizings t (rows t) s → r ≡ field-number (getD os (k - 1) (pos 0)) → 4 * total ≤ length new → total ≤ length os
@@ -123,7 +105,7 @@ module _ (t : List ℤ) (ok : Mendable t) (table-room origins-room : ℕ) where
       its-row = e ∙ at-turn
 
       run-at : getD (W .run) (k - 1) 0 ≡ r
-      run-at = sym (ap field-number (ap (λ (zs : List ℤ). getD zs (k - 1) (pos 0)) (W .is) ∙ map-at (W .run) (k - 1))) ∙ sym e
+      run-at = sym (ap field-number (ap (λ (zs : List ℤ). getD zs (k - 1) (pos 0)) (W .is) ∙ List·getD-map pos (W .run) (k - 1) 0)) ∙ sym e
 
       as-suc : k ≡ suc (k - 1)
       as-suc = omega linear
@@ -179,130 +161,3 @@ module _ (t : List ℤ) (ok : Mendable t) (table-room origins-room : ℕ) where
               let f = ok .few in
               subst (λ (q : ℕ). getD (set l r (k - 1)) q 0 < 2048) (sym z) (let v = getD-set-same l r (k - 1) 0 below in omega linear)
           low m (no z) = let v = getD-set-other l r m (k - 1) 0 z in let w = W .small m in omega linear
-
-  -- ---- all rows
-
-  module _ {k : ℕ} {new os : List ℤ} {l : List ℕ} (W : Wrote k new os l) (done : k ≤ 0) (held : 4 * total ≤ table-room) (fits : total ≤ origins-room) where
-    none : k ≡ 0
-    none = omega linear
-
-    pub run-is : os ≡ map pos (origins t) ++ zeros (origins-room - total)
-    run-is = ext-getD (pos 0) os (map pos (origins t) ++ zeros (origins-room - total)) long same
-      where
-        old : length (map pos (origins t)) ≡ total
-        old = map-length (origins t)
-
-        long : length os ≡ length (map pos (origins t) ++ zeros (origins-room - total))
-        long =
-            ap length (W .is) ∙ map-length (W .run) ∙ W .run-long
-            ∙ sym (length-append (map pos (origins t)) (zeros (origins-room - total))
-            ∙ (let a = old in let b = length-replicate (origins-room - total) (pos 0) in let c : length (map pos (origins t)) + length (zeros (origins-room - total)) ≡ origins-room = omega linear in c))
-
-        right : (i : ℕ) → Dec (i < total) → getD (W .run) i 0 ≡ origin t i
-        right i (yes h) = due t ok k i (W .filled) (let z = none in omega linear) h
-        right i (no h) = W .filled .last i (omega linear)
-
-        target : (i : ℕ) → Dec (i < total) → getD (map pos (origins t) ++ zeros (origins-room - total)) i (pos 0) ≡ pos (origin t i)
-        target i (yes h) =
-            List·getD-append (map pos (origins t)) (zeros (origins-room - total)) (pos 0) i (let a = old in omega linear) ∙ map-at (origins t) i
-        target i (no h) =
-            behind (map pos (origins t)) (origins-room - total) i (let a = old in omega linear)
-            ∙ ap pos (sym (List·getD-eq-default (origins t) 0 (omega linear)))
-
-        same : (i : ℕ) → i < length os → getD os i (pos 0) ≡ getD (map pos (origins t) ++ zeros (origins-room - total)) i (pos 0)
-        same i h =
-            ap (λ (zs : List ℤ). getD zs i (pos 0)) (W .is) ∙ map-at (W .run) i ∙ ap pos (right i (decLt i total)) ∙ sym (target i (decLt i total))
-
-    pub table-is : new ≡ new-table t ++ zeros (table-room - 4 * total)
-    unfolding new-table
-    table-is = ext-getD (pos 0) new (new-table t ++ zeros (table-room - 4 * total)) long (λ i h. same i (decLt i (4 * total)))
-      where
-        long : length new ≡ length (new-table t ++ zeros (table-room - 4 * total))
-        long =
-            W .long
-            ∙ sym (length-append (new-table t) (zeros (table-room - 4 * total))
-            ∙ (let a = new-length t in let b = length-replicate (table-room - 4 * total) (pos 0) in let c : length (new-table t) + length (zeros (table-room - 4 * total)) ≡ table-room = omega linear in c))
-
-        at-word : (j f : ℕ) → j < total → f < 4 → getD (new-table t) (4 * j + f) (pos 0) ≡ new-word t j (origin t j) f
-        at-word j f h i = word-at (new-word t) f 0 (origins t) j i h ∙ ap (λ (q : ℕ). new-word t q (origin t j) f) (zero-add j)
-
-        four : (i : ℕ) → i ≡ 4 * (i / 4) + i % 4
-        four i = omega linear
-
-        same : (i : ℕ) → Dec (i < 4 * total) → getD new i (pos 0) ≡ getD (new-table t ++ zeros (table-room - 4 * total)) i (pos 0)
-        same i (yes h) =
-            let j : i / 4 < total = omega linear in
-            let f : i % 4 < 4 = omega linear in
-            let z = none in
-            subst (λ (q : ℕ). getD new q (pos 0) ≡ getD (new-table t ++ zeros (table-room - 4 * total)) q (pos 0)) (sym (four i))
-            (W .words (i / 4) (i % 4) (omega linear) j f
-            ∙ sym (List·getD-append (new-table t) (zeros (table-room - 4 * total)) (pos 0) (4 * (i / 4) + i % 4) (let a = new-length t in omega linear)
-            ∙ at-word (i / 4) (i % 4) j f))
-        same i (no h) =
-            W .rest i (omega linear) ∙ sym (behind (new-table t) (table-room - 4 * total) i (let a = new-length t in omega linear))
-
--- ---- a table that can be written, into runs that are cleared
-
-pub record Table-ready (t : List ℤ) (s : List ℕ) (n : ℕ) (new os : List ℤ) : Type 0 where
-  pub checked : Checked t
-  pub mendable : Mendable t
-  pub sizes : Sizings t (rows t) s
-  pub counted : n ≡ length (origins t)
-  pub table-held : 4 * n ≤ length new
-  pub origins-held : n ≤ length os
-  pub table-cleared : new ≡ zeros (length new)
-  pub origins-cleared : os ≡ zeros (length os)
-
-pub some-row : {t : List ℤ} {s : List ℕ} {n : ℕ} {new os : List ℤ} → Table-ready t s n new os → 0 < n
-some-row {t} T =
-    let f = T .mendable .filled in
-    let a = total-is t (T .mendable .falls) in
-    let b = size-step t (T .mendable .falls) (rows t - 1) (omega linear) in
-    let c = T .counted in
-    omega linear
-
--- ---- the pass over such a table: x is the word of the script's row
-
-module _ {t : List ℤ} {s : List ℕ} {n : ℕ} {new₀ os₀ : List ℤ} (T : Table-ready t s n new₀ os₀) (x : ℤ) (e : x ≡ pos (rows t - 1)) where
-  pub pass-start : Wrote t (T .mendable) (length new₀) (length (set os₀ (n - 1) x)) n new₀ (set os₀ (n - 1) x) (replicate 2048 0)
-  pass-start =
-      subst (λ (m : ℕ). Wrote t (T .mendable) (length new₀) (length (set os₀ (n - 1) x)) m new₀ (set os₀ (n - 1) x) (replicate 2048 0)) (sym (T .counted))
-      (wrote-start t (T .mendable) (length new₀) (length (set os₀ (n - 1) x)) (let a = length-set os₀ (n - 1) x in let b = T .origins-held in let c = T .counted in omega linear) (T .table-cleared) first refl)
-    where
-      first : set os₀ (n - 1) x ≡ set (zeros (length (set os₀ (n - 1) x))) (length (origins t) - 1) (pos (rows t - 1))
-      first = rw (length-set os₀ (n - 1) x, ← T .origins-cleared, ← T .counted, e)
-
-  module _ {ok : Mendable t} {k : ℕ} {new os : List ℤ} {l : List ℕ} (W : Wrote t ok (length new₀) (length (set os₀ (n - 1) x)) k new os l) where
-    pub table-stays : length new ≡ length new₀
-    table-stays = W .long
-
-    pub origins-stay : length os ≡ length os₀
-    origins-stay = ap length (W .is) ∙ map-length (W .run) ∙ W .run-long ∙ length-set os₀ (n - 1) x
-
-    pub turn-in : 0 < k → (k - 1 < length os) × (k - 1 < 2048)
-    turn-in h =
-        let a = W .within in
-        let b = origins-stay in
-        let c = T .origins-held in
-        let d = T .counted in
-        let f = ok .few in
-        (omega linear, omega linear)
-
-    pub turn-ready : {r : ℕ} → 0 < k → r ≡ field-number (getD os (k - 1) (pos 0)) → Row-ready t s l (k - 1) r (length new) (length os)
-    turn-ready h d =
-        let a = table-stays in
-        let b = origins-stay in
-        let c = T .counted in
-        let i = T .table-held in
-        let j = T .origins-held in
-        row-ready t ok (length new₀) (length (set os₀ (n - 1) x)) W h (T .checked) (T .sizes) d (omega linear) (omega linear)
-
-    pub pass-table : k ≤ 0 → new ≡ new-table t ++ zeros (length new₀ - 4 * n)
-    pass-table h =
-        rw (T .counted)
-        (table-is t ok (length new₀) (length (set os₀ (n - 1) x)) W h (let c = T .counted in let i = T .table-held in omega linear) (let c = T .counted in let j = T .origins-held in let a = length-set os₀ (n - 1) x in omega linear))
-
-    pub pass-run : k ≤ 0 → os ≡ map pos (origins t) ++ zeros (length os₀ - n)
-    pass-run h =
-        run-is t ok (length new₀) (length (set os₀ (n - 1) x)) W h (let c = T .counted in let i = T .table-held in omega linear) (let c = T .counted in let j = T .origins-held in let a = length-set os₀ (n - 1) x in omega linear)
-        ∙ ap (λ (m : ℕ). map pos (origins t) ++ zeros m) (let c = T .counted in let a = length-set os₀ (n - 1) x in let d : length (set os₀ (n - 1) x) - length (origins t) ≡ length os₀ - n = omega linear in d)

@@ -25,7 +25,7 @@ use Rattle.mender.specs.Checked.{Checked}
 use Rattle.mender.specs.Reaching.{Reach-told}
 use Rattle.mender.specs.Parts.{checked-of, sized-of}
 use Rattle.mender.specs.Sizing.{Sizings, total-at}
-use Rattle.mender.specs.TableWriting.{Table-ready}
+use Rattle.mender.specs.TableWritten.{Table-ready}
 
 abbrev pub refused-answer : ℕ → ℕ → MendAnswer
 refused-answer n r = record { number = n; row = r; words = 0; dropped = 0; copied = 0 }

@@ -12,7 +12,7 @@ ghost use Rattle.mending.specs.Copies.{origins as Copies·origins};
 ghost use Rattle.mending.specs.NewTable.{new-table};
 ghost use Rattle.mender.specs.FieldWriting.{Field-room, Field-written, field};
 ghost use Rattle.mender.specs.RowWriting.{Row-ready, Row-written};
-ghost use Rattle.mender.specs.TableWriting.{Table-ready};
+ghost use Rattle.mender.specs.TableWritten.{Table-ready};
 
 // Writes a field of a new row at word `to`, where the part of a link starts at new row `lo`; gives where the next part starts.
 fn write_field(

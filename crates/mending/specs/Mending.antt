@@ -10,7 +10,7 @@ use mathlib.Core.Bool.{Bool, true}
 use native.Mathlib.Omega.{arith as linear}
 use lib.IntN.{ℤ, pos}
 use lib.Dec.{T}
-use lib.ListN.{length, take, length-append, length-replicate, length-map}
+use lib.ListN.{length, take, length-replicate, length-map}
 use Rattle.script.specs.declared.RowNumber.{RowNumber}
 use Rattle.script.specs.declared.ExpressionRow.the-variants.{Mark}
 use Rattle.script.specs.declared.Row.the-variants as Row
@@ -23,6 +23,7 @@ use Rattle.script.specs.Promise.{List-valid}
 use Rattle.script.specs.Trees.{tree}
 use Rattle.theorems.specs.Lowest.{Lowest}
 use Rattle.theorems.specs.Accepted.{passed}
+use Rattle.theorems.specs.Clearing.{padded-length}
 use Rattle.theorems.specs.Links.{Link}
 use Rattle.theorems.specs.Standing.{Stands}
 use Rattle.theorems.specs.Demand.{keeps}
@@ -139,9 +140,6 @@ module _ (t : List ℤ) (table-room origins-room : ℕ) where
   pub lengths : (length (left .table) ≡ table-room) × (length (left .origins) ≡ origins-room)
   lengths = go (mend-verdict t table-room origins-room) refl
     where
-      filled : (ws : List ℤ) (n m : ℕ) → length ws ≡ n → n ≤ m → length (ws ++ zeros (m - n)) ≡ m
-      filled ws n m e h = omega (linear, length-append ws (zeros (m - n)), length-replicate (m - n) (pos 0))
-
       go : (v : Verdict) → mend-verdict t table-room origins-room ≡ v
           → (length (left .table) ≡ table-room) × (length (left .origins) ≡ origins-room)
       go (refused n r) v =
@@ -149,8 +147,8 @@ module _ (t : List ℤ) (table-room origins-room : ℕ) where
       go accepted v =
           let f = fits t table-room origins-room v in
           rw (mends v) (
-            filled (new-table t) (4 * length (origins t)) table-room (new-length t) (f .table),
-            filled (map pos (origins t)) (length (origins t)) origins-room (length-map (origins t) pos) (f .run),
+            padded-length (pos 0) (new-table t) (4 * length (origins t)) table-room (new-length t) (f .table),
+            padded-length (pos 0) (map pos (origins t)) (length (origins t)) origins-room (length-map (origins t) pos) (f .run),
           )
 
   -- ---- number 0

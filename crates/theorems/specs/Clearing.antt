@@ -1,12 +1,12 @@
--- A loop that fills a run with one element from the front on, one place a turn; and what was written into a run that is cleared
--- (`wrote-cleared`). Assumes nothing.
+-- A loop that fills a run with one element from the front on, one place a turn; a run that is cleared, or cleared behind a
+-- list (`cleared-at`, `padded`); and what was written into one (`wrote-cleared`). Assumes nothing.
 use mathlib.Core.Path.{_≡_, refl, sym, ap, _∙_}
 use mathlib.Core.List.{List, [], _∷_, _++_}
 use Prim.Native.Nat.{ℕ, zero, suc, _+_, _-_, _≤_, _<_}
 use native.Mathlib.Nat.{sub-zero, zero-sub, suc-sub-suc}
 use native.Mathlib.Omega.{arith}
 use native.Mathlib.Numerals.{add-one}
-use lib.ListN.{length, length-replicate, getD, set, drop, replicate}
+use lib.ListN.{length, length-append, length-replicate, getD, set, drop, replicate}
 use lib.Seq.{sets-eq}
 use Rattle.theorems.specs.Writing.{Wrote, wrote-whole}
 
@@ -44,6 +44,16 @@ module _ {A : Type 0} (z : A) where
   cleared-at zero i = refl
   cleared-at (suc n) zero = refl
   cleared-at (suc n) (suc i) = cleared-at n i
+
+  -- so what is cleared behind a list changes none of its places
+  pub padded : (l : List A) (n i : ℕ) → getD (l ++ replicate n z) i z ≡ getD l i z
+  padded [] n i = cleared-at n i
+  padded (x ∷ l) n zero = refl
+  padded (x ∷ l) n (suc i) = padded l n i
+
+  -- and a list of n elements is filled up to m
+  pub padded-length : (l : List A) (n m : ℕ) → length l ≡ n → n ≤ m → length (l ++ replicate (m - n) z) ≡ m
+  padded-length l n m e h = omega (arith, length-append l (replicate (m - n) z), length-replicate (m - n) z)
 
   pub drop-replicate : (n m : ℕ) → drop n (replicate m z) ≡ replicate (m - n) z
   drop-replicate zero m = rw sub-zero

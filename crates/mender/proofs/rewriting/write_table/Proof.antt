@@ -13,7 +13,8 @@ use Rattle.script.specs.Laws.{back}
 use Rattle.script.specs.Rows.{field-number, rows}
 use Rattle.rows.specs.Patterns.{patterns}
 use Rattle.mending.specs.Mendable.{Mendable}
-use Rattle.mender.specs.TableWriting.{Wrote, origins-stay, pass-run, pass-start, pass-table, some-row, table-stays, turn-in, turn-ready, wrote-row}
+use Rattle.mender.specs.TableWriting.{Wrote, wrote-row}
+use Rattle.mender.specs.TableWritten.{origins-stay, pass-run, pass-start, pass-table, some-row, table-stays, turn-in, turn-ready}
 use borrow.Author.Needs.{needs}
 use Rattle.mender.proofs.rewriting.write_table.Statement.{statement}
 use Rattle.mender.proofs.rewriting.write_table.Tie as tie
