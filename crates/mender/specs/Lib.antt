@@ -11,6 +11,7 @@ pub mod Reaching
 pub mod RowUses
 pub mod Sizing
 pub mod FieldWriting
+pub mod RowWords
 pub mod RowWriting
 pub mod TableWriting
 pub mod TableWritten

@@ -1,25 +1,21 @@
--- A new row, written: its words (`Words-at`), and the run of old rows after its parts are put (`row-written`).
+-- A new row, written: its words, and the run of old rows after its parts are put (`row-written`).
 -- Argument: where the row that is copied takes at most as many rows as a table has, so do its parts, and the capped sizes are exact;
 -- the parts stand one after the other up to the row. Assumes nothing.
 use Prim.Native.Nat.{ℕ, zero, suc, _+_, _*_, _-_, _≤_, _<_}
 use mathlib.Core.Path.{_≡_, refl, ap, _∙_}
-use mathlib.Core.Logic.{_⊎_, inl, inr, _≢_}
 use mathlib.Core.Bool.{Bool, true, false, cond}
 use mathlib.Core.List.{List, [], _∷_, map}
-use native.Mathlib.Nat.{add-zero}
 use native.Mathlib.Omega.{arith as linear}
 use borrow.Author.Tests.{lt-ltb}
 use lib.Dec.{T, ltb, ltb→lt}
 use lib.IntN.{ℤ, pos}
-use lib.ListN.{length, getD, set, length-set}
-use lib.Seq.{getD-set-same, getD-set-other}
+use lib.ListN.{length, getD, set}
 use Rattle.script.specs.Rows.{Part, field-number, fields, parts, row, rows, word}
-use Rattle.script.specs.Rows.{Field as Row-field, value, variable, target, loop, link}
 use Rattle.script.specs.Refusals.{all-below}
 use Rattle.theorems.specs.Truths.{both}
 use Rattle.rows.specs.Patterns.{linking}
 use Rattle.mending.specs.Copies.{part-sum, size}
-use Rattle.mending.specs.NewTable.{places, renewed, part-places, renamed, new-word}
+use Rattle.mending.specs.NewTable.{places, renewed, part-places}
 use Rattle.mending.specs.Reached.{targets}
 use Rattle.mending.specs.Filling.{put}
 use Rattle.mending.specs.Sizes.{size-step}
@@ -27,76 +23,7 @@ use Rattle.mender.specs.Checked.{Checked, links-low, listed-kind, loops-
 use Rattle.mender.specs.Letters.{Field, number, field₁, field₂, field₃, end-by, word-by, put-by, words-by, puts-by, sum-by, Shape, by-letters}
 use Rattle.mender.specs.Sizing.{Sizings}
 use Rattle.mender.specs.FieldWriting.{Linked-room, Field-room, Field-written, at-of}
-
--- ---- four words of a row
-
-pub record Words-at (k : ℕ) (W : ℕ → ℤ) (new new′ : List ℤ) : Type 0 where
-  pub long : length new′ ≡ length new
-  pub here : (f : ℕ) → f < 4 → getD new′ (4 * k + f) (pos 0) ≡ W f
-  pub others : (j : ℕ) → (j < 4 * k) ⊎ (4 * k + 4 ≤ j) → getD new′ j (pos 0) ≡ getD new j (pos 0)
-
-module _ (k : ℕ) (a b c d : ℤ) (new : List ℤ) (h : 4 * k + 3 < length new) where
-  abbrev four : List ℤ
-  four = set (set (set (set new (4 * k) a) (4 * k + 1) b) (4 * k + 2) c) (4 * k + 3) d
-
-  four-long : length four ≡ length new
-  four-long =
-      length-set (set (set (set new (4 * k) a) (4 * k + 1) b) (4 * k + 2) c) (4 * k + 3) d
-      ∙ length-set (set (set new (4 * k) a) (4 * k + 1) b) (4 * k + 2) c
-      ∙ length-set (set new (4 * k) a) (4 * k + 1) b
-      ∙ length-set new (4 * k) a
-
-  past : (j : ℕ) → j ≢ 4 * k + 1 → j ≢ 4 * k + 2 → j ≢ 4 * k + 3 → getD four j (pos 0) ≡ getD (set new (4 * k) a) j (pos 0)
-  past j x y z =
-      getD-set-other (set (set (set new (4 * k) a) (4 * k + 1) b) (4 * k + 2) c) (4 * k + 3) j d (pos 0) z
-      ∙ getD-set-other (set (set new (4 * k) a) (4 * k + 1) b) (4 * k + 2) j c (pos 0) y
-      ∙ getD-set-other (set new (4 * k) a) (4 * k + 1) j b (pos 0) x
-
-  pub four-words : Words-at k (λ f. getD (a ∷ b ∷ c ∷ d ∷ []) f (pos 0)) new four
-  four-words = record { long = four-long; here = here; others = λ j o. others j o }
-    where
-      here : (f : ℕ) → f < 4 → getD four (4 * k + f) (pos 0) ≡ getD (a ∷ b ∷ c ∷ d ∷ []) f (pos 0)
-      here zero i = rw (add-zero (4 * k)) (past (4 * k) (λ z. omega linear) (λ z. omega linear) (λ z. omega linear) ∙ getD-set-same new (4 * k) a (pos 0) (omega linear))
-      here (suc zero) i =
-          getD-set-other (set (set (set new (4 * k) a) (4 * k + 1) b) (4 * k + 2) c) (4 * k + 3) (4 * k + 1) d (pos 0) (λ z. omega linear)
-          ∙ getD-set-other (set (set new (4 * k) a) (4 * k + 1) b) (4 * k + 2) (4 * k + 1) c (pos 0) (λ z. omega linear)
-          ∙ getD-set-same (set new (4 * k) a) (4 * k + 1) b (pos 0) (omega (linear, length-set new (4 * k) a))
-      here (suc (suc zero)) i =
-          getD-set-other (set (set (set new (4 * k) a) (4 * k + 1) b) (4 * k + 2) c) (4 * k + 3) (4 * k + 2) d (pos 0) (λ z. omega linear)
-          ∙ getD-set-same (set (set new (4 * k) a) (4 * k + 1) b) (4 * k + 2) c (pos 0) (omega (linear, length-set (set new (4 * k) a) (4 * k + 1) b, length-set new (4 * k) a))
-      here (suc (suc (suc zero))) i =
-          getD-set-same (set (set (set new (4 * k) a) (4 * k + 1) b) (4 * k + 2) c) (4 * k + 3) d (pos 0)
-          (omega (linear, four-long, length-set (set (set (set new (4 * k) a) (4 * k + 1) b) (4 * k + 2) c) (4 * k + 3) d))
-      here (suc (suc (suc (suc f)))) i = absurd (omega linear)
-
-      others : (j : ℕ) → (j < 4 * k) ⊎ (4 * k + 4 ≤ j) → getD four j (pos 0) ≡ getD new j (pos 0)
-      others j (inl l) = past j (λ z. omega linear) (λ z. omega linear) (λ z. omega linear) ∙ getD-set-other new (4 * k) j a (pos 0) (λ z. omega linear)
-      others j (inr l) = past j (λ z. omega linear) (λ z. omega linear) (λ z. omega linear) ∙ getD-set-other new (4 * k) j a (pos 0) (λ z. omega linear)
-
--- the words of a copy of row r at k, with marks renamed by ρ
-unfoldable pub word-with : (ℕ → ℕ) → List ℤ → ℕ → ℕ → ℕ → ℤ
-word-with ρ t k r zero = word t r 0
-word-with ρ t k r (suc f) =
-    getD (renewed ρ (part-places t k r) 0 (fields (row t r)) (word t r 1 ∷ word t r 2 ∷ word t r 3 ∷ [])) f (pos 0)
-
-renewed-same : (ρ ρ′ : ℕ → ℕ) → ((m : ℕ) → ρ m ≡ ρ′ m) → (js : List ℕ) (i : ℕ) (fs : List Row-field) (ws : List ℤ)
-    → renewed ρ js i fs ws ≡ renewed ρ′ js i fs ws
-unfolding renewed
-renewed-same ρ ρ′ h js i [] ws = refl
-renewed-same ρ ρ′ h js i (f ∷ fs) [] = refl
-renewed-same ρ ρ′ h js i (value ∷ fs) (w ∷ ws) = ap (λ (zs : List ℤ). w ∷ zs) (renewed-same ρ ρ′ h js i fs ws)
-renewed-same ρ ρ′ h js i (variable v ∷ fs) (w ∷ ws) = ap (λ (zs : List ℤ). w ∷ zs) (renewed-same ρ ρ′ h js i fs ws)
-renewed-same ρ ρ′ h js i (target v ∷ fs) (w ∷ ws) = ap (λ (zs : List ℤ). w ∷ zs) (renewed-same ρ ρ′ h js i fs ws)
-renewed-same ρ ρ′ h js i (loop m ∷ fs) (w ∷ ws) = rw (h m, renewed-same ρ ρ′ h js i fs ws)
-renewed-same ρ ρ′ h js i (link s r ∷ fs) (w ∷ ws) =
-    ap (λ (zs : List ℤ). pos (getD js i 0) ∷ zs) (renewed-same ρ ρ′ h js (suc i) fs ws)
-
--- where the marks are renamed as they ought to be, they are those of the new table
-pub word-new : (ρ : ℕ → ℕ) (t : List ℤ) (k r : ℕ) → ((m : ℕ) → ρ m ≡ renamed t k m) → (f : ℕ) → word-with ρ t k r f ≡ new-word t k r f
-unfolding word-with new-word
-word-new ρ t k r h zero = refl
-word-new ρ t k r h (suc f) =
-    ap (λ (ws : List ℤ). getD ws f (pos 0)) (renewed-same ρ (renamed t k) h (part-places t k r) 0 (fields (row t r)) (word t r 1 ∷ word t r 2 ∷ word t r 3 ∷ []))
+use Rattle.mender.specs.RowWords.{Words-at, four-words, word-with}
 
 -- ---- sizes of the parts
 
@@ -239,20 +166,23 @@ module _ {t : List ℤ} {s l : List ℕ} {k r n table-room origins-room : ℕ} (
       let b = end-up (at-of s) (start₃ t s k r n) (field₃ t r n) in
       let c = parts-end in
       let d = R .table-held in
-      field-room (field₁ t r n) (links-low (R .checked) (R .inside) e .0) (loops-in (R .checked) (R .inside) e .0) (omega linear) (omega linear)
+      field-room (field₁ t r n) (links-low (R .checked) (R .inside) e .0) (loops-in (R .checked) (R .inside) e .0)
+      (omega linear) (omega linear)
 
   pub room₂ : Field-room s l (start₂ t s k r n) (field₂ t r n) (4 * k + 2) table-room origins-room
   room₂ =
       let b = end-up (at-of s) (start₃ t s k r n) (field₃ t r n) in
       let c = parts-end in
       let d = R .table-held in
-      field-room (field₂ t r n) (links-low (R .checked) (R .inside) e .1 .0) (loops-in (R .checked) (R .inside) e .1 .0) (omega linear) (omega linear)
+      field-room (field₂ t r n) (links-low (R .checked) (R .inside) e .1 .0) (loops-in (R .checked) (R .inside) e .1 .0)
+      (omega linear) (omega linear)
 
   pub room₃ : Field-room s l (start₃ t s k r n) (field₃ t r n) (4 * k + 3) table-room origins-room
   room₃ =
       let c = parts-end in
       let d = R .table-held in
-      field-room (field₃ t r n) (links-low (R .checked) (R .inside) e .1 .1) (loops-in (R .checked) (R .inside) e .1 .1) (omega linear) (omega linear)
+      field-room (field₃ t r n) (links-low (R .checked) (R .inside) e .1 .1) (loops-in (R .checked) (R .inside) e .1 .1)
+      (omega linear) (omega linear)
 
   -- ---- what is written
 
@@ -267,40 +197,53 @@ module _ {t : List ℤ} {s l : List ℕ} {k r n table-room origins-room : ℕ} (
       ≡ words-by ρ (at-of s) (start₁ t s k r n) (field₁ t r n ∷ field₂ t r n ∷ field₃ t r n ∷ [])
   words-are ρ =
       rw (← places-are)
-      (ap (λ (q : Shape ρ (at-of s) (start₁ t s k r n) []). q .words) (by-letters ρ (at-of s) (start₁ t s k r n) [] t r n e known))
+      (ap (λ (q : Shape ρ (at-of s) (start₁ t s k r n) []). q .words)
+      (by-letters ρ (at-of s) (start₁ t s k r n) [] t r n e known))
 
   puts-are : (xs : List ℕ)
-      → put (part-places t k r) (targets (parts (row t r))) xs ≡ puts-by (at-of s) (start₁ t s k r n) (field₁ t r n ∷ field₂ t r n ∷ field₃ t r n ∷ []) xs
+      → put (part-places t k r) (targets (parts (row t r))) xs
+      ≡ puts-by (at-of s) (start₁ t s k r n) (field₁ t r n ∷ field₂ t r n ∷ field₃ t r n ∷ []) xs
   puts-are xs =
       rw (← places-are)
-      (ap (λ (q : Shape (λ m. m) (at-of s) (start₁ t s k r n) xs). q .filled) (by-letters (λ m. m) (at-of s) (start₁ t s k r n) xs t r n e known))
+      (ap (λ (q : Shape (λ m. m) (at-of s) (start₁ t s k r n) xs). q .filled)
+      (by-letters (λ m. m) (at-of s) (start₁ t s k r n) xs t r n e known))
 
-  module _ (new : List ℤ) {os new₁ os₁ new₂ os₂ new₃ os₃ : List ℤ} {b c d : ℕ} (wide : table-room ≡ length new) (x : Field-written s l (start₁ t s k r n) (field₁ t r n) (4 * k + 1) (set new (4 * k) (word t r 0)) os b new₁ os₁) (y : Field-written s l b (field₂ t r n) (4 * k + 2) new₁ os₁ c new₂ os₂) (z : Field-written s l c (field₃ t r n) (4 * k + 3) new₂ os₂ d new₃ os₃) where
+  module _ (new : List ℤ) {os new₁ os₁ new₂ os₂ new₃ os₃ : List ℤ} {b c d : ℕ} (wide : table-room ≡ length new)
+      (x : Field-written s l (start₁ t s k r n) (field₁ t r n) (4 * k + 1) (set new (4 * k) (word t r 0)) os b new₁ os₁)
+      (y : Field-written s l b (field₂ t r n) (4 * k + 2) new₁ os₁ c new₂ os₂)
+      (z : Field-written s l c (field₃ t r n) (4 * k + 3) new₂ os₂ d new₃ os₃) where
     third-is : c ≡ start₃ t s k r n
     third-is = y .ends ∙ ap (λ (q : ℕ). end-by (at-of s) q (field₂ t r n)) (x .ends)
+
+    -- the words of the three fields
+    abbrev w₁ : ℤ
+    w₁ = word-by (at-of l) (at-of s) (start₁ t s k r n) (field₁ t r n)
+
+    abbrev w₂ : ℤ
+    w₂ = word-by (at-of l) (at-of s) (start₂ t s k r n) (field₂ t r n)
+
+    abbrev w₃ : ℤ
+    w₃ = word-by (at-of l) (at-of s) (start₃ t s k r n) (field₃ t r n)
 
     pub row-written : Row-written t l k r new os new₃ os₃
     unfolding word-with words-by puts-by
     row-written = record {
       words = record { long = ws .long; here = λ f i. ws .here f i ∙ same f i; others = ws .others };
-      put = λ xs e₀.
-          z .put _ (y .put _ (x .put xs e₀)) ∙ ap (map pos) (puts xs);
+      put = λ xs e₀. z .put _ (y .put _ (x .put xs e₀)) ∙ ap (map pos) (puts xs);
     }
       where
         puts : (xs : List ℕ)
-            → put-by (at-of s) c (field₃ t r n) (put-by (at-of s) b (field₂ t r n) (put-by (at-of s) (start₁ t s k r n) (field₁ t r n) xs))
+            → put-by (at-of s) c (field₃ t r n)
+            (put-by (at-of s) b (field₂ t r n) (put-by (at-of s) (start₁ t s k r n) (field₁ t r n) xs))
             ≡ put (part-places t k r) (targets (parts (row t r))) xs
         puts xs = rw (puts-are xs, third-is, x .ends)
 
-        w₁ : ℤ
-        w₁ = word-by (at-of l) (at-of s) (start₁ t s k r n) (field₁ t r n)
-
-        all : new₃ ≡ set (set (set (set new (4 * k) (word t r 0)) (4 * k + 1) w₁) (4 * k + 2) (word-by (at-of l) (at-of s) (start₂ t s k r n) (field₂ t r n))) (4 * k + 3) (word-by (at-of l) (at-of s) (start₃ t s k r n) (field₃ t r n))
+        all : new₃ ≡ set (set (set (set new (4 * k) (word t r 0)) (4 * k + 1) w₁) (4 * k + 2) w₂) (4 * k + 3) w₃
         all = rw (z .words, y .words, x .words, third-is, x .ends)
 
-        ws : Words-at k (λ f. getD (word t r 0 ∷ w₁ ∷ word-by (at-of l) (at-of s) (start₂ t s k r n) (field₂ t r n) ∷ word-by (at-of l) (at-of s) (start₃ t s k r n) (field₃ t r n) ∷ []) f (pos 0)) new new₃
-        ws = rw all (four-words k (word t r 0) w₁ (word-by (at-of l) (at-of s) (start₂ t s k r n) (field₂ t r n)) (word-by (at-of l) (at-of s) (start₃ t s k r n) (field₃ t r n)) new (let i = R .table-held in omega linear))
+        ws : Words-at k (λ f. getD (word t r 0 ∷ w₁ ∷ w₂ ∷ w₃ ∷ []) f (pos 0)) new new₃
+        ws = rw all (four-words k (word t r 0) w₁ w₂ w₃ new (let i = R .table-held in omega linear))
 
-        same : (f : ℕ) → f < 4 → getD (word t r 0 ∷ w₁ ∷ word-by (at-of l) (at-of s) (start₂ t s k r n) (field₂ t r n) ∷ word-by (at-of l) (at-of s) (start₃ t s k r n) (field₃ t r n) ∷ []) f (pos 0) ≡ word-with (at-of l) t k r f
+        same : (f : ℕ) → f < 4 → getD (word t r 0 ∷ w₁ ∷ w₂ ∷ w₃ ∷ []) f (pos 0) ≡ word-with (at-of l) t k r f
         same zero i = refl
         same (suc f) i = rw (words-are (at-of l))

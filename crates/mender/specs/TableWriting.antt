@@ -24,7 +24,8 @@ use Rattle.mending.specs.Filling.{Filled, due, put, put-length, put-parts, rena
 use Rattle.mender.specs.Checked.{Checked}
 use Rattle.mender.specs.Sizing.{Sizings}
 use Rattle.mender.specs.FieldWriting.{set-map}
-use Rattle.mender.specs.RowWriting.{Row-ready, Row-written, word-new}
+use Rattle.mender.specs.RowWords.{word-new}
+use Rattle.mender.specs.RowWriting.{Row-ready, Row-written}
 
 -- ---- runs of words that are row numbers
 
