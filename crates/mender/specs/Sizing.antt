@@ -43,7 +43,7 @@ pub record Part-sized (s : List ℕ) (a : ℕ) : Type 0 where
   pub inside : a < 2048
   pub small : getD s a 0 ≤ 2049
 
-pub part-small : {s : List ℕ} {x a : ℕ} → (x < 95 → Part-sized s a) → part-size s x a ≤ 2049
+part-small : {s : List ℕ} {x a : ℕ} → (x < 95 → Part-sized s a) → part-size s x a ≤ 2049
 unfolding part-size
 part-small {s} {x} {a} f = go (linking x) refl
   where

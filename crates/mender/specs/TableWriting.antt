@@ -80,7 +80,7 @@ module _ (t : List ℤ) (ok : Mendable t) (table-room origins-room : ℕ) where
     inside = let a = W .within in omega linear
 
     -- the row of the turn
-    pub at-turn : field-number (getD os (k - 1) (pos 0)) ≡ origin t (k - 1)
+    at-turn : field-number (getD os (k - 1) (pos 0)) ≡ origin t (k - 1)
     at-turn =
         ap field-number (ap (λ (zs : List ℤ). getD zs (k - 1) (pos 0)) (W .is) ∙ List·getD-map pos (W .run) (k - 1) 0)
         ∙ due t ok k (k - 1) (W .filled) (omega linear) inside

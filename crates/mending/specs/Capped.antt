@@ -62,11 +62,11 @@ module _ (t : List ℤ) (falls : Falls t) where
       ∙ ap (min cap) (sym (size-step t falls r h))
 
   -- the sizes of the rows below r, capped
-  pub record Sizes (r : ℕ) (xs : List ℕ) : Type 0 where
+  record Sizes (r : ℕ) (xs : List ℕ) : Type 0 where
     pub counted : length xs ≡ r
     pub capped : (k : ℕ) → k < r → getD xs k 0 ≡ min cap (size t k)
 
-  pub one-more : (r : ℕ) (xs : List ℕ) → r < rows t → Sizes r xs → Sizes (suc r) (xs ++ (capped-at t xs r ∷ []))
+  one-more : (r : ℕ) (xs : List ℕ) → r < rows t → Sizes r xs → Sizes (suc r) (xs ++ (capped-at t xs r ∷ []))
   unfolding capped-at
   one-more r xs h s = record {
     counted = omega (linear, length-append xs (capped-at t xs r ∷ []), s .counted);
@@ -93,7 +93,7 @@ module _ (t : List ℤ) (falls : Falls t) where
       all-capped n (suc r) (xs ++ (capped-at t xs r ∷ [])) (omega linear) (one-more r xs (omega linear) s)
 
   -- the capped size of each row
-  pub capped-row : (r : ℕ) → r < rows t → getD (capped-from t (rows t) 0 []) r 0 ≡ min cap (size t r)
+  capped-row : (r : ℕ) → r < rows t → getD (capped-from t (rows t) 0 []) r 0 ≡ min cap (size t r)
   capped-row r h =
       all-capped (rows t) 0 [] (omega linear) (record { counted = refl; capped = λ k l. absurd (omega linear) }) .capped r h
 

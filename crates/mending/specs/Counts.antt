@@ -52,7 +52,7 @@ unfolding among
 among-same zero xs ys f = refl
 among-same (suc n) xs ys f = rw (f n (omega linear), among-same n xs ys (λ q h. f q (omega linear)))
 
-pub among-below : (n : ℕ) (xs : List ℕ) → among n xs ≤ n
+among-below : (n : ℕ) (xs : List ℕ) → among n xs ≤ n
 unfolding among
 among-below zero xs = omega linear
 among-below (suc n) xs = go (member n xs) (among-below n xs)

@@ -45,7 +45,7 @@ module _ (t : List ℤ) (ok : Mendable t) where
             subst (λ (x : ℕ). Inner lo x) (sym d) (record { start = lo; above = omega linear; old = r; copied = copy s e h i })
         last (no d) f = f (omega linear)
 
-    pub spread-inner : {lo k : ℕ} {ps : List Part} → Spread t lo k ps → (q : ℕ) → lo ≤ q → q < k → Inner lo q
+    spread-inner : {lo k : ℕ} {ps : List Part} → Spread t lo k ps → (q : ℕ) → lo ≤ q → q < k → Inner lo q
     spread-inner none q a b = absurd (omega linear)
     spread-inner {lo} {k} (more {j = j} c s) q a b =
         by-order q j (λ l. inner c q a l) (λ l. weaken (let x = copied-le t c in omega linear) (spread-inner s q l b))

@@ -14,7 +14,7 @@ use Rattle.script.specs.declared.FormulaRow.the-variants.{True, False, Comparis
 use Rattle.script.specs.declared.StatementRow.the-variants.{Skip, Assign, Sequence, If, While, Assert}
 use Rattle.script.specs.declared.Row.{Row}
 use Rattle.script.specs.declared.Row.the-variants as Row
-use Rattle.script.specs.Rows.{parts, word, row}
+use Rattle.script.specs.Rows.{parts, row}
 use Rattle.script.specs.Refusals.{member}
 use Rattle.theorems.specs.Links.{Link}
 use Rattle.theorems.specs.Standing.{Stands}
@@ -24,7 +24,6 @@ use Rattle.mending.specs.Escape.{Escaping, A-mark}
 use Rattle.mending.specs.Layout.{origin}
 use Rattle.mending.specs.Mendable.{Mendable}
 use Rattle.mending.specs.Renew.{renew}
-use Rattle.mending.specs.NewRows.{kind-at}
 use Rattle.mending.specs.Renaming.{Renamed, Here, here-part, mark-inside}
 use Rattle.mending.specs.Everywhere.{here-at, here-of, came, renewed-row, old-link}
 
@@ -92,9 +91,6 @@ module _ (t : List ℤ) (ok : Mendable t) where
   none-escapes k E = true≢false (sym (marks-inside (E .2 .2) (E .0) (E .1)) ∙ E .2 .3)
 
   -- ---- "A lent run says, for each new row, the old row it came from"
-
-  pub kinds-right : (k : ℕ) → k < total → word u k 0 ≡ word t (origin t k) 0
-  kinds-right k h = kind-at t k h
 
   -- its fields other than links and marks are those of the old row
   pub row-right : (k : ℕ) → k < total

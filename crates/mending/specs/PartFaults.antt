@@ -21,7 +21,7 @@ use Rattle.mending.specs.Mended.{part-fault}
 
 module _ (t : List ℤ) (r : ℕ) where
   -- 2 to 5, in the order of 01
-  pub part-fault-is : part-fault t r ≡
+  part-fault-is : part-fault t r ≡
       cond (same-sort (sort-of (row t r)) Unknown) 2
       (cond (not (in-range t (fields (row t r)) && unused-zero t r (length (fields (row t r))))) 3
       (cond (not (all-below t r (parts (row t r)))) 4 (cond (not (well-sorted t (parts (row t r)))) 5 0)))

@@ -77,7 +77,7 @@ module _ (t : List ℤ) (ok : Mendable t) where
     new-row-is : row (new-table t) k ≡ renew ρ js (row t r)
     new-row-is = row-is t ok (a .from) h (a .below)
 
-    pub new-sort : sort-of (row (new-table t) k) ≡ sort-of (row t (origin t k))
+    new-sort : sort-of (row (new-table t) k) ≡ sort-of (row t (origin t k))
     new-sort = ap sort-of new-row-is ∙ sort-renewed ρ js (row t r) ∙ ap (λ (x : ℕ). sort-of (row t x)) (sym (a .from))
 
     new-fields : fields (row (new-table t) k) ≡ renew-fields ρ js 0 (fields (row t r))

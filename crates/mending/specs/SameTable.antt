@@ -109,7 +109,7 @@ module _ (t : List ℤ) (ok : Mendable t) (ordered : In-order t) where
           third-at t k l ∙ new-at 2,
         )
 
-  pub same-table : new-table t ≡ t
+  same-table : new-table t ≡ t
   same-table =
       ext-getD (pos 0) (new-table t) t (new-length t ∙ ap (λ (n : ℕ). 4 * n) total-is ∙ sym (ok .fours))
       (λ i h. by-fours (λ i. getD (new-table t) i (pos 0) ≡ getD t i (pos 0)) (rows t) words-same i
