@@ -21,12 +21,14 @@ check-script-requires c κs =
 returns-2 : tie.Need-returns-2
 returns-2 c =
     let p = c .before .before .before in
-    told-part _ (sym (p .before .before .bad-length .ensures) ∙ p .before .if1 .left) (refuses (p .check-parts .ensures) (c .before .parts .given .1))
+    told-part _ (sym (p .before .before .bad-length .ensures) ∙ p .before .if1 .left)
+    (refuses (p .check-parts .ensures) (c .before .parts .given .1))
 
 returns-3 : tie.Need-returns-3
 returns-3 c =
     let p = c .before .before .before in
-    told-script _ (sym (p .before .before .bad-length .ensures) ∙ p .before .if1 .left) (passes (p .check-parts .ensures) (c .before .enum-told .given .1)) (c .check-script .ensures)
+    told-script _ (sym (p .before .before .bad-length .ensures) ∙ p .before .if1 .left)
+    (passes (p .check-parts .ensures) (c .before .enum-told .given .1)) (c .check-script .ensures)
 
 pub check-spec : {M : Type 1} → statement M
 check-spec =

@@ -21,19 +21,22 @@ loop-holds c = (c .kinds .ensures, parts-none (length-replicate {A = ℕ} 2048 0
 row-fault-requires : tie.Need-row-fault-requires Inv-loop μ-loop
 row-fault-requires c κs =
     let l = c .before .before in
-    (record { size = l .before .before .before .pre; inside = l .loop-test .taken; shown = l .before .loop .inv .1 .shown }, l .before .loop .inv .0)
+    let i = l .before .loop .inv in
+    (record { size = l .before .before .before .pre; inside = l .loop-test .taken; shown = i .1 .shown }, i .0)
 
 returns : tie.Need-returns Inv-loop μ-loop
 returns c =
     let p = c .before in
     let l = p .before .before .before .before in
-    parts-refused (l .before .loop .inv .1) (l .loop-test .taken) (p .before .row-fault .ensures) (p .part-fault .ensures) (c .if1 .taken)
+    let i = l .before .loop .inv in
+    parts-refused (i .1) (l .loop-test .taken) (p .before .row-fault .ensures) (p .part-fault .ensures) (c .if1 .taken)
 
 loop-again : tie.Need-loop-again Inv-loop μ-loop
 loop-again c =
     let p = c .before in
     let l = p .before .before .before .before in
-    (l .before .loop .inv .0, parts-more (l .before .loop .inv .1) (l .loop-test .taken) (p .before .row-fault .ensures) (p .part-fault .ensures) (c .if1 .left))
+    let i = l .before .loop .inv in
+    (i .0, parts-more (i .1) (l .loop-test .taken) (p .before .row-fault .ensures) (p .part-fault .ensures) (c .if1 .left))
 
 returns-2 : tie.Need-returns-2 Inv-loop μ-loop
 returns-2 c = parts-accepted (c .before .loop .inv .1) (c .loop-test .left)

@@ -19,11 +19,13 @@ its-number c = rw (toZ-ofZ (c .before .fits .word)) at (c .field-number .ensures
 -- ---- a link
 
 link-room : (c : tie.Then1)
-    → Linked-room (c .before .before .args .sizes .now) (c .before .before .args .lo) (field-number (c .before .before .args .word)) (length (c .before .before .args .origins .now))
+    → let a = c .before .before .args in
+    Linked-room (a .sizes .now) (a .lo) (field-number (a .word)) (length (a .origins .now))
 link-room c = c .before .before .pre .linked (c .if1 .taken)
 
 place-fits : (c : tie.After-end)
-    → SFits w32 (pos (c .before .before .before .args .lo + getD (c .before .before .before .args .sizes .now) (c .before .before .field-number .result) 0 - 1))
+    → let f = c .before .before in
+    SFits w32 (pos (f .before .args .lo + getD (f .before .args .sizes .now) (f .field-number .result) 0 - 1))
 place-fits c = record { sfits = rw (its-number (c .before .before)) (omega (arith, link-room (c .before) .small)) }
 
 row-fits : (c : tie.After-end) → SFits w32 (pos (c .before .before .field-number .result))
@@ -57,22 +59,26 @@ mul-t16 : tie.Need-mul-t16
 mul-t16 c = record { fits = rw (its-number (c .before .before)) (omega (arith, link-room (c .before) .small)) }
 
 slice-set-from-origins-2 : tie.Need-slice-set-from-origins-2
-slice-set-from-origins-2 c = rw (its-number (c .before .before)) (omega (arith, link-room (c .before) .some, link-room (c .before) .held))
+slice-set-from-origins-2 c =
+    let l = link-room (c .before) in
+    rw (its-number (c .before .before)) (omega (arith, l .some, l .held))
 
 returns : tie.Need-returns
 returns c =
     let s = c .before .before .before in
-    rw (toZ-ofZ (place-fits c), toZ-ofZ (row-fits c), its-number (c .before .before)) (link-written _ _ _ (field (s .args .letter) (s .args .word)) _ _ _ (c .before .if1 .taken))
+    rw (toZ-ofZ (place-fits c), toZ-ofZ (row-fits c), its-number (c .before .before))
+    (link-written _ _ _ (field (s .args .letter) (s .args .word)) _ _ _ (c .before .if1 .taken))
 
 -- ---- a mark
 
 mark-room : (c : tie.Then2)
-    → (field-number (c .before .before .before .args .word) < 2048)
-    × (getD (c .before .before .before .args .latest .now) (field-number (c .before .before .before .args .word)) 0 < 2048)
+    → let a = c .before .before .before .args in
+    (field-number (a .word) < 2048) × (getD (a .latest .now) (field-number (a .word)) 0 < 2048)
 mark-room c = c .before .before .before .pre .marked (c .if2 .taken)
 
 copy-fits : (c : tie.After-new)
-    → SFits w32 (pos (getD (c .before .before .before .before .args .latest .now) (c .before .before .before .field-number .result) 0))
+    → let f = c .before .before .before in
+    SFits w32 (pos (getD (f .before .args .latest .now) (f .field-number .result) 0))
 copy-fits c = record { sfits = rw (its-number (c .before .before .before)) (omega (arith, mark-room (c .before) .1)) }
 
 mul-new : tie.Need-mul-new
@@ -87,12 +93,14 @@ cast-new-2 c = copy-fits c
 returns-2 : tie.Need-returns-2
 returns-2 c =
     let s = c .before .before .before .before in
-    rw (toZ-ofZ (copy-fits c), its-number (c .before .before .before)) (mark-written _ _ _ (field (s .args .letter) (s .args .word)) _ _ _ (c .before .before .if1 .left) (c .before .if2 .taken))
+    rw (toZ-ofZ (copy-fits c), its-number (c .before .before .before))
+    (mark-written _ _ _ (field (s .args .letter) (s .args .word)) _ _ _ (c .before .before .if1 .left) (c .before .if2 .taken))
 
 returns-3 : tie.Need-returns-3
 returns-3 c =
     let s = c .before .before .before in
-    rw (toZ-ofZ (s .fits .word)) (word-written _ _ _ (field (s .args .letter) (s .args .word)) _ _ _ (c .before .if1 .left) (c .if2 .left))
+    rw (toZ-ofZ (s .fits .word))
+    (word-written _ _ _ (field (s .args .letter) (s .args .word)) _ _ _ (c .before .if1 .left) (c .if2 .left))
 
 pub write-field-spec : {M : Type 1} → statement M
 write-field-spec =

@@ -13,6 +13,7 @@ use Rattle.script.specs.Laws.{back}
 use Rattle.script.specs.Rows.{field-number, rows}
 use Rattle.rows.specs.Patterns.{patterns}
 use Rattle.mending.specs.Mendable.{Mendable}
+use Rattle.mender.specs.RowWriting.{Row-ready}
 use Rattle.mender.specs.TableWriting.{Wrote, wrote-row}
 use Rattle.mender.specs.TableWritten.{origins-stay, pass-run, pass-start, pass-table, some-row, table-stays, turn-in, turn-ready}
 use borrow.Author.Needs.{needs}
@@ -20,7 +21,9 @@ use Rattle.mender.proofs.rewriting.write_table.Statement.{statement}
 use Rattle.mender.proofs.rewriting.write_table.Tie as tie
 
 abbrev Inv-loop : tie.InvT-loop
-Inv-loop table sizes total new₀ origins₀ kinds latest₀ k₀ new origins latest k = (kinds ≡ patterns) × ((length latest ≡ 2048) × ((ok : Mendable table) × Wrote table ok (length new₀) (length origins₀) k new origins latest))
+Inv-loop table sizes total new₀ origins₀ kinds latest₀ k₀ new origins latest k =
+    (kinds ≡ patterns) × ((length latest ≡ 2048)
+    × ((ok : Mendable table) × Wrote table ok (length new₀) (length origins₀) k new origins latest))
 
 abbrev μ-loop : tie.MeasureT-loop
 μ-loop table sizes total new₀ origins₀ kinds latest₀ k₀ new origins latest k = k
@@ -41,24 +44,38 @@ module _ (c : tie.In-loop Inv-loop μ-loop) where
 
   -- the run of old rows once the script's row is put
   abbrev begun : List ℤ
-  begun = set (start .args .origins .now) (start .args .total - 1) (toZ w32 (ofZ w32 (pos (rows (start .args .table .now) - 1))))
+  begun =
+      set (start .args .origins .now) (start .args .total - 1)
+      (toZ w32 (ofZ w32 (pos (rows (start .args .table .now) - 1))))
 
-  wrote : Wrote (start .args .table .now) (at .loop .inv .1 .1 .0) (length (start .args .new .now)) (length begun) (at .loop .k) (at .loop .new) (at .loop .origins) (at .loop .latest)
+  wrote : Wrote (start .args .table .now) (at .loop .inv .1 .1 .0) (length (start .args .new .now)) (length begun)
+      (at .loop .k) (at .loop .new) (at .loop .origins) (at .loop .latest)
   wrote = at .loop .inv .1 .1 .1
 
   in-run : (at .loop .k - 1 < length (at .loop .origins)) × (at .loop .k - 1 < 2048)
   in-run = turn-in (start .pre) _ (toZ-ofZ (row-fits (at .before))) wrote (c .loop-test .taken)
 
 its-row : (c : tie.After-field-number Inv-loop μ-loop)
-    → c .field-number .result ≡ field-number (getD (c .before .before .before .loop .origins) (c .before .before .before .loop .k - 1) (pos 0))
+    → let a = c .before .before .before .loop in
+    c .field-number .result ≡ field-number (getD (a .origins) (a .k - 1) (pos 0))
 its-row c = rw (back (c .before .field-number-arg .given)) at (c .field-number .ensures)
+
+its-ready : (c : tie.After-field-number Inv-loop μ-loop)
+    → let l = c .before .before in
+    let s = l .before .before .before .args in
+    let a = l .before .loop in
+    Row-ready (s .table .now) (s .sizes .now) (a .latest) (a .k - 1) (c .field-number .result) (length (a .new))
+    (length (a .origins))
+its-ready c =
+    let l = c .before .before in
+    let s = l .before .before .before in
+    turn-ready (s .pre) _ (toZ-ofZ (row-fits (l .before .before))) (wrote l) (l .loop-test .taken) (its-row c)
 
 row-in : (c : tie.After-field-number Inv-loop μ-loop) → c .field-number .result < 2048
 row-in c =
     let l = c .before .before in
     let s = l .before .before .before in
-    let r = turn-ready (s .pre) _ (toZ-ofZ (row-fits (l .before .before))) (wrote l) (l .loop-test .taken) (its-row c) in
-    omega (arith, r .inside, s .pre .checked .size .short)
+    omega (arith, its-ready c .inside, s .pre .checked .size .short)
 
 abbrev turn-of : tie.After-origins Inv-loop μ-loop → tie.In-loop Inv-loop μ-loop
 turn-of c = c .before .before .before .before .before .before .before .before .before
@@ -77,7 +94,8 @@ slice-set-from-origins c = omega (arith, some-row (c .before .pre), c .before .p
 
 loop-holds : tie.Need-loop-holds Inv-loop μ-loop
 loop-holds c =
-    (c .kinds .ensures, (length-replicate {A = ℕ} 2048 0, (c .before .pre .mendable, pass-start (c .before .pre) _ (toZ-ofZ (row-fits c)))))
+    let T = c .before .pre in
+    (c .kinds .ensures, (length-replicate {A = ℕ} 2048 0, (T .mendable, pass-start T _ (toZ-ofZ (row-fits c)))))
 
 mul-field-number : tie.Need-mul-field-number Inv-loop μ-loop
 mul-field-number c = record { fits = omega (arith, in-run c .1) }
@@ -88,8 +106,7 @@ slice-copy-out-field-number c = in-run c .0
 write-row-requires : tie.Need-write-row-requires Inv-loop μ-loop
 write-row-requires c κs =
     let f = c .before .before .before .before in
-    let l = f .before .before in
-    (turn-ready (l .before .before .before .pre) _ (toZ-ofZ (row-fits (l .before .before))) (wrote l) (l .loop-test .taken) (its-row f), l .before .loop .inv .0)
+    (its-ready f, f .before .before .before .loop .inv .0)
 
 cast-latest : tie.Need-cast-latest Inv-loop μ-loop
 cast-latest c = record { fits = omega (arith, in-run (turn-of c) .1) }
@@ -106,7 +123,9 @@ loop-again c =
     let f = w .before .before .before .before .before in
     let l = turn-of c in
     let i = l .before .loop .inv in
-    (i .0, (length-set (l .before .loop .latest) _ _ ∙ i .1 .0, (i .1 .1 .0, wrote-row _ (i .1 .1 .0) _ _ (wrote l) (l .loop-test .taken) (its-row f) (w .write-row .ensures) (i .1 .0) refl)))
+    let ok = i .1 .1 .0 in
+    let W = wrote-row _ ok _ _ (wrote l) (l .loop-test .taken) (its-row f) (w .write-row .ensures) (i .1 .0) refl in
+    (i .0, (length-set (l .before .loop .latest) _ _ ∙ i .1 .0, (ok, W)))
 
 same-length : tie.Need-same-length Inv-loop μ-loop
 same-length c =
