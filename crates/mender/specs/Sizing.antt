@@ -25,7 +25,8 @@ pub record Sizings (t : List ℤ) (r : ℕ) (s : List ℕ) : Type 0 where
 pub sizings-none : {t : List ℤ} {s : List ℕ} → length s ≡ 2048 → Sizings t 0 s
 sizings-none h = record { long = h; at = λ k l. absurd (omega linear) }
 
-pub sizings-more : {t : List ℤ} {r d : ℕ} {s : List ℕ} → r < 2048 → Sizings t r s → d ≡ min cap (size t r) → Sizings t (r + 1) (set s r d)
+pub sizings-more : {t : List ℤ} {r d : ℕ} {s : List ℕ} → r < 2048 → Sizings t r s → d ≡ min cap (size t r)
+    → Sizings t (r + 1) (set s r d)
 sizings-more {t} {r} {d} {s} b z e = record { long = length-set s r d ∙ z .long; at = λ k l. go k l (ℕ-discrete k r) }
   where
     go : (k : ℕ) → k < r + 1 → Dec (k ≡ r) → getD (set s r d) k 0 ≡ min cap (size t k)
@@ -71,7 +72,8 @@ sum-step s f fs = go (linking (f .letter))
 
 -- ---- a row
 
-module _ {t : List ℤ} (ok : Checked t) {r n : ℕ} {s : List ℕ} (z : Sizings t r s) (h : r < rows t) (k : n ≡ field-number (word t r 0)) where
+module _ {t : List ℤ} (ok : Checked t) {r n : ℕ} {s : List ℕ} (z : Sizings t r s) (h : r < rows t)
+    (k : n ≡ field-number (word t r 0)) where
   part-sized : {x a : ℕ} → (x < 95 → a < r) → x < 95 → Part-sized s a
   part-sized {x} {a} low l =
       let i = low l in
@@ -88,9 +90,15 @@ module _ {t : List ℤ} (ok : Checked t) {r n : ℕ} {s : List ℕ} (z : Sizings
   pub third-sized : pattern n 3 < 95 → Part-sized s (field-number (word t r 3))
   third-sized = part-sized (links-low ok h k .1 .1)
 
-  module _ {a b c : ℕ} (ea : a ≡ part-size s (pattern n 1) (field-number (word t r 1))) (eb : b ≡ part-size s (pattern n 2) (field-number (word t r 2))) (ec : c ≡ part-size s (pattern n 3) (field-number (word t r 3))) where
+  module _ {a b c : ℕ} (ea : a ≡ part-size s (pattern n 1) (field-number (word t r 1)))
+      (eb : b ≡ part-size s (pattern n 2) (field-number (word t r 2)))
+      (ec : c ≡ part-size s (pattern n 3) (field-number (word t r 3))) where
     pub sum-small : a + b + c ≤ 6147
-    sum-small = let x = part-small first-sized in let y = part-small second-sized in let w = part-small third-sized in omega linear
+    sum-small =
+        let x = part-small first-sized in
+        let y = part-small second-sized in
+        let w = part-small third-sized in
+        omega linear
 
     sum-is : min cap (a + b + c + 1) ≡ min cap (size t r)
     sum-is =
@@ -120,4 +128,4 @@ sizings-all z h = record { long = z .long; at = λ k l. z .at k (omega linear) }
 pub total-at : {t : List ℤ} {s : List ℕ} → Checked t → Sizings t (rows t) s → getD s (rows t - 1) 0 ≡ capped-total t
 total-at {t} ok z =
     let f = ok .size .filled in
-    z .at (rows t - 1) (omega linear) ∙ ap (min cap) (sym (total-is t (ok .falls))) ∙ sym (capped-exact t (ok .falls) (ok .size .filled))
+    z .at (rows t - 1) (omega linear) ∙ ap (min cap) (sym (total-is t (ok .falls))) ∙ sym (capped-exact t (ok .falls) f)

@@ -44,13 +44,15 @@ pub record Told (m : Mended) (a : MendAnswer) (new os : List ℤ) : Type 0 where
   pub table : new ≡ m .table
   pub run : os ≡ m .origins
 
-pub told-as : (t : List ℤ) {a a′ b b′ : ℕ} {r : MendAnswer} {new os : List ℤ} → a ≡ a′ → b ≡ b′ → Told (mended t a b) r new os → Told (mended t a′ b′) r new os
+pub told-as : (t : List ℤ) {a a′ b b′ : ℕ} {r : MendAnswer} {new os : List ℤ} → a ≡ a′ → b ≡ b′
+    → Told (mended t a b) r new os → Told (mended t a′ b′) r new os
 told-as t {a} {a′} {b} {b′} {r} {new} {os} ea eb T =
     subst (λ (n : ℕ). Told (mended t n b′) r new os) ea (subst (λ (n : ℕ). Told (mended t a n) r new os) eb T)
 
 -- clause by clause
 pub clauses : {m : Mended} {a : MendAnswer} {new os : List ℤ} → Told m a new os
-    → (a .number ≡ m .number) × ((a .row ≡ m .row) × ((a .words ≡ m .words) × ((a .dropped ≡ m .dropped) × ((a .copied ≡ m .copied) × ((new ≡ m .table) × (os ≡ m .origins))))))
+    → (a .number ≡ m .number) × ((a .row ≡ m .row) × ((a .words ≡ m .words) × ((a .dropped ≡ m .dropped)
+    × ((a .copied ≡ m .copied) × ((new ≡ m .table) × (os ≡ m .origins))))))
 clauses T = (T .number, (T .row, (T .words, (T .dropped, (T .copied, (T .table, T .run))))))
 
 -- a table that passes the tests before 14, and how many rows its script reaches
@@ -62,17 +64,20 @@ pub record Counting (t : List ℤ) (count : ℕ) : Type 0 where
 
 -- ---- ways out
 
-pub told-refused : (t : List ℤ) {a : MendAnswer} {new os : List ℤ} (table-room origins-room n r : ℕ) → mend-verdict t table-room origins-room ≡ refused n r
-    → a ≡ refused-answer n r → new ≡ zeros table-room → os ≡ zeros origins-room → Told (mended t table-room origins-room) a new os
+pub told-refused : (t : List ℤ) {a : MendAnswer} {new os : List ℤ} (table-room origins-room n r : ℕ)
+    → mend-verdict t table-room origins-room ≡ refused n r → a ≡ refused-answer n r
+    → new ≡ zeros table-room → os ≡ zeros origins-room → Told (mended t table-room origins-room) a new os
 unfolding mended
 told-refused t table-room origins-room n r v e en eo =
     rw (v, mended, e) (record { number = refl; row = refl; words = refl; dropped = refl; copied = refl; table = en; run = eo })
 
-module _ {t : List ℤ} {count n : ℕ} {s : List ℕ} {new os : List ℤ} (C : Counting t count) (z : Sizings t (rows t) s) (e : n ≡ getD s (rows t - 1) 0) (cn : Cleared new) (co : Cleared os) where
+module _ {t : List ℤ} {count n : ℕ} {s : List ℕ} {new os : List ℤ} (C : Counting t count) (z : Sizings t (rows t) s)
+    (e : n ≡ getD s (rows t - 1) 0) (cn : Cleared new) (co : Cleared os) where
   counted-is : n ≡ capped-total t
   counted-is = e ∙ total-at (C .checked) z
 
-  verdict-is : {b : Bool} → b ≡ too-long (length new) (length os) n → mend-verdict t (length new) (length os) ≡ cond b (refused 14 0) accepted
+  verdict-is : {b : Bool} → b ≡ too-long (length new) (length os) n
+      → mend-verdict t (length new) (length os) ≡ cond b (refused 14 0) accepted
   unfolding size-test
   verdict-is {b} d = C .passed (length new) (length os) ∙ rw (← counted-is, ← d)
 
@@ -88,7 +93,7 @@ module _ {t : List ℤ} {count n : ℕ} {s : List ℕ} {new os : List ℤ} (C : 
     held = fits t (length new) (length os) (verdict-is d)
 
     total : n ≡ length (origins t)
-    total = let a = counted-is in let b = capped-exact t (C .checked .falls) (C .checked .size .filled) in let c = held .few in omega linear
+    total = omega (linear, counted-is, capped-exact t (C .checked .falls) (C .checked .size .filled), held .few)
 
     pub table-ready : Table-ready t s n new os
     table-ready = record {
@@ -112,8 +117,10 @@ module _ {t : List ℤ} {count n : ℕ} {s : List ℕ} {new os : List ℤ} (C : 
         let g = held .few in
         (omega linear, omega linear)
 
-    pub told-mended : {new′ os′ : List ℤ} → new′ ≡ new-table t ++ zeros (length new - 4 * n) → os′ ≡ map pos (origins t) ++ zeros (length os - n)
-        → Told (mended t (length new) (length os)) (record { number = 0; row = 0; words = 4 * n; dropped = rows t - count; copied = n - count }) new′ os′
+    pub told-mended : {new′ os′ : List ℤ} → new′ ≡ new-table t ++ zeros (length new - 4 * n)
+        → os′ ≡ map pos (origins t) ++ zeros (length os - n)
+        → Told (mended t (length new) (length os))
+        (record { number = 0; row = 0; words = 4 * n; dropped = rows t - count; copied = n - count }) new′ os′
     unfolding mended
     told-mended en eo =
         rw (verdict-is d, mended) (record {
