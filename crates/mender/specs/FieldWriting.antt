@@ -26,7 +26,8 @@ pub record Field-room (s l : List ℕ) (lo : ℕ) (f : Field) (to table-room ori
   pub linked : f .letter < 95 → Linked-room s lo (number f) origins-room
   pub marked : f .letter ≡ 108 → (number f < 2048) × (getD l (number f) 0 < 2048)
 
-pub record Field-written (s l : List ℕ) (lo : ℕ) (f : Field) (to : ℕ) (new os : List ℤ) (end : ℕ) (new′ os′ : List ℤ) : Type 0 where
+pub record Field-written (s l : List ℕ) (lo : ℕ) (f : Field) (to : ℕ) (new os : List ℤ) (end : ℕ) (new′ os′ : List ℤ)
+    : Type 0 where
   pub ends : end ≡ end-by (at-of s) lo f
   pub words : new′ ≡ set new to (word-by (at-of l) (at-of s) lo f)
   pub put : (xs : List ℕ) → os ≡ map pos xs → os′ ≡ map pos (put-by (at-of s) lo f xs)

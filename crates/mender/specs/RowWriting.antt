@@ -101,7 +101,8 @@ end-linked : (S : ℕ → ℕ) (lo : ℕ) (f : Field) → f .letter < 95 → lo 
 unfolding end-by
 end-linked S lo f h = rw (lt-ltb (f .letter) 95 h)
 
-module _ {t : List ℤ} {s l : List ℕ} {k r n table-room origins-room : ℕ} (R : Row-ready t s l k r table-room origins-room) (e : n ≡ field-number (word t r 0)) where
+module _ {t : List ℤ} {s l : List ℕ} {k r n table-room origins-room : ℕ}
+    (R : Row-ready t s l k r table-room origins-room) (e : n ≡ field-number (word t r 0)) where
   known : n < 49
   known = listed-kind (R .checked) (R .inside) e
 
@@ -152,8 +153,8 @@ module _ {t : List ℤ} {s l : List ℕ} {k r n table-room origins-room : ℕ} (
       let d = R .origins-held in
       record { inside = omega linear; some = omega linear; held = omega linear; small = omega linear }
 
-  field-room : (f : Field) {at to : ℕ} → (f .letter < 95 → number f < r) → (f .letter ≡ 108 → number f < rows t) → end-by (at-of s) at f ≤ k
-      → to < table-room → Field-room s l at f to table-room origins-room
+  field-room : (f : Field) {at to : ℕ} → (f .letter < 95 → number f < r) → (f .letter ≡ 108 → number f < rows t)
+      → end-by (at-of s) at f ≤ k → to < table-room → Field-room s l at f to table-room origins-room
   field-room f low its-loop last held = record {
     held = held;
     linked = linked-room f low last;

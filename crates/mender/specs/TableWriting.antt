@@ -52,12 +52,14 @@ module _ (t : List ℤ) (ok : Mendable t) (table-room origins-room : ℕ) where
     pub latest : (j : ℕ) → suc j ≡ k → (m : ℕ) → getD l m 0 ≡ renamed t j m
     pub small : (m : ℕ) → getD l m 0 < 2048
 
-  pub wrote-start : {new os : List ℤ} {l : List ℕ} → total ≤ origins-room → new ≡ zeros table-room → os ≡ set (zeros origins-room) (total - 1) (pos (rows t - 1))
-      → l ≡ replicate 2048 0 → Wrote total new os l
+  pub wrote-start : {new os : List ℤ} {l : List ℕ} → total ≤ origins-room → new ≡ zeros table-room
+      → os ≡ set (zeros origins-room) (total - 1) (pos (rows t - 1)) → l ≡ replicate 2048 0 → Wrote total new os l
   wrote-start {new} {os} {l} h en eo el = record {
     within = omega linear;
-    run = set (replicate origins-room 0) (total - 1) (rows t - 1);
-    is = eo ∙ ap (λ (zs : List ℤ). set zs (total - 1) (pos (rows t - 1))) (map-zeros origins-room) ∙ set-map (replicate origins-room 0) (total - 1) (rows t - 1);
+    run = set empty (total - 1) (rows t - 1);
+    is =
+        eo ∙ ap (λ (zs : List ℤ). set zs (total - 1) (pos (rows t - 1))) (map-zeros origins-room)
+        ∙ set-map empty (total - 1) (rows t - 1);
     run-long = length-set empty (total - 1) (rows t - 1) ∙ length-replicate {A = ℕ} origins-room 0;
     filled = start-filled t ok origins-room h;
     long = ap length en ∙ length-replicate table-room (pos 0);
@@ -80,12 +82,14 @@ module _ (t : List ℤ) (ok : Mendable t) (table-room origins-room : ℕ) where
     inside = let a = W .within in omega linear
 
     -- the row of the turn
-    at-turn : field-number (getD os (k - 1) (pos 0)) ≡ origin t (k - 1)
-    at-turn =
-        ap field-number (ap (λ (zs : List ℤ). getD zs (k - 1) (pos 0)) (W .is) ∙ List·getD-map pos (W .run) (k - 1) 0)
-        ∙ due t ok k (k - 1) (W .filled) (omega linear) inside
+    run-there : field-number (getD os (k - 1) (pos 0)) ≡ getD (W .run) (k - 1) 0
+    run-there = ap field-number (ap (λ (zs : List ℤ). getD zs (k - 1) (pos 0)) (W .is) ∙ List·getD-map pos (W .run) (k - 1) 0)
 
-    pub row-ready : {s : List ℕ} {r : ℕ} → Checked t → Sizings t (rows t) s → r ≡ field-number (getD os (k - 1) (pos 0)) → 4 * total ≤ length new → total ≤ length os
+    at-turn : field-number (getD os (k - 1) (pos 0)) ≡ origin t (k - 1)
+    at-turn = run-there ∙ due t ok k (k - 1) (W .filled) (omega linear) inside
+
+    pub row-ready : {s : List ℕ} {r : ℕ} → Checked t → Sizings t (rows t) s → r ≡ field-number (getD os (k - 1) (pos 0))
+        → 4 * total ≤ length new → total ≤ length os
         → Row-ready t s l (k - 1) r (length new) (length os)
     row-ready {s} {r} c z e a b =
         let u = turn t ok (k - 1) inside in
@@ -101,12 +105,13 @@ module _ (t : List ℤ) (ok : Mendable t) (table-room origins-room : ℕ) where
           origins-held = let g = inside in omega linear;
         })
 
-    module _ {new′ os′ : List ℤ} {r : ℕ} (e : r ≡ field-number (getD os (k - 1) (pos 0))) (R : Row-written t l (k - 1) r new os new′ os′) where
+    module _ {new′ os′ : List ℤ} {r : ℕ} (e : r ≡ field-number (getD os (k - 1) (pos 0)))
+        (R : Row-written t l (k - 1) r new os new′ os′) where
       its-row : r ≡ origin t (k - 1)
       its-row = e ∙ at-turn
 
       run-at : getD (W .run) (k - 1) 0 ≡ r
-      run-at = sym (ap field-number (ap (λ (zs : List ℤ). getD zs (k - 1) (pos 0)) (W .is) ∙ List·getD-map pos (W .run) (k - 1) 0)) ∙ sym e
+      run-at = sym run-there ∙ sym e
 
       as-suc : k ≡ suc (k - 1)
       as-suc = omega linear
@@ -128,10 +133,13 @@ module _ (t : List ℤ) (ok : Mendable t) (table-room origins-room : ℕ) where
           put-at : ℕ → List ℕ
           put-at q = put (part-places t (k - 1) q) (targets (parts (row t q))) (W .run)
 
-          word : (j f : ℕ) → k - 1 ≤ j → j < total → f < 4 → Dec (j ≡ k - 1) → getD new′ (4 * j + f) (pos 0) ≡ new-word t j (origin t j) f
+          word : (j f : ℕ) → k - 1 ≤ j → j < total → f < 4 → Dec (j ≡ k - 1)
+              → getD new′ (4 * j + f) (pos 0) ≡ new-word t j (origin t j) f
           word j f a b c (yes d) =
               subst (λ (q : ℕ). getD new′ (4 * q + f) (pos 0) ≡ new-word t q (origin t q) f) (sym d)
-              (R .words .here f c ∙ word-new _ t (k - 1) r (W .latest (k - 1) (sym as-suc)) f ∙ ap (λ (q : ℕ). new-word t (k - 1) q f) its-row)
+              (R .words .here f c
+              ∙ word-new _ t (k - 1) r (W .latest (k - 1) (sym as-suc)) f
+              ∙ ap (λ (q : ℕ). new-word t (k - 1) q f) its-row)
           word j f a b c (no d) = R .words .others (4 * j + f) (inr (omega linear)) ∙ W .words j f (omega linear) b c
 
           below : r < length l
@@ -148,7 +156,8 @@ module _ (t : List ℤ) (ok : Mendable t) (table-room origins-room : ℕ) where
               let from : origin t (suc j) ≡ r = ap (origin t) d ∙ sym its-row in
               go x (step ∙ ap (λ (q : ℕ). cond (eqb q m) (suc j) (renamed t (suc j) m)) from)
             where
-              go : Dec (m ≡ r) → renamed t j m ≡ cond (eqb r m) (suc j) (renamed t (suc j) m) → getD (set l r (k - 1)) m 0 ≡ renamed t j m
+              go : Dec (m ≡ r) → renamed t j m ≡ cond (eqb r m) (suc j) (renamed t (suc j) m)
+                  → getD (set l r (k - 1)) m 0 ≡ renamed t j m
               go (yes z) y =
                   subst (λ (q : ℕ). getD (set l r (k - 1)) q 0 ≡ k - 1) (sym z) (getD-set-same l r (k - 1) 0 below)
                   ∙ sym (y ∙ ap (λ (b : Bool). cond b (suc j) (renamed t (suc j) m)) (eq-eqb r m (sym z)) ∙ d)
@@ -160,5 +169,6 @@ module _ (t : List ℤ) (ok : Mendable t) (table-room origins-room : ℕ) where
           low m (yes z) =
               let g = inside in
               let f = ok .few in
-              subst (λ (q : ℕ). getD (set l r (k - 1)) q 0 < 2048) (sym z) (let v = getD-set-same l r (k - 1) 0 below in omega linear)
+              subst (λ (q : ℕ). getD (set l r (k - 1)) q 0 < 2048) (sym z)
+              (let v = getD-set-same l r (k - 1) 0 below in omega linear)
           low m (no z) = let v = getD-set-other l r m (k - 1) 0 z in let w = W .small m in omega linear

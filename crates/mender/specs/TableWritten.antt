@@ -97,7 +97,8 @@ some-row {t} T =
 
 -- ---- the pass over such a table: x is the word of the script's row
 
-module _ {t : List ℤ} {s : List ℕ} {n : ℕ} {new₀ os₀ : List ℤ} (T : Table-ready t s n new₀ os₀) (x : ℤ) (e : x ≡ pos (rows t - 1)) where
+module _ {t : List ℤ} {s : List ℕ} {n : ℕ} {new₀ os₀ : List ℤ} (T : Table-ready t s n new₀ os₀) (x : ℤ)
+    (e : x ≡ pos (rows t - 1)) where
   -- the run of old rows at the start, as long as it was lent
   abbrev begun : List ℤ
   begun = set os₀ (n - 1) x
@@ -116,7 +117,8 @@ module _ {t : List ℤ} {s : List ℕ} {n : ℕ} {new₀ os₀ : List ℤ} (T : 
       first : begun ≡ set (zeros (length begun)) (length (origins t) - 1) (pos (rows t - 1))
       first = rw (begun-long, ← T .origins-cleared, ← T .counted, e)
 
-  module _ {ok : Mendable t} {k : ℕ} {new os : List ℤ} {l : List ℕ} (W : Wrote t ok (length new₀) (length begun) k new os l) where
+  module _ {ok : Mendable t} {k : ℕ} {new os : List ℤ} {l : List ℕ}
+      (W : Wrote t ok (length new₀) (length begun) k new os l) where
     pub table-stays : length new ≡ length new₀
     table-stays = W .long
 
