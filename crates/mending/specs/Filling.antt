@@ -3,7 +3,7 @@
 -- pass puts the parts of that row at their places, which are below k (`start-filled`, `due`, `step-filled`). That row takes no
 -- more rows than there are up to k (`turn`). A mark's loop is the last copy of it that the pass came by (`renamed-start`,
 -- `renamed-step`). Assumes nothing.
-use Prim.Native.Nat.{ℕ, zero, suc, _-_, _≤_, _<_}
+use Prim.Native.Nat.{ℕ, suc, _-_, _≤_, _<_}
 use mathlib.Core.Path.{_≡_, refl, sym, subst, _∙_}
 use mathlib.Core.List.{List, [], _∷_}
 use mathlib.Core.Bool.{Bool, true, false, cond}

@@ -2,7 +2,7 @@
 -- Argument: the first of two faults is that of the tests over both fields (`step`), and a field after one that has a fault
 -- changes nothing. Where no field has a fault but 6, the rows linked are those of all fields (`afters-same`). Assumes nothing.
 use Prim.Native.Nat.{ℕ, zero, suc, _≤_, _<_}
-use mathlib.Core.Path.{_≡_, refl, ap, _∙_}
+use mathlib.Core.Path.{_≡_, refl, ap}
 use mathlib.Core.Logic.{_⊎_, inl, inr, ⊎-elim}
 use mathlib.Core.Bool.{Bool, true, false, cond, not, _&&_, _||_, true≢false}
 use mathlib.Core.List.{List, [], _∷_}
@@ -13,7 +13,6 @@ use lib.Dec.{eqb, ltb}
 use lib.IntN.{ℤ}
 use Rattle.script.specs.Rows.{rows}
 use Rattle.script.specs.Refusals.{member}
-use Rattle.theorems.specs.Accepted.{both}
 use Rattle.rows.specs.Patterns.{Cell, all, all-fresh, add, adds, below, blank, limited, linking, new, sorted}
 
 -- ---- the first of two faults, where 0 is none
