@@ -1,9 +1,9 @@
--- The loop over the rows that looks for 2 to 5 (`Parts-at`); what a table has that passes them and 7 (`checked-of`).
+-- The loop over the rows that looks for 2 to 5 (`Parts-at`); what a table has that passes 1 to 5 (`checked-of`).
 -- Assumes nothing.
 use Prim.Native.Nat.{ℕ, _+_, _≤_, _<_}
 use mathlib.Core.Path.{_≡_, sym, ap, _∙_}
 use mathlib.Core.Logic.{_≢_, inl, inr}
-use mathlib.Core.Bool.{false, cond}
+use mathlib.Core.Bool.{cond}
 use mathlib.Core.List.{List}
 use native.Mathlib.Numerals.{add-one}
 use native.Mathlib.Decide.{ℕ-discrete}
@@ -12,8 +12,8 @@ use lib.Dec.{eqb}
 use lib.IntN.{ℤ}
 use lib.ListN.{length}
 use Rattle.script.specs.Rows.{fields, row, rows}
-use Rattle.script.specs.Refusals.{accepted, refused, linked, in-range, unused-zero, bad-length}
-use Rattle.theorems.specs.Accepted.{both, sound-length}
+use Rattle.script.specs.Refusals.{accepted, refused, linked, in-range, unused-zero}
+use Rattle.theorems.specs.Accepted.{both}
 use Rattle.rows.specs.Faults.{Passed}
 use Rattle.rows.specs.States.{Sized, States, Tested, states-none}
 use Rattle.table.specs.Lowest.{Reached, reached-none, reached-more, reached-fault, reached-all}
@@ -57,9 +57,6 @@ unfolding part-test
 parts-accepted a h = reached-all (a .reached) h
 
 -- ---- a table that passes
-
-pub sized-of : {t : List ℤ} → bad-length (length t) ≡ false → Sized t
-sized-of {t} e = let l = sound-length (length t) e in record { filled = l .filled; fours = l .fours; short = l .short }
 
 pub checked-of : {t : List ℤ} → Sized t → part-test t ≡ accepted → Checked t
 checked-of {t} z p = record {

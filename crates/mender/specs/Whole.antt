@@ -13,6 +13,7 @@ use Rattle.script.specs.Generated.{zeros}
 use Rattle.script.specs.Rows.{rows}
 use Rattle.script.specs.Refusals.{Verdict, accepted, refused, _and-then_, bad-length, length-test, script-test}
 use Rattle.theorems.specs.Accepted.{both-accept, clash, pass-false}
+use Rattle.table.specs.Check.{sized}
 use Rattle.mending.specs.Copies.{origins, capped-total}
 use Rattle.mending.specs.NewTable.{new-table}
 use Rattle.mending.specs.Reached.{reached-rows}
@@ -23,7 +24,7 @@ use Rattle.mending.specs.Counts.{among-length, reached-are}
 use Rattle.mender.specs.declared.MendAnswer.{MendAnswer}
 use Rattle.mender.specs.Checked.{Checked}
 use Rattle.mender.specs.Reaching.{Reach-told}
-use Rattle.mender.specs.Parts.{checked-of, sized-of}
+use Rattle.mender.specs.Parts.{checked-of}
 use Rattle.mender.specs.Sizing.{Sizings, total-at}
 use Rattle.mender.specs.TableWritten.{Table-ready}
 
@@ -186,7 +187,7 @@ module _ (t : List ℤ) where
 
   pub passed-checked : Passed t → Checked t
   unfolding length-test
-  passed-checked p = checked-of (sized-of (pass-false (bad-length (length t)) 1 0 (p .length))) (p .part)
+  passed-checked p = checked-of (sized t refl (pass-false (bad-length (length t)) 1 0 (p .length))) (p .part)
 
   -- the first that refuses
   pub first-refused : {n r : ℕ} (a b : ℕ) → length-test t and-then part-test t and-then script-test t ≡ refused n r → mend-verdict t a b ≡ refused n r

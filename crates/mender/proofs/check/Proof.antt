@@ -1,7 +1,7 @@
 -- `mender::check` meets its contract: the first test that refuses decides. Assumes nothing.
 use mathlib.Core.Path.{sym, _∙_}
+use Rattle.table.specs.Check.{sized}
 use Rattle.table.specs.Verdicts.{passes, refuses}
-use Rattle.mender.specs.Parts.{sized-of}
 use Rattle.mender.specs.Whole.{told-length, told-part, told-script}
 use borrow.Author.Needs.{needs}
 use Rattle.mender.proofs.check.Statement.{statement}
@@ -11,12 +11,12 @@ returns : tie.Need-returns
 returns c = told-length _ (sym (c .before .bad-length .ensures) ∙ c .if1 .taken)
 
 check-parts-requires : tie.Need-check-parts-requires
-check-parts-requires c κs = sized-of (sym (c .before .bad-length .ensures) ∙ c .if1 .left)
+check-parts-requires c κs = sized _ (c .before .bad-length .ensures) (c .if1 .left)
 
 check-script-requires : tie.Need-check-script-requires
 check-script-requires c κs =
     let e = c .before .before .before in
-    sized-of (sym (e .before .bad-length .ensures) ∙ e .if1 .left)
+    sized _ (e .before .bad-length .ensures) (e .if1 .left)
 
 returns-2 : tie.Need-returns-2
 returns-2 c =
