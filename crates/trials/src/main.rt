@@ -1,6 +1,6 @@
 // Runs the trial rows of document 01 and writes a line for each: its name, and what the generator answers, or div and mod.
 // Then scripts that divide (02, P5), the scripts of example A's conditions (02, P1), and texts with what the reader answers
-// (02, P4); last lists with their conditions shortened (02, P6).
+// (02, P4); then lists with their conditions shortened (02, P6), last tables with shared parts mended (02, P7).
 
 mod text; // numbers as the document prints them
 mod run; // one trial
@@ -12,6 +12,8 @@ mod zero_divisors; // scripts that divide
 mod scripts; // conditions as scripts
 mod texts; // scripts as text
 mod shortening; // lists shortened
+mod mending; // tables mended
+mod doubling; // tables mended that grow to 2,048 rows and beyond
 
 fn main() {
     example::rooms();
@@ -27,4 +29,6 @@ fn main() {
     scripts::all();
     texts::all();
     shortening::all();
+    mending::all();
+    doubling::all();
 }
