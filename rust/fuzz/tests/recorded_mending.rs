@@ -2,8 +2,9 @@
 //! words used, rows dropped and copied again, and every word of both buffers.
 //!
 //! As in `recorded.rs`, the inputs are in the module `frozen`, and no change that keeps
-//! the contracts may change a constant. All were recorded with P7, and the second
-//! implementation gives the same. Rooms around the need come from the library itself.
+//! the contracts may change a constant. All were recorded with P7: made with the
+//! yardstick, and the library gives the same. Rooms around the need come from the library
+//! itself.
 
 mod digest;
 mod frozen;

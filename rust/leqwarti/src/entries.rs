@@ -402,7 +402,8 @@ pub fn shorter(old: &[i32], new: &[i32], index: i32) -> ShorterPart {
 
 /// A table in which two rows may link to one, written anew with a copy for every use.
 /// Whatever both buffers held before the call, after it the new table and the old rows
-/// of its rows are followed by zeros; refused, both are all zeros.
+/// of its rows are followed by zeros; refused, both are all zeros. Every table takes
+/// 32 KiB of the caller's stack.
 pub fn mend(table: &[i32], new: &mut [i32], origins: &mut [i32]) -> MendAnswer {
     let mut answer = MendAnswer::default();
     // SAFETY: as in `check`, for all words and every length of the buffers.
