@@ -1,5 +1,5 @@
 -- Sizes of rows, counted upward in an array and capped (`Sizings`); the size of a row from those of its parts, by its letters
--- (`sized-row`). Assumes nothing.
+-- (`sized-under`, `sized-over`). Assumes nothing.
 use Prim.Native.Nat.{ℕ, suc, _+_, _-_, _≤_, _<_, min}
 use mathlib.Core.Path.{_≡_, refl, sym, ap, _∙_}
 use mathlib.Core.Bool.{Bool, true, false, cond}
