@@ -84,13 +84,10 @@ module _ (t : List ℤ) (v : verdict t ≡ accepted) where
     done h = (f .followed, record { at = λ k i n. f .divided .at k (omega linear) n })
 
     pub row-ready : r < rows t → Node t r → RowReady t follow r
-    row-ready h n =
-        let k = passed t v .short in
-        let l = f .followed .long in
-        record { table = passed t v; inside = h; node = n; below = f .divided; long = omega linear }
+    row-ready h n = let l = f .followed .long in record { table = passed t v; inside = h; node = n; below = f .divided; long = omega linear }
 
     pub in-follow : r < rows t → r < length follow
-    in-follow h = let k = passed t v .short in let l = f .followed .long in omega linear
+    in-follow h = let l = f .followed .long in omega linear
 
     -- no node
     pub filled-past : r < rows t → (Node t r → ⊥) → Filled t follow (r + 1)

@@ -15,6 +15,7 @@ ghost use Rattle.theorems.specs.Writing.{Wrote};
 ghost use Rattle.theorems.specs.DivisorWords.{and-if-both};
 ghost use Rattle.formula_writer.specs.Paths.{expr-under, formula-under};
 ghost use Rattle.formula_writer.specs.Nodes.{Ready};
+ghost use Rattle.following.specs.Follow.{follow-in};
 ghost use Rattle.dividing.specs.Divided.{marked};
 ghost use Rattle.divisor_writer.specs.Words.{divisor-words, conjunct-words, DivisorReady};
 ghost use Rattle.divisor_writer.specs.Under.{ands, lead, premise, unequal-zero};
@@ -150,24 +151,26 @@ pub fn write_divisors(
     p
 }
 
-// Writes what D of the node at row r puts before a formula: an and, and D, where D stands.
+// Writes what D of the node at row r puts before a formula, under the first j assignments of the path in the scratch: an and,
+// and D, where D stands.
 pub fn write_conjunct(
     table: &[i32],
     r: RowNumber,
-    follow: &[i32],
     list: &mut [i32],
-    path: &[i32],
+    scratch: &[i32],
     j: usize,
     at: usize,
 ) -> usize
-    requires { ⌜ DivisorReady (now table) (now follow) (now path) j (r .0) ⌝ }
+    requires { ⌜ DivisorReady (now table) (follow-in (now table) (now scratch)) (now scratch) j (r .0) ⌝ }
     ensures { λ p. ⌜ Wrote (now (list .entry)) at
-        (conjunct-words (now (table .entry)) (now (path .entry)) j (r .0))
+        (conjunct-words (now (table .entry)) (now (scratch .entry)) j (r .0))
         p (now (list .exit)) ⌝ }
 {
+    let rows = table.len() / 4;
+    let follow = &scratch[rows..];
     if divides(follow, r) {
         let p = push_kind(list, at, kinds::AND);
-        write_divisors(table, r, follow, list, path, j, p)
+        write_divisors(table, r, follow, list, scratch, j, p)
     } else {
         at
     }

@@ -1,11 +1,11 @@
 -- The conditions of a loop and the main one: what their writers ask, and that the words of their parts, one run after another,
 -- are the formula of the condition. Assumes nothing.
-use Prim.Native.Nat.{ℕ, _<_}
-use mathlib.Core.Path.{_≡_, ap}
+use Prim.Native.Nat.{ℕ, _+_, _*_, _<_}
+use mathlib.Core.Path.{_≡_, ap, _∙_}
 use mathlib.Core.List.{List, [], _∷_}
 use native.Mathlib.Omega.{arith as linear}
 use lib.IntN.{ℤ, pos}
-use lib.ListN.{length, getD}
+use lib.ListN.{length}
 use Rattle.script.specs.declared.Sort.{Sort}
 use Rattle.script.specs.declared.Rule.{Rule}
 use Rattle.script.specs.declared.Rule.the-variants.{Exit, Floor, Step, Main}
@@ -13,19 +13,20 @@ use Rattle.script.specs.declared.Connective.the-variants.{And, Implies}
 use Rattle.script.specs.Syntax.{Formula, join}
 use Rattle.script.specs.Conditions.{Condition, condition, exit, floor, step, wp}
 use Rattle.script.specs.Words.{expr-words, formula-words}
-use Rattle.script.specs.Rows.{field-number, rows}
+use Rattle.script.specs.Rows.{rows}
 use Rattle.script.specs.Trees.{expr-at, formula-at, stmt-at}
 use Rattle.theorems.specs.Accepted.{Accepted}
 use Rattle.theorems.specs.Writing.{Wrote, then, wrote-as}
 use Rattle.formula_writer.specs.Paths.{none-passed, none-passedᵉ, expr-under, formula-under}
 use Rattle.formula_writer.specs.Links.{Linked}
 use Rattle.formula_writer.specs.Nodes.{OnPath, Ready}
-use Rattle.following.specs.Follow.{Followed}
+use Rattle.following.specs.Follow.{row-on, follow-in, Followed}
 use Rattle.dividing.specs.Divided.{Divided}
 use Rattle.following.specs.Course.{next}
 use Rattle.following.specs.Parts.{not-end, alone, after-alone, on-from}
 use Rattle.wp_writer.specs.Loops.{Loop, guard-row, invariant-row, variant-row, body-row, guard-at, invariant-at, variant-at, body-at, while-is, body-linked, Script, pre-row, statement-row, script-is, statement-linked}
 use Rattle.wp_writer.specs.Ends.{end-formula, script, body, end-decreased, words-under, ready-at}
+use Rattle.wp_writer.specs.Same.{Same}
 use Rattle.wp_writer.specs.Walked.{Before, before-end, Walked}
 use Rattle.line_writer.specs.declared.Progress.{Progress}
 use Rattle.line_writer.specs.Listed.{Listed}
@@ -51,25 +52,27 @@ pub record StepReady (t : List ℤ) (k : ℕ) (follow path : List ℤ) : Type 0 
   pub loops : Loop t k
   pub followed : Followed t follow
   pub divided : Divided t follow
-  pub long : length path ≡ 2048
+  pub long : length path ≡ 2 * rows t
+  pub noted : follow-in t path ≡ follow
 
 pub record MainReady (t : List ℤ) (r : ℕ) (follow path : List ℤ) : Type 0 where
   pub scripts : Script t r
   pub followed : Followed t follow
   pub divided : Divided t follow
-  pub long : length path ≡ 2048
+  pub long : length path ≡ 2 * rows t
+  pub noted : follow-in t path ≡ follow
 
--- ---- what is left: the lines of cs, and a path as long as before
+-- ---- what is left: the lines of cs, and a scratch that is as long as before, with the same `follow`
 
-pub record Lined (path : List ℤ) (cs : List Condition) (l : List ℤ) (p q : Progress) (l′ path′ : List ℤ) : Type 0 where
+pub record Lined (t path : List ℤ) (cs : List Condition) (l : List ℤ) (p q : Progress) (l′ path′ : List ℤ) : Type 0 where
   pub lines : Listed l p cs q l′
-  pub long : length path′ ≡ length path
+  pub kept : Same (rows t) 0 path path′
 
 -- a line whose formula ends with what was walked
 pub line-walked : (rule : Rule) (row : ℕ) (f : Formula) {t path path′ l l₁ l₂ l₃ : List ℤ} {g : Formula} {start : Progress} {p₁ past : ℕ} {q : Progress}
     → Walked t path 0 g l₁ p₁ past l₂ path′ → Wrote l (start .at) (formula-words f) past l₂ → Finished l₂ start past rule row q l₃
-    → Lined path (condition rule row f ∷ []) l start q l₃ path′
-line-walked rule row f w v e = record { lines = line-finished rule row f v e; long = w .kept .long }
+    → Lined t path (condition rule row f ∷ []) l start q l₃ path′
+line-walked rule row f w v e = record { lines = line-finished rule row f v e; kept = w .kept }
 
 -- ---- no assignment was passed
 
@@ -129,6 +132,7 @@ module _ (t : List ℤ) (k : ℕ) (path : List ℤ) where
       ended = body (g .loops);
       along = nothing-passed t path;
       long = g .long;
+      noted = g .noted;
     })
 
     body-after : before-end t follow (body-row t k) k ≡ wp (body-at t k) (end-formula t k)
@@ -148,12 +152,12 @@ module _ (t : List ℤ) (k : ℕ) (path : List ℤ) where
 -- ---- what follows a loop
 
 module _ (t : List ℤ) (k : ℕ) (follow : List ℤ) (end : ℕ) {path : List ℤ} (o : Loop t k) (g : Before t follow path 0 end k) where
-  pub row-below : k < length follow
-  row-below = let a = o .inside in let b = o .table .short in let c = g .course .followed .long in omega linear
+  pub in-scratch : rows t + k < length path
+  in-scratch = let a = o .inside in let c = g .long in omega linear
 
-  module _ {s : ℕ} {z : ℤ} (hf : s ≡ field-number z) (hz : z ≡ getD follow k (pos 0)) where
+  module _ {s : ℕ} (read : s ≡ row-on (follow-in t path) k) where
     next-is : s ≡ next t follow k
-    next-is = rw (hf, hz)
+    next-is = read ∙ ap (λ f. row-on f k) (g .noted)
 
     pub exit-before : Before t follow path 0 end s
     exit-before = record {
@@ -162,6 +166,7 @@ module _ (t : List ℤ) (k : ℕ) (follow : List ℤ) (end : ℕ) {path : List �
       ended = g .ended;
       along = g .along;
       long = g .long;
+      noted = g .noted;
     }
 
     pub exit-walked : {l l′ path′ : List ℤ} {p q : ℕ} → Walked t path 0 (before-end t follow s end) l p q l′ path′
@@ -181,6 +186,7 @@ module _ (t : List ℤ) (r : ℕ) (follow path : List ℤ) (g : MainReady t r fo
     ended = script (g .scripts);
     along = nothing-passed t path;
     long = g .long;
+    noted = g .noted;
   })
 
   script-after : before-end t follow (statement-row t r) r ≡ wp (stmt-at t (statement-row t r)) (end-formula t r)

@@ -12,6 +12,7 @@ ghost use Rattle.script.specs.declared.Connective.the-variants.{And};
 ghost use Rattle.script.specs.Syntax.{join};
 ghost use Rattle.script.specs.Words.{rule-number, formula-words};
 ghost use Rattle.theorems.specs.Writing.{Wrote};
+ghost use Rattle.following.specs.Follow.{follow-in};
 ghost use Rattle.wp_writer.specs.Loops.{Loop, guard-at, invariant-at};
 ghost use Rattle.wp_writer.specs.Walked.{Before};
 ghost use Rattle.line_writer.specs.Listed.{Listed, InRoom};
@@ -66,26 +67,27 @@ fn finish_line(
 pub fn write_guard(
     table: &[i32],
     k: RowNumber,
-    follow: &[i32],
-    path: &[i32],
+    scratch: &[i32],
     list: &mut [i32],
     at: Progress,
 ) -> Progress
-    requires { ⌜ GuardReady (now table) (k .0) (now follow) × InRoom (now list) at ⌝ }
+    requires { ⌜ GuardReady (now table) (k .0) (follow-in (now table) (now scratch)) × InRoom (now list) at ⌝ }
     ensures { λ q. ⌜ Listed (now (list .entry)) at (guard-lines (now (table .entry)) (k .0)) q (now (list .exit)) ⌝ }
 {
     let guard = RowNumber(field(table, k.0, 1));
+    let rows = table.len() / 4;
+    let follow = &scratch[rows..];
     if dividing::divides(follow, guard) {
         let p1 = formula_writer::push_kind(list, at.at, kinds::IMPLIES);
         let p2 = formula_writer::write_formula(
             table,
             wp_writer::invariant(table, k),
             list,
-            path,
+            scratch,
             0,
             p1,
         );
-        let p3 = divisor_writer::write_divisors(table, guard, follow, list, path, 0, p2);
+        let p3 = divisor_writer::write_divisors(table, guard, follow, list, scratch, 0, p2);
         return finish_line(list, at, p3, Rule::Guard, k);
     }
     at
@@ -95,33 +97,32 @@ pub fn write_guard(
 pub fn write_exit(
     table: &[i32],
     k: RowNumber,
-    follow: &[i32],
-    path: &mut [i32],
+    scratch: &mut [i32],
     list: &mut [i32],
     end: RowNumber,
     at: Progress,
 ) -> Progress
-    requires { ⌜ Loop (now table) (k .0) × (Before (now table) (now follow) (now path) 0 (end .0) (k .0) × InRoom (now list) at) ⌝ }
-    ensures { λ q. ⌜ Lined (now (path .entry))
-        (exit-line (now (table .entry)) (now (follow .entry)) (end .0) (k .0) ∷ [])
-        (now (list .entry)) at q (now (list .exit)) (now (path .exit)) ⌝ }
+    requires { ⌜ Loop (now table) (k .0) × (Before (now table) (follow-in (now table) (now scratch)) (now scratch) 0 (end .0) (k .0) × InRoom (now list) at) ⌝ }
+    ensures { λ q. ⌜ Lined (now (table .entry)) (now (scratch .entry))
+        (exit-line (now (table .entry)) (follow-in (now (table .entry)) (now (scratch .entry))) (end .0) (k .0) ∷ [])
+        (now (list .entry)) at q (now (list .exit)) (now (scratch .exit)) ⌝ }
 {
     let row = k.0;
     let guard = RowNumber(field(table, row, 1));
-    let next = script::field_number(follow[row]);
+    let next = following::next(table, scratch, row);
     let p1 = formula_writer::push_kind(list, at.at, kinds::IMPLIES);
     let p2 = formula_writer::push_kind(list, p1, kinds::AND);
     let p3 = formula_writer::write_formula(
         table,
         wp_writer::invariant(table, k),
         list,
-        path,
+        scratch,
         0,
         p2,
     );
     let p4 = formula_writer::push_kind(list, p3, kinds::NOT);
-    let p5 = formula_writer::write_formula(table, guard, list, path, 0, p4);
-    let p6 = wp_writer::write_before(table, next, follow, path, 0, list, end, p5);
+    let p5 = formula_writer::write_formula(table, guard, list, scratch, 0, p4);
+    let p6 = wp_writer::write_before(table, next, scratch, 0, list, end, p5);
     finish_line(list, at, p6, Rule::Exit, k)
 }
 
@@ -175,30 +176,29 @@ pub fn write_floor(
 pub fn write_step(
     table: &[i32],
     k: RowNumber,
-    follow: &[i32],
-    path: &mut [i32],
+    scratch: &mut [i32],
     list: &mut [i32],
     at: Progress,
 ) -> Progress
-    requires { ⌜ StepReady (now table) (k .0) (now follow) (now path) × InRoom (now list) at ⌝ }
-    ensures { λ q. ⌜ Lined (now (path .entry)) (step-line (now (table .entry)) (k .0) ∷ [])
-        (now (list .entry)) at q (now (list .exit)) (now (path .exit)) ⌝ }
+    requires { ⌜ StepReady (now table) (k .0) (follow-in (now table) (now scratch)) (now scratch) × InRoom (now list) at ⌝ }
+    ensures { λ q. ⌜ Lined (now (table .entry)) (now (scratch .entry)) (step-line (now (table .entry)) (k .0) ∷ [])
+        (now (list .entry)) at q (now (list .exit)) (now (scratch .exit)) ⌝ }
 {
     let body = field(table, k.0, 3);
     let p1 = formula_writer::push_kind(list, at.at, kinds::IMPLIES);
     let p2 = formula_writer::push_kind(list, p1, kinds::AND);
-    let p3 = write_entered(table, k, path, list, p2);
+    let p3 = write_entered(table, k, scratch, list, p2);
     let p4 = formula_writer::push_kind(list, p3, kinds::EQUAL);
     let p5 = formula_writer::write_expression(
         table,
         wp_writer::variant(table, k),
         list,
-        path,
+        scratch,
         0,
         p4,
     );
     let p6 = formula_writer::push_mark(list, p5, k);
-    let p7 = wp_writer::write_before(table, body, follow, path, 0, list, k, p6);
+    let p7 = wp_writer::write_before(table, body, scratch, 0, list, k, p6);
     finish_line(list, at, p7, Rule::Step, k)
 }
 
@@ -206,20 +206,19 @@ pub fn write_step(
 pub fn write_main(
     table: &[i32],
     row: RowNumber,
-    follow: &[i32],
-    path: &mut [i32],
+    scratch: &mut [i32],
     list: &mut [i32],
     at: Progress,
 ) -> Progress
-    requires { ⌜ MainReady (now table) (row .0) (now follow) (now path) × InRoom (now list) at ⌝ }
-    ensures { λ q. ⌜ Lined (now (path .entry)) (main-line (now (table .entry)) (row .0) ∷ [])
-        (now (list .entry)) at q (now (list .exit)) (now (path .exit)) ⌝ }
+    requires { ⌜ MainReady (now table) (row .0) (follow-in (now table) (now scratch)) (now scratch) × InRoom (now list) at ⌝ }
+    ensures { λ q. ⌜ Lined (now (table .entry)) (now (scratch .entry)) (main-line (now (table .entry)) (row .0) ∷ [])
+        (now (list .entry)) at q (now (list .exit)) (now (scratch .exit)) ⌝ }
 {
     let pre = RowNumber(field(table, row.0, 1));
     let statement = field(table, row.0, 2);
     let p1 = formula_writer::push_kind(list, at.at, kinds::IMPLIES);
-    let p2 = formula_writer::write_formula(table, pre, list, path, 0, p1);
-    let p3 = wp_writer::write_before(table, statement, follow, path, 0, list, row, p2);
+    let p2 = formula_writer::write_formula(table, pre, list, scratch, 0, p1);
+    let p3 = wp_writer::write_before(table, statement, scratch, 0, list, row, p2);
     finish_line(list, at, p3, Rule::Main, row)
 }
 

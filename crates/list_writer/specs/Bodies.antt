@@ -4,14 +4,15 @@ use mathlib.Core.Path.{_≡_, sym, ap, _∙_}
 use mathlib.Core.List.{List, [], _∷_, _++_}
 use native.Mathlib.Omega.{arith as linear}
 use lib.IntN.{ℤ}
-use lib.ListN.{length}
 use Rattle.script.specs.Syntax.{Stmt}
 use Rattle.script.specs.Conditions.{decreased, walk}
-use Rattle.script.specs.Rows.{field-number, word}
+use Rattle.script.specs.Rows.{field-number, rows, word}
+use Rattle.following.specs.Follow.{follow-in}
 use Rattle.following.specs.Course.{next, after-end}
 use Rattle.wp_writer.specs.Loops.{Loop, body-row, invariant-at, variant-at, body-at, while-is, body-below, loop-is}
 use Rattle.wp_writer.specs.Ends.{end-formula, end-decreased}
-use Rattle.wp_writer.specs.Walked.{Before}
+use Rattle.wp_writer.specs.Same.{Same, same-trans}
+use Rattle.wp_writer.specs.Walked.{Before, own-run}
 use Rattle.line_writer.specs.declared.Progress.{Progress}
 use Rattle.line_writer.specs.Listed.{Listed, InRoom, listed-then, listed-as, in-room-on}
 use Rattle.line_writer.specs.Guards.{GuardReady, guard-lines}
@@ -23,10 +24,9 @@ module _ (t follow : List ℤ) (end : ℕ) {s₀ : ℕ} {p₀ : Progress} {path�
   pub loop-here : Loop t s
   loop-here = record { table = g .walking .before .course .table; inside = g .walking .here; while = sym read ∙ kind }
 
-  pub guard-ready : GuardReady t s follow × InRoom l p
+  pub guard-ready : GuardReady t s (follow-in t path) × InRoom l p
   guard-ready =
-      let before = g .walking .before in
-      let k = before .course .table .short in
+      let before = own-run (g .walking .before) in
       let e = before .course .followed .long in
       (record { loops = loop-here; divided = before .divided; long = omega linear }, g .walking .room)
 
@@ -34,10 +34,10 @@ module _ (t follow : List ℤ) (end : ℕ) {s₀ : ℕ} {p₀ : Progress} {path�
     after-guard : InRoom l₁ p₁
     after-guard = in-room-on (g .walking .room) guarded
 
-    pub exit-ready : Loop t s × (Before t follow path 0 end s × InRoom l₁ p₁)
-    exit-ready = (loop-here, (g .walking .before, after-guard))
+    pub exit-ready : Loop t s × (Before t (follow-in t path) path 0 end s × InRoom l₁ p₁)
+    exit-ready = (loop-here, (own-run (g .walking .before), after-guard))
 
-    module _ {path₂ l₂ : List ℤ} {p₂ : Progress} (exited : Lined path (exit-line t follow end s ∷ []) l₁ p₁ p₂ l₂ path₂) where
+    module _ {path₂ l₂ : List ℤ} {p₂ : Progress} (exited : Lined t path (exit-line t (follow-in t path) end s ∷ []) l₁ p₁ p₂ l₂ path₂) where
       after-exit : InRoom l₂ p₂
       after-exit = in-room-on after-guard (exited .lines)
 
@@ -45,29 +45,33 @@ module _ (t follow : List ℤ) (end : ℕ) {s₀ : ℕ} {p₀ : Progress} {path�
       floor-ready = (loop-here, after-exit)
 
       module _ {l₃ : List ℤ} {p₃ : Progress} (floored : Listed l₂ p₂ (floor-line t s ∷ []) p₃ l₃) where
-        -- the path is as long as before
-        ready : {path′ : List ℤ} → length path′ ≡ length path → StepReady t s follow path′
+        -- the scratch is as long as before, and has the same run
+        ready : {path′ : List ℤ} → Same (rows t) 0 path path′ → StepReady t s follow path′
         ready e = record {
           loops = loop-here;
           followed = g .walking .before .course .followed;
           divided = g .walking .before .divided;
-          long = e ∙ g .walking .before .long;
+          long = e .long ∙ g .walking .before .long;
+          noted = e .behind ∙ g .walking .before .noted;
         }
 
         after-floor : InRoom l₃ p₃
         after-floor = in-room-on after-exit floored
 
         module _ {x : ℕ} (part : x ≡ body-row t s) where
-          pub body-walking : {k : ℕ} → s₀ ≡ k → (x < k) × Walking t follow path₂ s x l₃ p₃
+          pub body-walking : {k : ℕ} → s₀ ≡ k → (x < k) × Walking t (follow-in t path₂) path₂ s x l₃ p₃
           body-walking e =
               let a = g .lower in
               let h = g .walking .here in
               let b = body-below t s loop-here .0 in
-              (omega linear, record { before = step-before t s path₂ (ready (exited .long)) part; here = omega linear; room = after-floor })
+              (omega linear, record { before = own-run (step-before t s path₂ (ready (exited .kept)) part); here = omega linear; room = after-floor })
 
-          module _ {path₄ l₄ : List ℤ} {p₄ : Progress} (walked : Lined path₂ (walk-at t follow s x) l₃ p₃ p₄ l₄ path₄) where
-            pub step-ready : StepReady t s follow path₄ × InRoom l₄ p₄
-            step-ready = (ready (walked .long ∙ exited .long), in-room-on after-floor (walked .lines))
+          module _ {path₄ l₄ : List ℤ} {p₄ : Progress} (walked : Lined t path₂ (walk-at t (follow-in t path₂) s x) l₃ p₃ p₄ l₄ path₄) where
+            still : Same (rows t) 0 path path₄
+            still = same-trans (exited .kept) (walked .kept)
+
+            pub step-ready : StepReady t s (follow-in t path₄) path₄ × InRoom l₄ p₄
+            step-ready = (rw (ready still .noted) (ready still), in-room-on after-floor (walked .lines))
 
             body-walk : walk-at t follow s x ≡ walk (body-at t s) (decreased s (invariant-at t s) (variant-at t s))
             body-walk =
@@ -83,11 +87,12 @@ module _ (t follow : List ℤ) (end : ℕ) {s₀ : ℕ} {p₀ : Progress} {path�
             unfolding walk
             loop-walk = ap (λ (y : Stmt). walk y (rest-of t follow end s)) (loop-is t s loop-here)
 
-            pub loop-lined : {path₅ l₅ : List ℤ} {p₅ : Progress} → Lined path₄ (step-line t s ∷ []) l₄ p₄ p₅ l₅ path₅
-                → Lined path₀ (walk-at t follow end s₀) l₀ p₀ p₅ l₅ path₅
+            pub loop-lined : {path₅ l₅ : List ℤ} {p₅ : Progress} → Lined t path₄ (step-line t s ∷ []) l₄ p₄ p₅ l₅ path₅
+                → Lined t path₀ (walk-at t follow end s₀) l₀ p₀ p₅ l₅ path₅
             loop-lined stepped = listed t follow end g (record {
               lines = listed-as loop-walk
                   (listed-then guarded
-                  (listed-then (exited .lines) (listed-then floored (listed-then (rw body-walk at (walked .lines)) (stepped .lines)))));
-              long = stepped .long ∙ (walked .long ∙ exited .long);
+                  (listed-then (rw (g .walking .before .noted) at (exited .lines))
+                  (listed-then floored (listed-then (rw (ready (exited .kept) .noted, body-walk) at (walked .lines)) (stepped .lines)))));
+              kept = same-trans still (stepped .kept);
             })

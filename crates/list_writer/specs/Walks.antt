@@ -16,11 +16,13 @@ use Rattle.script.specs.Conditions.{Condition, walk}
 use Rattle.script.specs.Rows.{field-number, row, rows, word, parts}
 use Rattle.script.specs.Trees.{stmt-node, expr-at, formula-at, stmt-at}
 use Rattle.formula_writer.specs.Links.{Links}
+use Rattle.following.specs.Follow.{follow-in}
 use Rattle.following.specs.Course.{Course, next, stands}
 use Rattle.following.specs.Kinds.{Past-parts, leaf-row}
 use Rattle.following.specs.Parts.{not-end, stmt-here, links-here, follows-here, second-course, first-course, after-first, after-second, then-course, else-course}
 use Rattle.wp_writer.specs.Ends.{end-formula}
-use Rattle.wp_writer.specs.Walked.{Before, before-end}
+use Rattle.wp_writer.specs.Same.{Same, same-refl, same-trans}
+use Rattle.wp_writer.specs.Walked.{Before, before-end, own-run}
 use Rattle.line_writer.specs.declared.Progress.{Progress}
 use Rattle.line_writer.specs.Listed.{Listed, InRoom, listed-then, listed-none, listed-full, listed-as, in-room-on}
 use Rattle.line_writer.specs.Loops.{Lined, nothing-passed}
@@ -44,16 +46,16 @@ module _ (t follow : List ℤ) (end : ℕ) where
 
   pub record Turned (s₀ : ℕ) (p₀ : Progress) (path₀ l₀ : List ℤ) (s : ℕ) (p : Progress) (path l : List ℤ) : Type 0 where
     pub walking : Walking t follow path end s l p
-    pub long : length path ≡ length path₀
+    pub kept : Same (rows t) 0 path₀ path
     pub lower : s ≤ s₀
     pub lines : (q : Progress) (l″ : List ℤ) → Listed l p (walk-at t follow end s) q l″ → Listed l₀ p₀ (walk-at t follow end s₀) q l″
 
   pub begun : {s : ℕ} {p : Progress} {path l : List ℤ} → Walking t follow path end s l p → Turned s p path l s p path l
-  begun g = record { walking = g; long = refl; lower = omega linear; lines = λ q l″ w. w }
+  begun {path = path} g = record { walking = g; kept = same-refl (rows t) 0 path; lower = omega linear; lines = λ q l″ w. w }
 
   module _ {s₀ : ℕ} {p₀ : Progress} {path₀ l₀ : List ℤ} {s : ℕ} {p : Progress} {path l : List ℤ} (g : Turned s₀ p₀ path₀ l₀ s p path l) where
     abbrev Done : Progress → List ℤ → List ℤ → Type 0
-    Done q l′ path′ = Lined path₀ (walk-at t follow end s₀) l₀ p₀ q l′ path′
+    Done q l′ path′ = Lined t path₀ (walk-at t follow end s₀) l₀ p₀ q l′ path′
 
     abbrev course : Course t follow s 0
     course = g .walking .before .course
@@ -65,11 +67,11 @@ module _ (t follow : List ℤ) (end : ℕ) where
     in-table = let h = g .walking .here in let k = course .table .fours in omega linear
 
     -- the rest was listed
-    pub listed : {q : Progress} {l′ path′ : List ℤ} → Lined path (walk-at t follow end s) l p q l′ path′ → Done q l′ path′
-    listed {q} {l′} w = record { lines = g .lines q l′ (w .lines); long = w .long ∙ g .long }
+    pub listed : {q : Progress} {l′ path′ : List ℤ} → Lined t path (walk-at t follow end s) l p q l′ path′ → Done q l′ path′
+    listed {q} {l′} w = record { lines = g .lines q l′ (w .lines); kept = same-trans (g .kept) (w .kept) }
 
     pub listed-at-full : length l < p .at → Done p l path
-    listed-at-full h = listed (record { lines = listed-full h; long = refl })
+    listed-at-full h = listed (record { lines = listed-full h; kept = same-refl (rows t) 0 path })
 
     -- ---- skip, an assignment, an assertion: nothing is listed
 
@@ -83,37 +85,43 @@ module _ (t follow : List ℤ) (end : ℕ) where
         listed (record {
           lines = listed-as (ap (λ (x : Stmt). walk x (rest-of t follow end s)) (stmt-here t follow course more refl) ∙ none)
               (listed-none l p);
-          long = refl;
+          kept = same-refl (rows t) 0 path;
         })
 
     -- ---- a part of the statement at hand
 
-    part-before : {r : ℕ} {path′ : List ℤ} → Course t follow r 0 → length path′ ≡ length path → Before t follow path′ 0 end r
+    part-before : {r : ℕ} {path′ : List ℤ} → Course t follow r 0 → Same (rows t) 0 path path′ → Before t follow path′ 0 end r
     part-before {path′ = path′} c e = record {
       course = c;
       divided = g .walking .before .divided;
       ended = g .walking .before .ended;
       along = nothing-passed t path′;
-      long = e ∙ g .walking .before .long;
+      long = e .long ∙ g .walking .before .long;
+      noted = e .behind ∙ g .walking .before .noted;
     }
 
     -- where it is listed by a call
-    call : {r k : ℕ} → Course t follow r 0 → r < s → s₀ ≡ k → (r < k) × Walking t follow path end r l p
+    call : {r k : ℕ} → Course t follow r 0 → r < s → s₀ ≡ k → (r < k) × Walking t (follow-in t path) path end r l p
     call c h e =
         let a = g .lower in
         let b = g .walking .here in
-        (omega linear, record { before = part-before c refl; here = omega linear; room = g .walking .room })
+        (omega linear, record { before = own-run (part-before c (same-refl (rows t) 0 path)); here = omega linear; room = g .walking .room })
+
+    -- what it listed
+    called : (r : ℕ) {l₁ path₁ : List ℤ} {p₁ : Progress} → Lined t path (walk-at t (follow-in t path) end r) l p p₁ l₁ path₁
+        → Lined t path (walk-at t follow end r) l p p₁ l₁ path₁
+    called r w = rw (g .walking .before .noted) at w
 
     -- where it comes next, once cs were listed
     module _ {r : ℕ} {cs : List Condition} {l₁ path₁ : List ℤ} {p₁ : Progress} (c : Course t follow r 0) (h : r < s)
-        (e : walk-at t follow end s ≡ cs ++ walk-at t follow end r) (w : Lined path cs l p p₁ l₁ path₁) where
+        (e : walk-at t follow end s ≡ cs ++ walk-at t follow end r) (w : Lined t path cs l p p₁ l₁ path₁) where
       goes-on : Turned s₀ p₀ path₀ l₀ r p₁ path₁ l₁
       goes-on =
           let a = g .lower in
           let b = g .walking .here in
           record {
-            walking = record { before = part-before c (w .long); here = omega linear; room = in-room-on (g .walking .room) (w .lines) };
-            long = w .long ∙ g .long;
+            walking = record { before = part-before c (w .kept); here = omega linear; room = in-room-on (g .walking .room) (w .lines) };
+            kept = same-trans (g .kept) (w .kept);
             lower = omega linear;
             lines = λ q l″ v. g .lines q l″ (listed-as e (listed-then (w .lines) v));
           }
@@ -124,7 +132,7 @@ module _ (t follow : List ℤ) (end : ℕ) where
       sequence-links : Links t s (parts (Row.Statement (Sequence a b)))
       sequence-links = links-here t follow course more e
 
-      pub second-walking : {k : ℕ} → s₀ ≡ k → (b .0 < k) × Walking t follow path end (b .0) l p
+      pub second-walking : {k : ℕ} → s₀ ≡ k → (b .0 < k) × Walking t (follow-in t path) path end (b .0) l p
       second-walking m = call (second-course t follow course more e) (sequence-links .1 .0 .0) m
 
       sequence-walk : walk-at t follow end s ≡ walk-at t follow end (b .0) ++ walk-at t follow end (a .0)
@@ -137,9 +145,9 @@ module _ (t follow : List ℤ) (end : ℕ) where
       pub first-lower : a .0 < s
       first-lower = sequence-links .0 .0
 
-      pub first-turned : {l₁ path₁ : List ℤ} {p₁ : Progress} → Lined path (walk-at t follow end (b .0)) l p p₁ l₁ path₁
+      pub first-turned : {l₁ path₁ : List ℤ} {p₁ : Progress} → Lined t path (walk-at t (follow-in t path) end (b .0)) l p p₁ l₁ path₁
           → Turned s₀ p₀ path₀ l₀ (a .0) p₁ path₁ l₁
-      first-turned w = goes-on (first-course t follow course more e) first-lower sequence-walk w
+      first-turned w = goes-on (first-course t follow course more e) first-lower sequence-walk (called (b .0) w)
 
     -- ---- a branch
 
@@ -147,7 +155,7 @@ module _ (t follow : List ℤ) (end : ℕ) where
       branch-links : Links t s (parts (Row.Statement (If b x y)))
       branch-links = links-here t follow course more e
 
-      pub then-walking : {k : ℕ} → s₀ ≡ k → (x .0 < k) × Walking t follow path end (x .0) l p
+      pub then-walking : {k : ℕ} → s₀ ≡ k → (x .0 < k) × Walking t (follow-in t path) path end (x .0) l p
       then-walking m = call (then-course t follow course more e) (branch-links .1 .0 .0) m
 
       branch-walk : walk-at t follow end s ≡ walk-at t follow end (x .0) ++ walk-at t follow end (y .0)
@@ -160,6 +168,6 @@ module _ (t follow : List ℤ) (end : ℕ) where
       pub else-lower : y .0 < s
       else-lower = branch-links .1 .1 .0 .0
 
-      pub else-turned : {l₁ path₁ : List ℤ} {p₁ : Progress} → Lined path (walk-at t follow end (x .0)) l p p₁ l₁ path₁
+      pub else-turned : {l₁ path₁ : List ℤ} {p₁ : Progress} → Lined t path (walk-at t (follow-in t path) end (x .0)) l p p₁ l₁ path₁
           → Turned s₀ p₀ path₀ l₀ (y .0) p₁ path₁ l₁
-      else-turned w = goes-on (else-course t follow course more e) else-lower branch-walk w
+      else-turned w = goes-on (else-course t follow course more e) else-lower branch-walk (called (x .0) w)

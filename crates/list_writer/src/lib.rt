@@ -6,11 +6,14 @@ use script::RowNumber;
 use script::field;
 use script::kinds;
 ghost use mathlib.Core.Path.{_≡_};
-ghost use Prim.Native.Nat.{_≤_};
+ghost use Prim.Native.Nat.{_*_, _≤_};
 ghost use lib.ListN.{length};
+ghost use Rattle.script.specs.Rows.{rows};
 ghost use Rattle.script.specs.Conditions.{conditions};
 ghost use Rattle.script.specs.Trees.{tree};
 ghost use Rattle.script.specs.Refusals.{verdict, accepted};
+ghost use Rattle.following.specs.Follow.{follow-in, Followed};
+ghost use Rattle.dividing.specs.Divided.{Divided};
 ghost use Rattle.line_writer.specs.Spelled.{Whole};
 ghost use Rattle.line_writer.specs.Loops.{Lined};
 ghost use Rattle.list_writer.specs.Walks.{Walking, walk-at};
@@ -19,16 +22,15 @@ ghost use Rattle.list_writer.specs.Walks.{Walking, walk-at};
 fn list_conditions(
     table: &[i32],
     first: usize,
-    follow: &[i32],
-    path: &mut [i32],
+    scratch: &mut [i32],
     list: &mut [i32],
     end: RowNumber,
     at: Progress,
 ) -> Progress
-    requires { ⌜ Walking (now table) (now follow) (now path) (end .0) first (now list) at ⌝ }
-    ensures { λ q. ⌜ Lined (now (path .entry))
-        (walk-at (now (table .entry)) (now (follow .entry)) (end .0) first)
-        (now (list .entry)) at q (now (list .exit)) (now (path .exit)) ⌝ }
+    requires { ⌜ Walking (now table) (follow-in (now table) (now scratch)) (now scratch) (end .0) first (now list) at ⌝ }
+    ensures { λ q. ⌜ Lined (now (table .entry)) (now (scratch .entry))
+        (walk-at (now (table .entry)) (follow-in (now (table .entry)) (now (scratch .entry))) (end .0) first)
+        (now (list .entry)) at q (now (list .exit)) (now (scratch .exit)) ⌝ }
 {
     let mut s = first;
     let mut p = at;
@@ -41,23 +43,23 @@ fn list_conditions(
             kinds::SEQUENCE => {
                 let a = field(table, s, 1);
                 let b = field(table, s, 2);
-                p = list_conditions(table, b, follow, path, list, end, p);
+                p = list_conditions(table, b, scratch, list, end, p);
                 s = a;
             }
             kinds::IF => {
                 let x = field(table, s, 2);
                 let y = field(table, s, 3);
-                p = list_conditions(table, x, follow, path, list, end, p);
+                p = list_conditions(table, x, scratch, list, end, p);
                 s = y;
             }
             kinds::WHILE => {
                 let k = RowNumber(s);
                 let body = field(table, s, 3);
-                let p1 = line_writer::write_guard(table, k, follow, path, list, p);
-                let p2 = line_writer::write_exit(table, k, follow, path, list, end, p1);
-                let p3 = line_writer::write_floor(table, k, path, list, p2);
-                let p4 = list_conditions(table, body, follow, path, list, k, p3);
-                return line_writer::write_step(table, k, follow, path, list, p4);
+                let p1 = line_writer::write_guard(table, k, scratch, list, p);
+                let p2 = line_writer::write_exit(table, k, scratch, list, end, p1);
+                let p3 = line_writer::write_floor(table, k, scratch, list, p2);
+                let p4 = list_conditions(table, body, scratch, list, k, p3);
+                return line_writer::write_step(table, k, scratch, list, p4);
             }
             // skip, an assignment, an assertion
             _ => return p,
@@ -65,19 +67,27 @@ fn list_conditions(
     }
 }
 
-// Writes the whole list of a table that is accepted: the conditions of the script's statement, main, and their number.
-pub fn write_list(table: &[i32], list: &mut [i32]) -> Progress
-    requires { ⌜ (verdict (now table) ≡ accepted) × (length (now list) ≤ 16384) ⌝ }
-    ensures { λ q. ⌜ Whole (now (list .entry)) (conditions (tree (now (table .entry)))) q (now (list .exit)) ⌝ }
+// Fills in what follows each statement, and which rows divide.
+fn find_follow(table: &[i32], follow: &mut [i32])
+    requires { ⌜ (verdict (now table) ≡ accepted) × (length (now follow) ≡ rows (now table)) ⌝ }
+    ensures { λ r. ⌜ Followed (now (table .entry)) (now (follow .exit)) × Divided (now (table .entry)) (now (follow .exit)) ⌝ }
 {
-    let mut follow = [0i32; 2048];
-    let mut path = [0i32; 2048];
-    following::find_follow(table, &mut follow);
-    dividing::find_divisions(table, &mut follow);
-    let script = RowNumber(table.len() / 4 - 1);
+    following::find_follow(table, follow);
+    dividing::find_divisions(table, follow);
+}
+
+// Writes the whole list of a table that is accepted: the conditions of the script's statement, main, and their number.
+pub fn write_list(table: &[i32], list: &mut [i32], scratch: &mut [i32]) -> Progress
+    requires { ⌜ (verdict (now table) ≡ accepted) × ((length (now list) ≤ 16384) × (length (now scratch) ≡ 2 * rows (now table))) ⌝ }
+    ensures { λ q. ⌜ Whole (now (list .entry)) (conditions (tree (now (table .entry)))) q (now (list .exit)) ⌝ }
+    ensures { λ q. ⌜ length (now (scratch .exit)) ≡ length (now (scratch .entry)) ⌝ }
+{
+    let rows = table.len() / 4;
+    find_follow(table, &mut scratch[rows..]);
+    let script = RowNumber(rows - 1);
     let statement = field(table, script.0, 2);
     let start = Progress { at: 0, count: 0 };
-    let p = list_conditions(table, statement, &follow, &mut path, list, script, start);
-    let q = line_writer::write_main(table, script, &follow, &mut path, list, p);
+    let p = list_conditions(table, statement, scratch, list, script, start);
+    let q = line_writer::write_main(table, script, scratch, list, p);
     line_writer::write_count(list, q)
 }

@@ -1,6 +1,7 @@
 -- 01, "Trial rows": the starred ones, and those of the others that computation reaches, as rows of a single statement that
 -- the prover settles by computing the definitions. 02, P2, moves one of them, "the case with target 256 becomes planned": within
--- 256 variables it is what 01 says. Beside it stand rows at both limits. Those of 02, P5, are in `DivisionFigures`. Assumes nothing.
+-- 256 variables it is what 01 says. Beside it stand rows at both limits. 02, P8, moves those with scratch 281, 13 and 0; what
+-- they were is in the theorems' `ScratchRules`. Those of 02, P5, are in `DivisionFigures`. Assumes nothing.
 use Prim.Native.Nat.{ℕ, zero, suc, _+_, _*_}
 use mathlib.Core.Path.{_≡_, refl}
 use mathlib.Core.Bool.{Bool, true, false}
@@ -47,6 +48,11 @@ example-a = example (2, 0, 0, 0) (4, 11, 12, 0) (33, 0, 13, 0)
 
 unfoldable pub four-rows : List ℤ
 four-rows = (16, 0, 0, 0) ⨾ (32, 0, 0, 0) ⨾ (16, 0, 0, 0) ⨾ (48, 0, 1, 2) ⨾ []
+
+-- skip; skip; skip: its list is as short, and its rows are twice as many
+unfoldable pub three-skips : List ℤ
+three-skips =
+    (16, 0, 0, 0) ⨾ (32, 0, 0, 0) ⨾ (32, 0, 0, 0) ⨾ (34, 1, 2, 0) ⨾ (32, 0, 0, 0) ⨾ (34, 3, 4, 0) ⨾ (16, 0, 0, 0) ⨾ (48, 0, 5, 6) ⨾ []
 
 -- true; if true then while true do skip (invariant true, variant 0) else while false do skip (true, 1); true
 unfoldable pub loops-in-branches : List ℤ
@@ -146,12 +152,22 @@ trials : List Trial
 trials =
     generates example-a 512 5120 (planned 4 94)
     ∷ generates example-a 93 5120 (refusal 12 0)
-    ∷ generates example-a 94 281 (refusal 11 0)
+    ∷ generates example-a 94 281 (planned 4 94)
     ∷ generates example-a 94 282 (planned 4 94)
+    ∷ generates example-a 94 40 (planned 4 94)
+    ∷ generates example-a 94 39 (refusal 11 0)
+    ∷ generates example-a 93 39 (refusal 11 0)
+    ∷ generates example-a 93 40 (refusal 12 0)
     ∷ lists four-rows (25 ∷ 16 ∷ 16 ∷ 4 ∷ 3 ∷ 3 ∷ 1 ∷ [])
     ∷ generates four-rows 6 12 (refusal 12 0)
-    ∷ generates four-rows 7 13 (refusal 11 0)
-    ∷ generates four-rows 0 0 (refusal 12 0)
+    ∷ generates four-rows 7 13 (planned 1 7)
+    ∷ generates four-rows 7 8 (planned 1 7)
+    ∷ generates four-rows 7 7 (refusal 11 0)
+    ∷ generates four-rows 0 0 (refusal 11 0)
+    ∷ generates four-rows 0 7 (refusal 11 0)
+    ∷ generates four-rows 0 8 (refusal 12 0)
+    ∷ generates three-skips 7 15 (refusal 11 0)
+    ∷ generates three-skips 7 16 (planned 1 7)
     ∷ generates [] 512 5120 (refusal 1 0)
     ∷ measures 8192 false
     ∷ measures 8196 true
@@ -240,7 +256,7 @@ trials =
     ∷ []
 
 trials-hold : map observed trials ≡ map expected trials
-unfolding trials observed expected names-in one-variable numbers example example-a four-rows loops-in-branches loops-in-sequence loop-in-loop branches nested _⨾_ outcome-within outcome-for verdict-within length-test row-test-within script-test unlinked-test target-test reading-test nesting-test lowest row-fault-within linked misread misreads row row-of expr formula stmt expr-at formula-at stmt-at tree nesting conditions walk wp divisors divisorsᶠ subst-expr subst-formula list-words all-lines line-words expr-words formula-words read-expr-within read-formula-within spelled-within found-within line-before-within lines-before-within lines-within line-at-within
+unfolding trials observed expected names-in one-variable numbers example example-a four-rows three-skips loops-in-branches loops-in-sequence loop-in-loop branches nested _⨾_ outcome-within outcome-for verdict-within length-test row-test-within script-test unlinked-test target-test reading-test nesting-test lowest row-fault-within linked misread misreads row row-of expr formula stmt expr-at formula-at stmt-at tree nesting conditions walk wp divisors divisorsᶠ subst-expr subst-formula list-words all-lines line-words expr-words formula-words read-expr-within read-formula-within spelled-within found-within line-before-within lines-before-within lines-within line-at-within
 trials-hold = refl
 
 -- ---- "With guard 0 ≤ x, variant x and body x := x − 1, a start at 0 makes one pass."

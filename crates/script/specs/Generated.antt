@@ -1,17 +1,16 @@
--- 01, "Room and scratch": what the generator answers and leaves in both buffers, for every table, list length and scratch
--- length; at the end with a limit in place of the number of variables. Assumes nothing.
-use Prim.Native.Nat.{ℕ, _+_, _*_, _-_, min}
+-- 01, "Room and scratch", with 02, P8, on scratch: what the generator answers and leaves in both buffers, for every table, list
+-- length and scratch length; at the end with a limit in place of the number of variables. Assumes nothing.
+use Prim.Native.Nat.{ℕ, _*_, _-_, min}
 use mathlib.Core.List.{List, _++_}
 use mathlib.Core.Bool.{cond}
 use lib.IntN.{ℤ, pos}
 use lib.Dec.{ltb}
 use lib.ListN.{length, replicate}
 use Rattle.script.specs.declared.Answer.{Answer}
-use Rattle.script.specs.Syntax.{Tree}
 use Rattle.script.specs.Conditions.{Condition, conditions}
 use Rattle.script.specs.Words.{list-words}
-use Rattle.script.specs.Trees.{tree, nesting}
-use Rattle.script.specs.Rows.{variables}
+use Rattle.script.specs.Trees.{tree}
+use Rattle.script.specs.Rows.{rows, variables}
 use Rattle.script.specs.Refusals.{accepted, refused, verdict-within}
 
 -- an answer ("An answer holds: number, row, conditions, words used."), and every word that the list and scratch then hold
@@ -42,23 +41,24 @@ plan cs list scratch = record {
 abbrev pub room : ℕ → ℕ
 room list = min list 16384
 
--- "Scratch must hold (nesting + 2) × room words."
-abbrev pub scratch-need : Tree → ℕ → ℕ
-scratch-need t list = (nesting (t .body) + 2) * room list
+-- 02, P8: "from 2 × rows scratch words, whatever the room"
+abbrev pub scratch-need : List ℤ → ℕ
+scratch-need table = 2 * rows table
 
--- 11: "scratch too short"; 12: "the list is longer than room"; 0: "list written; row 0"
-unfoldable pub outcome-for : Tree → ℕ → ℕ → Outcome
-outcome-for t list scratch =
-    cond (ltb scratch (scratch-need t list)) (refuse 11 0 list scratch)
-    (cond (ltb (room list) (length (list-words (conditions t)))) (refuse 12 0 list scratch)
-    (plan (conditions t) list scratch))
+-- where the conditions are to be listed and so much scratch is needed. 11: "when scratch is below that"; 12: "the list is longer
+-- than room"; 0: "list written; row 0"
+unfoldable pub outcome-for : ℕ → List Condition → ℕ → ℕ → Outcome
+outcome-for need cs list scratch =
+    cond (ltb scratch need) (refuse 11 0 list scratch)
+    (cond (ltb (room list) (length (list-words cs))) (refuse 12 0 list scratch)
+    (plan cs list scratch))
 
 -- where the variables are those below a limit
 unfoldable pub outcome-within : ℕ → List ℤ → ℕ → ℕ → Outcome
 outcome-within limit table list scratch =
     elim (verdict-within limit table) [
       | refused n r ↦ refuse n r list scratch
-      | accepted ↦ outcome-for (tree table) list scratch
+      | accepted ↦ outcome-for (scratch-need table) (conditions (tree table)) list scratch
     ]
 
 abbrev pub outcome : List ℤ → ℕ → ℕ → Outcome

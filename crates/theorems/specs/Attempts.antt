@@ -96,11 +96,11 @@ false-body =
 
 record Facts : Type 0 where
   example-accepted : verdict example-a ≡ accepted
-  example-need : scratch-need (tree example-a) 512 ≤ 5120
+  example-need : scratch-need example-a ≤ 5120
   example-answer : outcome example-a 512 5120 .answer ≡ planned 4 94
   example-second : getD (outcome example-a 512 5120 .list) 1 (pos 0) ≡ pos 23
   sequence-accepted : verdict loops-in-sequence ≡ accepted
-  sequence-need : scratch-need (tree loops-in-sequence) 512 ≤ 5120
+  sequence-need : scratch-need loops-in-sequence ≤ 5120
   sequence-count : outcome loops-in-sequence 512 5120 .answer .conditions ≡ 7
   first-four : first-count loops-in-sequence ≡ 4
   first-fits : length (first-words loops-in-sequence) ≤ 512
@@ -144,7 +144,7 @@ refuses-all f meets h = h example-a 512 5120 (ap (λ (a : Answer). a .number) (m
 
 -- a body that lists n conditions gives as many as there are
 as-many : (f : Body) → Meets f → (n : List ℤ → ℕ) (ws : List ℤ → List ℤ) → Lists f n ws → (t : List ℤ) → verdict t ≡ accepted
-    → length (ws t) ≤ 512 → scratch-need (tree t) 512 ≤ 5120 → n t ≡ outcome t 512 5120 .answer .conditions
+    → length (ws t) ≤ 512 → scratch-need t ≤ 5120 → n t ≡ outcome t 512 5120 .answer .conditions
 as-many f meets n ws h t ok fits enough =
     ap (λ (a : Answer). a .conditions) (sym (h t 512 5120 ok fits enough .0) ∙ meets .answer t 512 5120)
 
@@ -171,7 +171,7 @@ leaves-rest-out f meets h =
 
 -- "writes nothing and reports planned", whatever counts it reports
 abbrev pub Writes-nothing : Body → Type 0
-Writes-nothing f = (t : List ℤ) (l s : ℕ) → verdict t ≡ accepted → scratch-need (tree t) l ≤ s
+Writes-nothing f = (t : List ℤ) (l s : ℕ) → verdict t ≡ accepted → scratch-need t ≤ s
     → (f t l s .answer .number ≡ 0) × (f t l s .list ≡ zeros l)
 
 pub writes-nothing : (f : Body) → Meets f → Writes-nothing f → ⊥

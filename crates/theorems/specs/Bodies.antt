@@ -44,7 +44,7 @@ planned n w = record { number = 0; row = 0; conditions = n; words = w }
 
 -- a body that plans every accepted table for which it has room and scratch, with the words `ws` of n conditions for it
 abbrev pub Lists : Body → (List ℤ → ℕ) → (List ℤ → List ℤ) → Type 0
-Lists f n ws = (t : List ℤ) (l s : ℕ) → verdict t ≡ accepted → length (ws t) ≤ l → scratch-need (tree t) l ≤ s
+Lists f n ws = (t : List ℤ) (l s : ℕ) → verdict t ≡ accepted → length (ws t) ≤ l → scratch-need t ≤ s
     → (f t l s .answer ≡ planned (n t) (length (ws t))) × (take (length (ws t)) (f t l s .list) ≡ ws t)
 
 -- there is such a body, whatever the words
@@ -56,10 +56,10 @@ such-a-body n ws = (f, λ t l s h fits enough. (refl, take-append-seam (ws t) _)
 
 -- ---- a run that fails refutes demand 3
 
--- an accepted table whose run from a state that meets the precondition fails, with a bench for a list of 512 words
+-- an accepted table whose run from a state that meets the precondition fails, with scratch enough
 pub record Failing (t : List ℤ) : Type 0 where
   pub accepts : verdict t ≡ accepted
-  pub need : scratch-need (tree t) 512 ≤ 5120
+  pub need : scratch-need t ≤ 5120
   pub pre : T (holds whole zero-state (tree t .pre))
   pub steps : ℕ
   pub cause : Cause

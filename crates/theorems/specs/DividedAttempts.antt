@@ -33,7 +33,7 @@ use Rattle.script.specs.Promise.{All-valid}
 use Rattle.script.specs.Computed.{_⨾_, zero-state}
 use Rattle.theorems.specs.Truths.{implies-true}
 use Rattle.theorems.specs.Unchanged.{wp₀, walk₀, conditions₀}
-use Rattle.theorems.specs.NoDivision.{outcome-for₀, outcome₀}
+use Rattle.theorems.specs.NoDivision.{outcome₀}
 use Rattle.theorems.specs.Bodies.{Body, Demanded, Lists, planned, Failing, lists-valid}
 use Rattle.theorems.specs.WrongItems.{divisors-by, divisors-byᶠ}
 use Rattle.theorems.specs.WrongRules.{wp-by, walk-by, conditions-by}
@@ -90,7 +90,7 @@ after-pass =
 pub fitted-before : (outcome₀ in-assignment 7 14 .answer ≡ planned 1 7)
     × (outcome in-assignment 7 14 .answer ≡ refusal 12 0)
     × (outcome in-assignment 13 26 .answer ≡ planned 1 13)
-unfolding in-assignment _⨾_ outcome-within outcome-for outcome₀ outcome-for₀ conditions₀ walk₀ wp₀ verdict-within length-test row-test-within script-test unlinked-test target-test reading-test nesting-test lowest row-fault-within linked misread misreads row row-of expr formula stmt expr-at formula-at stmt-at tree nesting conditions walk wp divisors divisorsᶠ subst-expr subst-formula list-words all-lines line-words expr-words formula-words
+unfolding in-assignment _⨾_ outcome-within outcome-for outcome₀ conditions₀ walk₀ wp₀ verdict-within length-test row-test-within script-test unlinked-test target-test reading-test nesting-test lowest row-fault-within linked misread misreads row row-of expr formula stmt expr-at formula-at stmt-at tree nesting conditions walk wp divisors divisorsᶠ subst-expr subst-formula list-words all-lines line-words expr-words formula-words
 fitted-before = (refl, refl, refl)
 
 -- ---- by demand 3 alone

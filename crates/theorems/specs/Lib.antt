@@ -61,10 +61,11 @@ pub mod Spelling
 pub mod Line
 pub mod ReadBack
 pub mod Lookup
--- ---- the whole answer, demand 3, and stored tables and lists (02, P2)
+-- ---- the whole answer, demand 3, the rules for scratch (02, P8), and stored tables and lists (02, P2)
 
 pub mod Outcomes
 pub mod WholeAnswer
+pub mod ScratchRules
 pub mod Demand
 pub mod StoredTables
 pub mod StoredLists

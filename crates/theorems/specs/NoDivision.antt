@@ -1,6 +1,6 @@
 -- 02, P5: "What has no div or mod adds nothing", of tables: where no guard and no assigned expression of a table's tree
--- divides, the generator answers and leaves what it did before P5 (`same-outcome`, with that outcome stated again: the verdict is
--- the present one, the conditions are 01's); and so it does for a table without a div or mod row (`same-for-table`), and for
+-- divides, the generator answers and leaves what it did before P5 (`same-outcome`, with that outcome stated again: the verdict
+-- and the scratch that is needed are the present ones, the conditions are 01's); and so it does for a table without a div or mod row (`same-for-table`), and for
 -- every table that is refused with 1 to 10.
 -- Argument: the first by `same-conditions`; the second by induction on the depth, since a tree's operators are those of its
 -- rows; past the last row of an accepted table there is none (`past-end`). Assumes nothing.
@@ -8,48 +8,32 @@ use Prim.Native.Nat.{ℕ, zero, suc, _+_, _*_, _-_, _≤_, _<_}
 use native.Mathlib.Omega.{arith as linear}
 use native.Mathlib.Decide.{decLt}
 use mathlib.Core.Path.{_≡_, refl, ap, ap₂}
-use mathlib.Core.Bool.{Bool, false, cond, _||_}
+use mathlib.Core.Bool.{Bool, false, _||_}
 use mathlib.Core.List.{List, [], _∷_}
 use lib.IntN.{ℤ, pos}
-use lib.Dec.{ltb}
 use lib.ListN.{length, getD}
 use Rattle.script.specs.declared.ExpressionRow.the-variants.{Constant, Variable, Arithmetic, Negate, Mark, Choose}
 use Rattle.script.specs.declared.FormulaRow.the-variants.{True, False, Comparison, Not, Junction}
 use Rattle.script.specs.declared.StatementRow.the-variants.{Skip, Assign, Sequence, If, While, Assert}
 use Rattle.script.specs.declared.Row.{Row}
 use Rattle.script.specs.declared.Row.the-variants as Row
-use Rattle.script.specs.Syntax.{Expr, Formula, Stmt, Tree}
-use Rattle.script.specs.Words.{list-words}
+use Rattle.script.specs.Syntax.{Expr, Formula, Stmt}
 use Rattle.script.specs.Rows.{at-kind, row-of, row, rows}
 use Rattle.script.specs.Trees.{expr-node, formula-node, loop-node, stmt-node, script-node, expr, formula, stmt, expr-at, formula-at, stmt-at, tree}
 use Rattle.script.specs.Refusals.{Verdict, accepted, refused, verdict}
-use Rattle.script.specs.Generated.{Outcome, refuse, plan, room, scratch-need, outcome-for, outcome, outcome-within}
+use Rattle.script.specs.Conditions.{conditions}
+use Rattle.script.specs.Generated.{Outcome, refuse, scratch-need, outcome-for, outcome, outcome-within}
 use Rattle.theorems.specs.Accepted.{passed}
 use Rattle.theorems.specs.Unchanged.{is-division, divides, dividesᶠ, Undivided, conditions₀, same-conditions}
 
 -- ---- the outcome before P5
 
-unfoldable pub outcome-for₀ : Tree → ℕ → ℕ → Outcome
-outcome-for₀ t list scratch =
-    cond (ltb scratch (scratch-need t list)) (refuse 11 0 list scratch)
-    (cond (ltb (room list) (length (list-words (conditions₀ t)))) (refuse 12 0 list scratch)
-    (plan (conditions₀ t) list scratch))
-
 unfoldable pub outcome₀ : List ℤ → ℕ → ℕ → Outcome
 outcome₀ table list scratch =
     elim (verdict table) [
       | refused n r ↦ refuse n r list scratch
-      | accepted ↦ outcome-for₀ (tree table) list scratch
+      | accepted ↦ outcome-for (scratch-need table) (conditions₀ (tree table)) list scratch
     ]
-
-same-outcome-for : (t : Tree) (list scratch : ℕ) → Undivided (t .body) → outcome-for t list scratch ≡ outcome-for₀ t list scratch
-unfolding outcome-for outcome-for₀
-same-outcome-for t list scratch u =
-    ap
-    (λ cs.
-    cond (ltb scratch (scratch-need t list)) (refuse 11 0 list scratch)
-    (cond (ltb (room list) (length (list-words cs))) (refuse 12 0 list scratch) (plan cs list scratch)))
-    (same-conditions t u)
 
 pub same-outcome : (t : List ℤ) (list scratch : ℕ) → (verdict t ≡ accepted → Undivided (tree t .body))
     → outcome t list scratch ≡ outcome₀ t list scratch
@@ -57,10 +41,10 @@ unfolding outcome-within outcome₀
 same-outcome t list scratch u = by-verdict (verdict t) u
   where
     by-verdict : (v : Verdict) → (v ≡ accepted → Undivided (tree t .body))
-        → _≡_ {A = Outcome} (elim v [ refused n r ↦ refuse n r list scratch | accepted ↦ outcome-for (tree t) list scratch ])
-        (elim v [ refused n r ↦ refuse n r list scratch | accepted ↦ outcome-for₀ (tree t) list scratch ])
+        → _≡_ {A = Outcome} (elim v [ refused n r ↦ refuse n r list scratch | accepted ↦ outcome-for (scratch-need t) (conditions (tree t)) list scratch ])
+        (elim v [ refused n r ↦ refuse n r list scratch | accepted ↦ outcome-for (scratch-need t) (conditions₀ (tree t)) list scratch ])
     by-verdict (refused n r) w = refl
-    by-verdict accepted w = same-outcome-for (tree t) list scratch (w refl)
+    by-verdict accepted w = ap (λ cs. outcome-for (scratch-need t) cs list scratch) (same-conditions (tree t) (w refl))
 
 -- ---- a table without a div or mod row
 

@@ -26,9 +26,9 @@ module _ (P : Outcome → Type 0) (table : List ℤ) (list scratch : ℕ) (refus
   of-tests h false false e = planned h (ltb-false (room list) _ e)
 
   of-verdict : (v : Verdict) → verdict table ≡ v
-      → P (elim v [ refused n r ↦ refuse n r list scratch | accepted ↦ outcome-for (tree table) list scratch ])
+      → P (elim v [ refused n r ↦ refuse n r list scratch | accepted ↦ outcome-for (scratch-need table) (conditions (tree table)) list scratch ])
   unfolding outcome-for
-  of-verdict accepted h = of-tests h (ltb scratch (scratch-need (tree table) list)) _ refl
+  of-verdict accepted h = of-tests h (ltb scratch (scratch-need table)) _ refl
   of-verdict (refused n r) h = refusals n r (λ e. let k = one-to-ten table n r h in omega linear)
 
   pub outcome-cases : P (outcome table list scratch)

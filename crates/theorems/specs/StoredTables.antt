@@ -20,7 +20,8 @@ use Rattle.script.specs.declared.Sort.the-variants.{Unknown}
 use Rattle.script.specs.Rows.{Field, value, variable, target, loop, link, fields, sort-of, rows, row, variables}
 use Rattle.script.specs.Trees.{tree}
 use Rattle.script.specs.Refusals.{Verdict, accepted, refused, _and-then_, lowest, same-sort, in-range-within, row-fault-within, length-test, row-test-within, verdict-within, verdict}
-use Rattle.script.specs.Generated.{Outcome, refuse, outcome-for, outcome-within, outcome}
+use Rattle.script.specs.Conditions.{conditions}
+use Rattle.script.specs.Generated.{Outcome, refuse, scratch-need, outcome-for, outcome-within, outcome}
 use Rattle.theorems.specs.Faults.{Some}
 use Rattle.theorems.specs.Lowest.{passed, stopped}
 
@@ -128,7 +129,7 @@ module _ (a b : ℕ) (rises : a ≤ b) (ws : List ℤ) where
       where
         answered : Verdict → Outcome
         answered (refused n r) = refuse n r list scratch
-        answered accepted = outcome-for (tree ws) list scratch
+        answered accepted = outcome-for (scratch-need ws) (conditions (tree ws)) list scratch
 
     pub without-new : ((r : ℕ) → r < rows ws → ¬ New-at a b ws r) → outcome-within a ws list scratch ≡ outcome-within b ws list scratch
     without-new none = ⊎-elim (λ e. e) (λ h. absurd (none (h .0) (h .1) (h .3))) outcome-stays

@@ -39,7 +39,7 @@ occasions t list scratch =
     ∷ (λ k r. (k ≡ 8) × Lowest (λ q. Assigns-frozen (row t q)) (rows t) r)
     ∷ (λ k r. (k ≡ 9) × Lowest (Misplaced t) (rows t) r)
     ∷ (λ k r. (k ≡ 10) × (r ≡ 0) × (8 < nesting (tree t .body)))
-    ∷ (λ k r. (k ≡ 11) × (r ≡ 0) × (scratch < scratch-need (tree t) list))
+    ∷ (λ k r. (k ≡ 11) × (r ≡ 0) × (scratch < scratch-need t))
     ∷ (λ k r. (k ≡ 12) × (r ≡ 0) × (room list < length (list-words (conditions (tree t)))))
     ∷ []
 
@@ -91,7 +91,7 @@ first-of (test (refused j q) says rest) k r =
 
 module _ (t : List ℤ) (list scratch : ℕ) where
   scratch-short : Bool
-  scratch-short = ltb scratch (scratch-need (tree t) list)
+  scratch-short = ltb scratch (scratch-need t)
 
   list-long : Bool
   list-long = ltb (room list) (length (list-words (conditions (tree t))))

@@ -20,8 +20,13 @@ fn within(name: &[u8], room: usize, bench: usize) {
 pub fn rooms() {
     within(b"A", 512, 5120);
     within(b"A, room 93", 93, 5120);
+    // 11 by document 01; planned since 02, P8.
     within(b"A, room 94, scratch 281", 94, 281);
     within(b"A, room 94, scratch 282", 94, 282);
+    within(b"A, room 94, scratch 40", 94, 40);
+    within(b"A, room 94, scratch 39", 94, 39);
+    within(b"A, room 93, scratch 40", 93, 40);
+    within(b"A, room 93, scratch 39", 93, 39);
 }
 
 // With these words in the row, and 0.

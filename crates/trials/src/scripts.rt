@@ -39,7 +39,7 @@ const NO_VARIABLE: [i32; 9] = [20, 2, 1024, 2, 255, 4, 0, 5, 1];
 pub fn all() {
     let table = example::rows();
     let mut list = [7; 94];
-    let mut scratch = [7; 282];
+    let mut scratch = [7; 40];
     let mut text = [7; 512];
     let mut exact = [7; 179];
     let mut short = [7; 178];

@@ -1,17 +1,61 @@
-// The script of four rows, and tables by their number of words.
+// The script of four rows, one of eight with as short a list, and tables by their number of words.
 
 use crate::run;
 
 const FOUR_ROWS: [i32; 16] = [16, 0, 0, 0, 32, 0, 0, 0, 16, 0, 0, 0, 48, 0, 1, 2];
 
+const THREE_SKIPS: [i32; 32] = [
+    16,
+    0,
+    0,
+    0,
+    32,
+    0,
+    0,
+    0,
+    32,
+    0,
+    0,
+    0,
+    34,
+    1,
+    2,
+    0,
+    32,
+    0,
+    0,
+    0,
+    34,
+    3,
+    4,
+    0,
+    16,
+    0,
+    0,
+    0,
+    48,
+    0,
+    5,
+    6,
+];
+
 pub fn rooms() {
     run::part(b"four rows, room 6, scratch 12", &FOUR_ROWS, 16, 6, 12);
+    // 11 by document 01; planned since 02, P8.
     run::part(b"four rows, room 7, scratch 13", &FOUR_ROWS, 16, 7, 13);
+    run::part(b"four rows, room 7, scratch 8", &FOUR_ROWS, 16, 7, 8);
+    run::part(b"four rows, room 7, scratch 7", &FOUR_ROWS, 16, 7, 7);
+    run::part(b"four rows, room 0, scratch 8", &FOUR_ROWS, 16, 0, 8);
+    run::part(b"four rows, room 0, scratch 7", &FOUR_ROWS, 16, 0, 7);
+    run::part(b"four rows, room 0, scratch 0", &FOUR_ROWS, 16, 0, 0);
+    // planned by document 01; 11 since 02, P8.
+    run::part(b"three skips, room 7, scratch 15", &THREE_SKIPS, 32, 7, 15);
+    run::part(b"three skips, room 7, scratch 16", &THREE_SKIPS, 32, 7, 16);
 }
 
 pub fn list() {
     let mut list = [7; 7];
-    let mut scratch = [7; 14];
+    let mut scratch = [7; 8];
     run::say(
         b"four rows",
         generator::generate(&FOUR_ROWS, &mut list, &mut scratch),

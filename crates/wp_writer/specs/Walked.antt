@@ -1,37 +1,45 @@
 -- What the writer of W asks and what it leaves, and what holds at each of its turns: whatever writes W from the statement at
 -- hand on, writes W from the first on. Assumes nothing.
-use Prim.Native.Nat.{ℕ, _≤_, _<_}
+use Prim.Native.Nat.{ℕ, _*_, _≤_, _<_}
 use mathlib.Core.Path.{_≡_, refl}
 use mathlib.Core.List.{List}
 use native.Mathlib.Omega.{arith as linear}
 use lib.IntN.{ℤ}
 use lib.ListN.{length}
 use Rattle.script.specs.Syntax.{Formula}
+use Rattle.script.specs.Rows.{rows}
 use Rattle.theorems.specs.Writing.{Wrote, stopped}
 use Rattle.formula_writer.specs.Nodes.{OnPath}
+use Rattle.following.specs.Follow.{follow-in}
 use Rattle.following.specs.Course.{Course, after, left, after-end}
 use Rattle.dividing.specs.Divided.{Divided}
 use Rattle.wp_writer.specs.Ends.{end-formula, Ended, EndReady, words-under}
 use Rattle.wp_writer.specs.Same.{Same, same-refl, same-trans, same-less}
 
--- ---- what is asked: a course from s on, after the j assignments of the path, before the formula at the end
+-- ---- what is asked: a course from s on, after the j assignments of the path, before the formula at the end; path and `follow` are
+-- the two runs of the scratch
 
 pub record Before (t follow path : List ℤ) (j end s : ℕ) : Type 0 where
   pub course : Course t follow s j
   pub divided : Divided t follow
   pub ended : Ended t end
   pub along : OnPath t path j
-  pub long : length path ≡ 2048
+  pub long : length path ≡ 2 * rows t
+  pub noted : follow-in t path ≡ follow
+
+-- the run in the scratch is meant
+pub own-run : {t follow path : List ℤ} {j end s : ℕ} → Before t follow path j end s → Before t (follow-in t path) path j end s
+own-run g = rw (g .noted) g
 
 -- W of it
 abbrev pub before-end : List ℤ → List ℤ → ℕ → ℕ → Formula
 before-end t follow s end = after t follow s (end-formula t end)
 
--- ---- what is left: the words of f, and the path as far as it is used
+-- ---- what is left: the words of f, the path as far as it is used, and `follow`
 
 pub record Walked (t path : List ℤ) (j : ℕ) (f : Formula) (l : List ℤ) (p q : ℕ) (l′ path′ : List ℤ) : Type 0 where
   pub words : Wrote l p (words-under t path j f) q l′
-  pub kept : Same j path path′
+  pub kept : Same (rows t) j path path′
 
 module _ (t follow : List ℤ) (end : ℕ) where
   -- ---- a turn, from a statement to another that is nearer to the end
@@ -39,7 +47,7 @@ module _ (t follow : List ℤ) (end : ℕ) where
   pub record Step (s j : ℕ) (p : ℕ) (path l : List ℤ) (s′ j′ : ℕ) (p′ : ℕ) (path′ l′ : List ℤ) : Type 0 where
     pub before : Before t follow path′ j′ end s′
     pub longer : j ≤ j′
-    pub kept : Same j path path′
+    pub kept : Same (rows t) j path path′
     pub falls : left t follow s′ < left t follow s
     pub words : (q : ℕ) (l″ : List ℤ) → Wrote l′ p′ (words-under t path′ j′ (before-end t follow s′ end)) q l″
         → Wrote l p (words-under t path j (before-end t follow s end)) q l″
@@ -49,13 +57,13 @@ module _ (t follow : List ℤ) (end : ℕ) where
   pub record Turned (s₀ j₀ : ℕ) (p₀ : ℕ) (path₀ l₀ : List ℤ) (s j : ℕ) (p : ℕ) (path l : List ℤ) : Type 0 where
     pub before : Before t follow path j end s
     pub longer : j₀ ≤ j
-    pub kept : Same j₀ path₀ path
+    pub kept : Same (rows t) j₀ path₀ path
     pub falls : left t follow s ≤ left t follow s₀
     pub words : (q : ℕ) (l″ : List ℤ) → Wrote l p (words-under t path j (before-end t follow s end)) q l″
         → Wrote l₀ p₀ (words-under t path₀ j₀ (before-end t follow s₀ end)) q l″
 
   pub begun : {s j : ℕ} {p : ℕ} {path l : List ℤ} → Before t follow path j end s → Turned s j p path l s j p path l
-  begun {j = j} {path = path} b = record { before = b; longer = omega linear; kept = same-refl j path; falls = omega linear; words = λ q l″ w. w }
+  begun {j = j} {path = path} b = record { before = b; longer = omega linear; kept = same-refl (rows t) j path; falls = omega linear; words = λ q l″ w. w }
 
   pub turned : {s₀ j₀ s j s′ j′ : ℕ} {p₀ p p′ : ℕ} {path₀ l₀ path l path′ l′ : List ℤ} → Turned s₀ j₀ p₀ path₀ l₀ s j p path l
       → Step s j p path l s′ j′ p′ path′ l′ → Turned s₀ j₀ p₀ path₀ l₀ s′ j′ p′ path′ l′

@@ -1,12 +1,14 @@
-// Writing W of a statement and of what follows it into the list, word after word, with no formula kept. What follows a
-// statement is fixed by the table, and `follow` has it; `path` has the assignments passed since the formula was begun, which
-// are carried out where a variable is written. Once there is no room, a call returns at once.
+// Writing W of a statement and of what follows it into the list, word after word, with no formula kept. The scratch has two runs
+// of as many words as there are rows: the path, that is the assignments passed since the formula was begun, which are carried
+// out where a variable is written; and what follows each statement, which is fixed by the table. Once there is no room, a call
+// returns at once.
 
 use script::RowNumber;
 use script::field;
 use script::kinds;
 ghost use mathlib.Core.Path.{_≡_};
 ghost use Rattle.theorems.specs.Writing.{Wrote};
+ghost use Rattle.following.specs.Follow.{follow-in};
 ghost use Rattle.wp_writer.specs.Loops.{Loop, invariant-row, variant-row};
 ghost use Rattle.wp_writer.specs.Ends.{end-formula, EndReady, words-under};
 ghost use Rattle.wp_writer.specs.Walked.{Before, before-end, Walked};
@@ -60,17 +62,16 @@ pub fn write_end(
 pub fn write_before(
     table: &[i32],
     first: usize,
-    follow: &[i32],
-    path: &mut [i32],
+    scratch: &mut [i32],
     passed: usize,
     list: &mut [i32],
     end: RowNumber,
     at: usize,
 ) -> usize
-    requires { ⌜ Before (now table) (now follow) (now path) passed (end .0) first ⌝ }
-    ensures { λ p. ⌜ Walked (now (table .entry)) (now (path .entry)) passed
-        (before-end (now (table .entry)) (now (follow .entry)) first (end .0))
-        (now (list .entry)) at p (now (list .exit)) (now (path .exit)) ⌝ }
+    requires { ⌜ Before (now table) (follow-in (now table) (now scratch)) (now scratch) passed (end .0) first ⌝ }
+    ensures { λ p. ⌜ Walked (now (table .entry)) (now (scratch .entry)) passed
+        (before-end (now (table .entry)) (follow-in (now (table .entry)) (now (scratch .entry))) first (end .0))
+        (now (list .entry)) at p (now (list .exit)) (now (scratch .exit)) ⌝ }
 {
     let mut s = first;
     let mut j = passed;
@@ -81,41 +82,41 @@ pub fn write_before(
         }
         let kind = field(table, s, 0);
         match kind {
-            kinds::SKIP => s = script::field_number(follow[s]),
+            kinds::SKIP => s = following::next(table, scratch, s),
             kinds::ASSIGN => {
                 let e = RowNumber(field(table, s, 2));
-                p = divisor_writer::write_conjunct(table, e, follow, list, path, j, p);
-                path[j] = formula_writer::path::entry(table, RowNumber(s));
+                p = divisor_writer::write_conjunct(table, e, list, scratch, j, p);
+                scratch[j] = formula_writer::path::entry(table, RowNumber(s));
                 j = j + 1;
-                s = script::field_number(follow[s]);
+                s = following::next(table, scratch, s);
             }
             kinds::SEQUENCE => s = field(table, s, 1),
             kinds::IF => {
                 let b = RowNumber(field(table, s, 1));
                 let x = field(table, s, 2);
                 let y = field(table, s, 3);
-                p = divisor_writer::write_conjunct(table, b, follow, list, path, j, p);
+                p = divisor_writer::write_conjunct(table, b, list, scratch, j, p);
                 p = formula_writer::push_kind(list, p, kinds::AND);
                 p = formula_writer::push_kind(list, p, kinds::IMPLIES);
-                p = formula_writer::write_formula(table, b, list, path, j, p);
-                p = write_before(table, x, follow, path, j, list, end, p);
+                p = formula_writer::write_formula(table, b, list, scratch, j, p);
+                p = write_before(table, x, scratch, j, list, end, p);
                 p = formula_writer::push_kind(list, p, kinds::IMPLIES);
                 p = formula_writer::push_kind(list, p, kinds::NOT);
-                p = formula_writer::write_formula(table, b, list, path, j, p);
+                p = formula_writer::write_formula(table, b, list, scratch, j, p);
                 s = y;
             }
             kinds::WHILE => {
                 let i = invariant(table, RowNumber(s));
-                return formula_writer::write_formula(table, i, list, path, j, p);
+                return formula_writer::write_formula(table, i, list, scratch, j, p);
             }
             // an assertion
             _ => {
                 let f = RowNumber(field(table, s, 1));
                 p = formula_writer::push_kind(list, p, kinds::AND);
-                p = formula_writer::write_formula(table, f, list, path, j, p);
-                s = script::field_number(follow[s]);
+                p = formula_writer::write_formula(table, f, list, scratch, j, p);
+                s = following::next(table, scratch, s);
             }
         }
     }
-    write_end(table, end, list, path, j, p)
+    write_end(table, end, list, scratch, j, p)
 }

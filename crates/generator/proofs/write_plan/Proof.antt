@@ -1,6 +1,6 @@
 -- `generator::write_plan` meets its contract: the room's words are written from the front of a cleared list. Assumes nothing.
 use borrow.Author.Needs.{needs}
-use mathlib.Core.Path.{_≡_, sym, ap, _∙_}
+use mathlib.Core.Path.{sym, ap, _∙_}
 use Rattle.script.specs.Generated.{zeros}
 use Rattle.generator.specs.Outcomes.{front-length, front-short, planned, unwritten, kept-length}
 use Rattle.generator.proofs.write_plan.Statement.{statement}
@@ -14,35 +14,37 @@ slice-aggregate-write-list c =
 
 write-list-requires : tie.Need-write-list-requires
 write-list-requires c κs =
-    let sized = c .before in
+    let sized = c .before .before in
     let start = sized .before in
-    (start .pre .0, front-short (start .args .list .now) (sized .room .result) (sized .room .ensures))
+    (start .pre .0, (front-short (start .args .list .now) (sized .room .result) (sized .room .ensures), start .pre .1 .1))
 
 returns : tie.Need-returns
 returns c =
     let refused = c in
     let cleared = refused .before .before in
     let full = cleared .before .before in
-    let written = full .before .before .before in
-    let sized = written .before .before in
+    let written = full .before .before .before .before in
+    let sized = written .before .before .before in
     let start = sized .before in
     let t = start .args .table .now in
     let l = start .args .list .now in
-    let left = unwritten t l (sized .room .result) (start .pre .1) (sized .room .ensures) (written .write-list .ensures) (full .if1 .taken) in (
-      refused .refuse .ensures ∙ left .0,
-      cleared .clear .ensures
-          ∙ ap zeros (kept-length t l (sized .room .result) (start .pre .1) (sized .room .ensures) (written .write-list .ensures))
-          ∙ left .1,
-    )
+    let whole = written .write-list .ensures .0 in
+    let left = unwritten t l (sized .room .result) (start .pre .1 .0) (sized .room .ensures) whole (full .if1 .taken) in
+    let cleared-list = cleared .clear .ensures
+    ∙ ap zeros (kept-length t l (sized .room .result) (start .pre .1 .0) (sized .room .ensures) whole)
+    ∙ left .1 in
+    ((refused .refuse .ensures ∙ left .0, cleared-list), written .write-list .ensures .1)
 
 returns-2 : tie.Need-returns-2
 returns-2 c =
     let roomy = c in
-    let written = roomy .before .before .before in
-    let sized = written .before .before in
+    let written = roomy .before .before .before .before in
+    let sized = written .before .before .before in
     let start = sized .before in
-    planned (start .args .table .now) (start .args .list .now) (sized .room .result) (start .pre .1) (sized .room .ensures) (written .write-list .ensures)
-    (roomy .if1 .left)
+    let left =
+    planned (start .args .table .now) (start .args .list .now) (sized .room .result) (start .pre .1 .0) (sized .room .ensures)
+    (written .write-list .ensures .0) (roomy .if1 .left) in
+    (left, written .write-list .ensures .1)
 
 pub write-plan-spec : {M : Type 1} → statement M
 write-plan-spec =
@@ -55,6 +57,8 @@ write-plan-spec =
     (λ c κs. search needs)
     (λ c κs. search needs)
     (λ c. search needs)
+    (λ c. search needs)
     returns
+    (λ c. search needs)
     (λ c. search needs)
     returns-2)

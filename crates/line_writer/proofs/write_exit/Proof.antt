@@ -3,12 +3,11 @@
 use borrow.Author.Needs.{needs}
 use lib.Dec.{lit≤}
 use native.Mathlib.Omega.{arith}
-use Rattle.script.specs.Laws.{back}
 use Rattle.theorems.specs.Writing.{then}
 use Rattle.wp_writer.specs.Loops.{guard-linked, invariant-linked, loop-in-table}
 use Rattle.line_writer.specs.Listed.{listed-length}
 use Rattle.line_writer.specs.Spelled.{finishing}
-use Rattle.line_writer.specs.Loops.{node-ready, row-below, exit-before, exit-walked, wrote-exit, line-walked}
+use Rattle.line_writer.specs.Loops.{node-ready, in-scratch, exit-before, exit-walked, wrote-exit, line-walked}
 use Rattle.line_writer.proofs.write_exit.Statement.{statement}
 use Rattle.line_writer.proofs.write_exit.Tie as tie
 
@@ -16,15 +15,10 @@ field-requires : tie.Need-field-requires
 field-requires c κs =
     (loop-in-table _ _ (c .pre .0), omega arith)
 
-mul-field-number : tie.Need-mul-field-number
-mul-field-number c =
-    let start = c .before in
-    omega (arith, row-below _ _ _ _ (start .pre .0) (start .pre .1 .0), start .pre .1 .0 .course .followed .long)
-
-shared-slice-copy-out-field-number : tie.Need-shared-slice-copy-out-field-number
-shared-slice-copy-out-field-number c =
-    let start = c .before in
-    row-below _ _ _ _ (start .pre .0) (start .pre .1 .0)
+next-requires : tie.Need-next-requires
+next-requires c κs =
+    let start = c .before .before in
+    in-scratch _ _ _ _ (start .pre .0) (start .pre .1 .0)
 
 write-formula-requires : tie.Need-write-formula-requires
 write-formula-requires c κs =
@@ -41,9 +35,8 @@ write-formula-requires-2 c κs =
 write-before-requires : tie.Need-write-before-requires
 write-before-requires c κs =
     let next = c .before .before .before .before .before .before .before .before .before .before .before .before .before .before .before .before .before .before .before .before in
-    let word = next .before in
-    let start = word .before .before in
-    exit-before _ _ _ _ (start .pre .0) (start .pre .1 .0) (next .field-number .ensures) (back (word .field-number-arg .given))
+    let start = next .before .before .before in
+    exit-before _ _ _ _ (start .pre .0) (start .pre .1 .0) (next .next .ensures)
 
 finish-line-requires : tie.Need-finish-line-requires
 finish-line-requires c κs =
@@ -68,11 +61,10 @@ returns c =
     let and = row .before .before in
     let opened = and .before .before .before in
     let next = opened .before .before in
-    let word = next .before in
-    let guard = word .before in
+    let guard = next .before .before in
     let start = guard .before in
     let q =
-    exit-walked _ _ _ _ (start .pre .0) (start .pre .1 .0) (next .field-number .ensures) (back (word .field-number-arg .given)) (walked .write-before .ensures) in
+    exit-walked _ _ _ _ (start .pre .0) (start .pre .1 .0) (next .next .ensures) (walked .write-before .ensures) in
     let w =
     wrote-exit _ _ _ _ (guard .field .ensures) (row .invariant .ensures) (then (opened .push-kind .ensures) (and .push-kind2 .ensures)) (i .write-formula .ensures) (not .push-kind3 .ensures)
     (b .write-formula2 .ensures) (q .words) in
@@ -87,9 +79,7 @@ write-exit-spec =
     tie.close
     (tie.spec
     field-requires
-    mul-field-number
-    shared-slice-copy-out-field-number
-    (λ c κs. search needs)
+    next-requires
     (λ c κs. lit≤ tt)
     (λ c κs. lit≤ tt)
     (λ c κs. search needs)

@@ -10,6 +10,7 @@ use lib.IntN.{ℤ}
 use Rattle.script.specs.declared.StatementRow.the-variants.{Sequence, If}
 use Rattle.script.specs.declared.Row.the-variants as Row
 use Rattle.script.specs.Rows.{row, row-no, word}
+use Rattle.following.specs.Follow.{follow-in}
 use Rattle.following.specs.Kinds.{number, sequence-row, if-row}
 use Rattle.line_writer.specs.Listed.{listed-length}
 use Rattle.list_writer.specs.Walks.{Turned, begun, in-table, listed-at-full, leaf-lined, second-walking, first-lower, first-turned}
@@ -27,20 +28,20 @@ use Rattle.list_writer.proofs.+list_conditions.{statement}
 use Rattle.list_writer.proofs.+list_conditions.Tie.{close}
 
 -- the row
-abbrev μ : Measures 4 kinds.ps ℕ
+abbrev μ : Measures 3 kinds.ps ℕ
 μ κs a = a .1 .0
 
-abbrev at : ℕ → In 4 kinds.ps
-at t = and 4 kinds.ps (is 4 kinds.ps μ t) reads.Pre
+abbrev at : ℕ → In 3 kinds.ps
+at t = and 3 kinds.ps (is 3 kinds.ps μ t) reads.Pre
 
-abbrev below : ℕ → In 4 kinds.ps
-below t = and 4 kinds.ps (falls 4 kinds.ps _<_ μ t) reads.Pre
+abbrev below : ℕ → In 3 kinds.ps
+below t = and 3 kinds.ps (falls 3 kinds.ps _<_ μ t) reads.Pre
 
 abbrev kept : lts.InvT-loop
-kept table first follow path₀ list₀ end s₀ p₀ path list s p = Turned table follow (end .0) s₀ p₀ path₀ list₀ s p path list
+kept table first scratch₀ list₀ end s₀ p₀ scratch list s p = Turned table (follow-in table scratch₀) (end .0) s₀ p₀ scratch₀ list₀ s p scratch list
 
 abbrev falling : lts.MeasureT-loop
-falling table first follow path₀ list₀ end s₀ p₀ path list s p = s
+falling table first scratch₀ list₀ end s₀ p₀ scratch list s p = s
 
 abbrev claims : ℕ → lts.Claims
 claims t = (
@@ -69,9 +70,9 @@ module _ (t : ℕ) where
   abbrev table : Read → List ℤ
   table c = loop c .before .args .table .now
 
-  turned : (c : Read) → Turned (table c) (loop c .before .args .follow .now) (loop c .before .args .end .0)
-      (loop c .before .args .first) (loop c .before .args .at) (loop c .before .args .path .now) (loop c .before .args .list .now)
-      (loop c .loop .s) (loop c .loop .p) (loop c .loop .path) (loop c .loop .list)
+  turned : (c : Read) → Turned (table c) (follow-in (table c) (loop c .before .args .scratch .now)) (loop c .before .args .end .0)
+      (loop c .before .args .first) (loop c .before .args .at) (loop c .before .args .scratch .now) (loop c .before .args .list .now)
+      (loop c .loop .s) (loop c .loop .p) (loop c .loop .scratch) (loop c .loop .list)
   turned c = loop c .loop .inv
 
   -- where the fields were read too
@@ -106,7 +107,7 @@ module _ (t : ℕ) where
   same-length : lts.Need-same-length (claims t) (at t) reads.Post kept falling
   same-length c =
       let loop = c .before .before in
-      loop .loop .inv .long
+      loop .loop .inv .kept .long
 
   returns : lts.Need-returns (claims t) (at t) reads.Post kept falling
   returns c =
@@ -244,7 +245,7 @@ module _ (t : ℕ) where
       (floored .write-floor .ensures) (body .field6 .ensures) (walked .list-conditions3 .ensures) (stepped .write-step .ensures)
 
   same-length-3 : lts.Need-same-length-3 (claims t) (at t) reads.Post kept falling
-  same-length-3 c = returns-2 c .long
+  same-length-3 c = returns-2 c .kept .long
 
   same-length-4 : lts.Need-same-length-4 (claims t) (at t) reads.Post kept falling
   same-length-4 c = listed-length (returns-2 c .lines)
@@ -255,7 +256,7 @@ module _ (t : ℕ) where
   returns-3 c = leaf-lined _ _ _ (turned (c .before)) (c .before .field .ensures) (c .match .rest)
 
   same-length-5 : lts.Need-same-length-5 (claims t) (at t) reads.Post kept falling
-  same-length-5 c = returns-3 c .long
+  same-length-5 c = returns-3 c .kept .long
 
   same-length-6 : lts.Need-same-length-6 (claims t) (at t) reads.Post kept falling
   same-length-6 c = listed-length (returns-3 c .lines)

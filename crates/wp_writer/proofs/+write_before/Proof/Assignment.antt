@@ -2,14 +2,18 @@
 use Prim.Native.Nat.{ℕ}
 use native.Mathlib.Omega.{arith}
 use mathlib.Core.Path.{_≡_, _∙_}
+use lib.ListN.{length-set}
+use mir.Syntax.{w32}
+use mir.Val.{toZ, ofZ}
 use Rattle.script.specs.declared.StatementRow.the-variants.{Assign}
 use Rattle.script.specs.declared.Row.the-variants as Row
 use Rattle.script.specs.Rows.{row, var-no, word}
 use Rattle.script.specs.Laws.{back}
+use Rattle.formula_writer.specs.Paths.{entry}
 use Rattle.following.specs.Kinds.{number, assign-row}
 use Rattle.wp_writer.specs.Walked.{turned}
-use Rattle.wp_writer.specs.Steps.{next-falls, in-table, in-follow}
-use Rattle.wp_writer.specs.Assignments.{value-divisors, assignment-here, assign-room, assign-step}
+use Rattle.wp_writer.specs.Steps.{in-table, in-scratch}
+use Rattle.wp_writer.specs.Assignments.{value-divisors, assignment-here, assign-room, assign-falls, assign-step}
 use Rattle.wp_writer.proofs.write_before.Reads as reads
 use Rattle.wp_writer.proofs.+write_before.Lts-write_before as lts
 use Rattle.wp_writer.proofs.+write_before.Proof.Claims.{at, kept, falling, claims, Read, loop, now, more}
@@ -44,34 +48,39 @@ module _ (t : ℕ) where
       let arm = assign-read read in
       (now t arm .course .table, assignment-here _ _ _ _ _ _ (now t arm) (more t arm) (assign-here read))
 
-  pub slice-set-from-field-number : lts.Need-slice-set-from-field-number (claims t) (at t) reads.Post kept falling
-  slice-set-from-field-number c =
+  pub slice-set-from-scratch : lts.Need-slice-set-from-scratch (claims t) (at t) reads.Post kept falling
+  slice-set-from-scratch c =
       let arm = assign-read (c .before .before .before .before .before) in
       assign-room _ _ _ _ _ _ (now t arm) (more t arm)
 
-  pub mul-field-number-3 : lts.Need-mul-field-number-3 (claims t) (at t) reads.Post kept falling
-  mul-field-number-3 c =
-      let arm = assign-read (c .before .before .before .before .before) in
-      omega (arith, in-follow _ _ _ _ _ _ (now t arm) (more t arm), now t arm .course .followed .long)
+  pub next-requires-2 : lts.Need-next-requires-2 (claims t) (at t) reads.Post kept falling
+  next-requires-2 c κs =
+      let arm = assign-read (c .before .before .before .before .before .before) in
+      rw length-set (in-scratch _ _ _ _ _ _ (now t arm) (more t arm))
 
-  pub shared-slice-copy-out-field-number-2 : lts.Need-shared-slice-copy-out-field-number-2 (claims t) (at t) reads.Post kept falling
-  shared-slice-copy-out-field-number-2 c =
-      let arm = assign-read (c .before .before .before .before .before) in
-      in-follow _ _ _ _ _ _ (now t arm) (more t arm)
+  -- where its entry was made
+  abbrev Entered : Type 0
+  Entered = lts.After-entry (claims t) (at t) reads.Post kept falling
+
+  abbrev read-before : Entered → Assign-read
+  read-before c = c .before .before .before .before .before
+
+  is-entry : (c : Entered) → toZ w32 (ofZ w32 (c .entry .result))
+      ≡ entry (loop t (assign-read (read-before c)) .before .args .table .now) (loop t (assign-read (read-before c)) .loop .s)
+  is-entry c = back (c .entry .ok) ∙ c .entry .ensures
 
   pub loop-less-2 : lts.Need-loop-less-2 (claims t) (at t) reads.Post kept falling
   loop-less-2 c =
-      let word = c .before in
-      let arm = assign-read (word .before .before .before .before .before .before) in
-      next-falls _ _ _ _ _ _ (now t arm) (more t arm) (c .field-number2 .ensures) (back (word .field-number-arg2 .given))
+      let entered = c .before .before in
+      let read = read-before entered in
+      let arm = assign-read read in
+      assign-falls _ _ _ _ _ _ (now t arm) (more t arm) (is-entry entered) (assign-here read) (c .next2 .ensures)
 
   pub loop-again-2 : lts.Need-loop-again-2 (claims t) (at t) reads.Post kept falling
   loop-again-2 c =
-      let word = c .before in
-      let entered = word .before in
+      let entered = c .before .before in
       let wrote = entered .before .before in
-      let read = wrote .before .before .before in
+      let read = read-before entered in
       let arm = assign-read read in
       turned _ _ _ (loop t arm .loop .inv)
-      (assign-step _ _ _ _ _ _ (now t arm) (more t arm) (back (entered .entry .ok) ∙ entered .entry .ensures)
-      (assign-here read) (c .field-number2 .ensures) (back (word .field-number-arg2 .given)) (wrote .write-conjunct .ensures))
+      (assign-step _ _ _ _ _ _ (now t arm) (more t arm) (is-entry entered) (assign-here read) (c .next2 .ensures) (wrote .write-conjunct .ensures))

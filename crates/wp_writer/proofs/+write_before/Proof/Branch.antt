@@ -62,7 +62,7 @@ module _ (t : ℕ) where
   pub write-formula-requires : lts.Need-write-formula-requires (claims t) (at t) reads.Post kept falling
   write-formula-requires c κs =
       let read = fields-read (c .before .before .before .before .before .before .before .before .before) in
-      guard-ready _ _ _ _ _ _ (now t (if-read read)) (more t (if-read read)) (if-here read) (same-refl _ _)
+      guard-ready _ _ _ _ _ _ (now t (if-read read)) (more t (if-read read)) (if-here read) (same-refl _ _ _)
 
   pub write-before-requires : lts.Need-write-before-requires (claims t) (at t) reads.Post kept falling
   write-before-requires c κs =

@@ -4,14 +4,14 @@ use native.Mathlib.Omega.{arith}
 use mathlib.Core.Path.{_≡_, refl}
 use Rattle.script.specs.declared.StatementRow.the-variants.{Assert}
 use Rattle.script.specs.declared.Row.the-variants as Row
-use Rattle.script.specs.Rows.{row, word}
-use Rattle.script.specs.Laws.{back}
+use Rattle.script.specs.Rows.{row}
 use Rattle.theorems.specs.Writing.{wrote-length}
 use Rattle.following.specs.Course.{left}
 use Rattle.following.specs.Parts.{left-first}
 use Rattle.following.specs.Kinds.{number, skip-row, sequence-row}
+use Rattle.wp_writer.specs.Same.{same-refl}
 use Rattle.wp_writer.specs.Walked.{begun, turned, written, written-full, end-ready, written-end}
-use Rattle.wp_writer.specs.Steps.{next-falls, in-table, in-follow, skip-step, assert-known, assert-ready, assert-step}
+use Rattle.wp_writer.specs.Steps.{next-falls, in-table, in-scratch, skip-step, assert-known, assert-ready, assert-step}
 use Rattle.wp_writer.specs.Steps.{sequence-step, loop-here, invariant-ready, loop-wrote}
 use Rattle.wp_writer.proofs.write_before.Reads as reads
 use Rattle.wp_writer.proofs.+write_before.Lts-write_before as lts
@@ -41,30 +41,22 @@ module _ (t : ℕ) where
 
   -- ---- skip
 
-  pub mul-field-number : lts.Need-mul-field-number (claims t) (at t) reads.Post kept falling
-  mul-field-number c =
-      let arm = c .before in
-      omega (arith, in-follow _ _ _ _ _ _ (now t arm) (more t arm), now t arm .course .followed .long)
-
-  pub shared-slice-copy-out-field-number : lts.Need-shared-slice-copy-out-field-number (claims t) (at t) reads.Post kept falling
-  shared-slice-copy-out-field-number c =
-      let arm = c .before in
-      in-follow _ _ _ _ _ _ (now t arm) (more t arm)
+  pub next-requires : lts.Need-next-requires (claims t) (at t) reads.Post kept falling
+  next-requires c κs =
+      let arm = c .before .before in
+      in-scratch _ _ _ _ _ _ (now t arm) (more t arm)
 
   pub loop-less : lts.Need-loop-less (claims t) (at t) reads.Post kept falling
   loop-less c =
-      let word = c .before in
-      let arm = word .before .before in
-      next-falls _ _ _ _ _ _ (now t arm) (more t arm) (c .field-number .ensures) (back (word .field-number-arg .given))
+      let arm = c .before .before .before in
+      next-falls _ _ _ _ _ _ (now t arm) (more t arm) (same-refl _ _ _) (c .next .ensures)
 
   pub loop-again : lts.Need-loop-again (claims t) (at t) reads.Post kept falling
   loop-again c =
-      let word = c .before in
-      let kind = word .before in
+      let kind = c .before .before in
       let arm = kind .before in
       turned _ _ _ (loop t arm .loop .inv)
-      (skip-step _ _ _ _ _ _ (now t arm) (more t arm) (skip-row _ _ (arm .field .ensures) (kind .match .keys1)) (c .field-number .ensures)
-      (back (word .field-number-arg .given)))
+      (skip-step _ _ _ _ _ _ (now t arm) (more t arm) (skip-row _ _ (arm .field .ensures) (kind .match .keys1)) (c .next .ensures))
 
   -- ---- a sequence
 
@@ -147,32 +139,25 @@ module _ (t : ℕ) where
       let read = c .before .before .before .before .before in
       assert-ready _ _ _ _ _ _ (now t (assert-read read)) (more t (assert-read read)) (assert-here read)
 
-  pub mul-field-number-4 : lts.Need-mul-field-number-4 (claims t) (at t) reads.Post kept falling
-  mul-field-number-4 c =
-      let arm = c .before .before .before .before .before .before .before .before .before in
-      omega (arith, in-follow _ _ _ _ _ _ (now t arm) (more t arm), now t arm .course .followed .long)
-
-  pub shared-slice-copy-out-field-number-3 : lts.Need-shared-slice-copy-out-field-number-3 (claims t) (at t) reads.Post kept falling
-  shared-slice-copy-out-field-number-3 c =
-      let arm = c .before .before .before .before .before .before .before .before .before in
-      in-follow _ _ _ _ _ _ (now t arm) (more t arm)
+  pub next-requires-3 : lts.Need-next-requires-3 (claims t) (at t) reads.Post kept falling
+  next-requires-3 c κs =
+      let arm = c .before .before .before .before .before .before .before .before .before .before in
+      in-scratch _ _ _ _ _ _ (now t arm) (more t arm)
 
   pub loop-less-5 : lts.Need-loop-less-5 (claims t) (at t) reads.Post kept falling
   loop-less-5 c =
-      let word = c .before in
-      let arm = word .before .before .before .before .before .before .before .before .before .before in
-      next-falls _ _ _ _ _ _ (now t arm) (more t arm) (c .field-number3 .ensures) (back (word .field-number-arg3 .given))
+      let arm = c .before .before .before .before .before .before .before .before .before .before .before in
+      next-falls _ _ _ _ _ _ (now t arm) (more t arm) (same-refl _ _ _) (c .next3 .ensures)
 
   pub loop-again-5 : lts.Need-loop-again-5 (claims t) (at t) reads.Post kept falling
   loop-again-5 c =
-      let word = c .before in
-      let wrote = word .before .before in
+      let wrote = c .before .before .before in
       let opened = wrote .before .before .before .before in
       let read = opened .before .before in
       let arm = assert-read read in
       turned _ _ _ (loop t arm .loop .inv)
-      (assert-step _ _ _ _ _ _ (now t arm) (more t arm) (assert-here read) (c .field-number3 .ensures) (back (word .field-number-arg3 .given))
-      (opened .push-kind5 .ensures) (wrote .write-formula4 .ensures))
+      (assert-step _ _ _ _ _ _ (now t arm) (more t arm) (assert-here read) (c .next3 .ensures) (opened .push-kind5 .ensures)
+      (wrote .write-formula4 .ensures))
 
   -- ---- the end
 
