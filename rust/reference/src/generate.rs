@@ -1,7 +1,9 @@
-//! "Room and scratch": the generator's answer and what stands in its buffers.
+//! "Room and scratch": the generator's answer and what stands in its buffers;
+//! with the scratch of request P8.
 
-use crate::check::{check, nesting, Verdict};
+use crate::check::{check, Verdict};
 use crate::conditions::{conditions, list_words, Condition, TooLong};
+use crate::table::Table;
 use crate::tree::script_of;
 
 /// "Room is the length of the list buffer or 16,384, the smaller."
@@ -22,16 +24,10 @@ pub struct Outcome {
 /// What an accepted script asks of the buffers.
 #[derive(Clone, Copy, Debug, PartialEq, Eq)]
 pub struct Need {
-    pub nesting: usize,
+    /// "2 × rows scratch words, whatever the room"
+    pub scratch: usize,
     /// The words of its list, or nothing where they are more than 16,384.
     pub words: Option<usize>,
-}
-
-impl Need {
-    /// "Scratch must hold (nesting + 2) × room words."
-    pub fn scratch(self, room: usize) -> usize {
-        (self.nesting + 2) * room
-    }
 }
 
 /// What the table needs, where the check accepts it.
@@ -42,9 +38,15 @@ pub fn need(words: &[i32]) -> Option<Need> {
     let listed = conditions(&script_of(words), LONGEST_LIST);
     let words_of_list = listed.ok().map(|conditions| list_words(&conditions).len());
     Some(Need {
-        nesting: nesting(words),
+        scratch: scratch_needed(words),
         words: words_of_list,
     })
+}
+
+/// Document 01 asks for (nesting + 2) × room words. Request P8: "The same lists
+/// must come from 2 × rows scratch words, whatever the room".
+fn scratch_needed(words: &[i32]) -> usize {
+    2 * Table::new(words).rows()
 }
 
 /// The generator, called with a list buffer and a scratch of these lengths.
@@ -59,12 +61,12 @@ fn plan(words: &[i32], list_len: usize, scratch_len: usize) -> Result<Vec<Condit
     if let Verdict::Refused { number, row } = check(words) {
         return Err((number, row));
     }
-    let room = list_len.min(LONGEST_LIST);
-    // 11, short bench: "scratch too short".
-    if scratch_len < (nesting(words) + 2) * room {
+    // 11, short bench: "11 when scratch is below that, in its old place".
+    if scratch_len < scratch_needed(words) {
         return Err((11, 0));
     }
     // 12, full sheet: "the list is longer than room".
+    let room = list_len.min(LONGEST_LIST);
     conditions(&script_of(words), room).map_err(|TooLong| (12, 0))
 }
 

@@ -1,5 +1,5 @@
-//! Document 01 and requests P1, P2, P4, P5, P6 and P7 a second time, written
-//! from the documents alone: trees, `Vec` and `Box`, clear rather than fast.
+//! Document 01 and requests P1, P2 and P4 to P8 a second time, written from the
+//! documents alone: trees, `Vec` and `Box`, clear rather than fast.
 //!
 //! Whole numbers of runs are kept as `i128`. Where a value would leave that
 //! range the evaluation answers [`TooLarge`] instead of a wrong number; the

@@ -5,6 +5,7 @@ use crate::list::lines;
 
 /// "with room 512 and scratch 5,120"
 const ROOM: usize = 512;
+/// 11 cannot occur: the longest table's 2,048 rows need 4,096 scratch words.
 const SCRATCH: usize = 5_120;
 
 /// What the program writes when `bytes` are its standard input: "four bytes a

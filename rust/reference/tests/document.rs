@@ -1,6 +1,6 @@
 //! Every trial row of document 01, example A to the byte, and the five wrong
-//! turns; of variables, what request P2 makes of them, and of condition kinds,
-//! what request P5 does.
+//! turns; of variables, what request P2 makes of them, of condition kinds, what
+//! request P5 does, and of scratch, what request P8 does.
 
 mod example_a;
 
@@ -76,25 +76,93 @@ fn the_program_refuses() {
     assert_eq!(program_output(&one_byte_more), b"refused 1 0\n");
 }
 
+/// Document 01 refuses scratch 281 with 11; by request P8 "A with scratch 281
+/// is planned, with 39 it is 11".
 #[test]
 fn example_a_at_the_edges_of_room_and_scratch() {
     let table = words(&EXAMPLE_A);
-    assert_eq!(answer(&table, 94, 100_000), (0, 0, 4, 94));
-    assert_eq!(answer(&table, 93, 100_000), (12, 0, 0, 0));
-    assert_eq!(answer(&table, 94, 281), (11, 0, 0, 0));
-    assert_eq!(answer(&table, 94, 282), (0, 0, 4, 94));
-    assert_eq!(answer(&table, 20_000, 3 * 16_384), (0, 0, 4, 94));
-    assert_eq!(answer(&table, 20_000, 3 * 16_384 - 1), (11, 0, 0, 0));
-    assert_eq!(answer(&table, 0, 0), (12, 0, 0, 0));
+    for scratch in [40, 41, 281, 282, 100_000] {
+        assert_eq!(answer(&table, 94, scratch), (0, 0, 4, 94), "{scratch}");
+        assert_eq!(answer(&table, 20_000, scratch), (0, 0, 4, 94), "{scratch}");
+        assert_eq!(answer(&table, 93, scratch), (12, 0, 0, 0), "{scratch}");
+        assert_eq!(answer(&table, 0, scratch), (12, 0, 0, 0), "{scratch}");
+    }
+    for scratch in [0, 1, 39] {
+        for room in [0, 13, 93, 94, 20_000] {
+            let answer = answer(&table, room, scratch);
+            assert_eq!(answer, (11, 0, 0, 0), "{room} {scratch}");
+        }
+    }
 }
 
+/// Document 01 refuses scratch 13 with 11; by request P8 "the four-row trial
+/// script with 13 is planned".
 #[test]
 fn the_skip_script() {
     let table = words(&SKIP_SCRIPT);
-    assert_eq!(generate(&table, 7, 14).list, [25, 16, 16, 4, 3, 3, 1]);
-    assert_eq!(answer(&table, 7, 14), (0, 0, 1, 7));
-    assert_eq!(answer(&table, 6, 12), (12, 0, 0, 0));
-    assert_eq!(answer(&table, 7, 13), (11, 0, 0, 0));
+    for scratch in [8, 12, 13, 14] {
+        let list = generate(&table, 7, scratch).list;
+        assert_eq!(list, [25, 16, 16, 4, 3, 3, 1], "{scratch}");
+        assert_eq!(answer(&table, 7, scratch), (0, 0, 1, 7), "{scratch}");
+        assert_eq!(answer(&table, 6, scratch), (12, 0, 0, 0), "{scratch}");
+        assert_eq!(answer(&table, 0, scratch), (12, 0, 0, 0), "{scratch}");
+    }
+    for scratch in [0, 7] {
+        for room in [0, 3, 6, 7] {
+            let answer = answer(&table, room, scratch);
+            assert_eq!(answer, (11, 0, 0, 0), "{room} {scratch}");
+        }
+    }
+}
+
+/// "11 when scratch is below that, in its old place": after 1 to 10.
+#[test]
+fn a_faulty_table_without_scratch() {
+    let refusals = [
+        (vec![], (1, 0)),
+        (example_a_with(4, [11, 0, 0, 0]), (2, 4)),
+        (example_a_with(4, [2, 0, 1, 0]), (3, 4)),
+        (example_a_with(13, [4, 11, 13, 0]), (4, 13)),
+        (example_a_with(5, [18, 2, 4, 0]), (5, 5)),
+        (example_a_with(13, [4, 11, 11, 0]), (6, 13)),
+        (example_a_with(19, [16, 0, 0, 0]), (7, 19)),
+        (example_a_with(14, [33, 128, 13, 0]), (8, 14)),
+        (example_a_with(9, [9, 15, 0, 0]), (9, 9)),
+        (nested(9), (10, 0)),
+    ];
+    for (table, (number, row)) in refusals {
+        for room in [0, 512] {
+            assert_eq!(answer(&table, room, 0), (number, row, 0, 0), "{number}");
+        }
+    }
+}
+
+/// Skips one after the other, `rows` rows in all, an even number from 4 up.
+fn skips(rows: usize) -> Vec<i32> {
+    let mut skips = vec![[16, 0, 0, 0], [16, 0, 0, 0], [32, 0, 0, 0]];
+    while skips.len() + 1 < rows {
+        let next = skips.len() as i32;
+        skips.extend([[32, 0, 0, 0], [34, next - 1, next, 0]]);
+    }
+    skips.push([48, 0, skips.len() as i32 - 1, 1]);
+    words(&skips)
+}
+
+/// The longest table: "calls with small room for their rows, planned or 12
+/// before, may get 11".
+#[test]
+fn the_scratch_of_the_longest_table() {
+    let table = skips(2_048);
+    assert_eq!(table.len(), 8_192);
+    assert_eq!(answer(&table, 7, 4_096), (0, 0, 1, 7));
+    assert_eq!(answer(&table, 6, 4_096), (12, 0, 0, 0));
+    for room in [0, 6, 7, 16_384] {
+        assert_eq!(answer(&table, room, 4_095), (11, 0, 0, 0), "{room}");
+    }
+    assert_eq!(answer(&table, 7, 14), (11, 0, 0, 0));
+    assert_eq!(answer(&table, 6, 12), (11, 0, 0, 0));
+    let output = String::from_utf8(program_output(&bytes(&table))).unwrap();
+    assert_eq!(output, "planned 1 7\nmain 2047 25 16 16\n");
 }
 
 #[test]
@@ -277,7 +345,24 @@ fn nested(nesting: usize) -> Vec<i32> {
 fn nesting_eight_passes_and_nine_is_too_deep() {
     assert_eq!(check(&nested(8)), Verdict::Accepted);
     assert_eq!(check(&nested(9)), refusal(10, 0));
-    assert_eq!(need(&nested(8)).unwrap().nesting, 8);
+}
+
+/// "2 × rows scratch words, whatever the room", and whatever the nesting.
+#[test]
+fn scratch_of_nested_scripts() {
+    for nesting in 0..=8 {
+        let table = nested(nesting);
+        let need = need(&table).unwrap();
+        assert_eq!(need.scratch, 2 * (table.len() / 4), "{nesting}");
+        let length = need.words.unwrap();
+        for room in [length, length + 1, 16_384, 20_000] {
+            let planned = generate(&table, room, need.scratch);
+            assert_eq!((planned.number, planned.words), (0, length), "{nesting}");
+            assert_eq!(planned.list, generate(&table, room, 10 * room).list);
+            assert_eq!(answer(&table, room, need.scratch - 1).0, 11, "{nesting}");
+        }
+        assert_eq!(answer(&table, length - 1, need.scratch).0, 12, "{nesting}");
+    }
 }
 
 /// Wrong turn 1: "Listing no conditions for a loop inside a branch or another loop."

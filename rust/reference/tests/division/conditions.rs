@@ -171,15 +171,18 @@ fn the_program_prints_guard() {
 #[test]
 fn the_room_of_a_dividing_loop() {
     let words = table(DIVIDING_LOOP);
-    assert_eq!(need(&words).unwrap().words, Some(103));
-    assert_eq!(need(&words).unwrap().nesting, 1);
-    let planned = generate(&words, 103, 309);
+    let needed = Need {
+        scratch: 30,
+        words: Some(103),
+    };
+    assert_eq!(need(&words), Some(needed));
+    let planned = generate(&words, 103, 30);
     assert_eq!(
         (planned.number, planned.conditions, planned.words),
         (0, 5, 103)
     );
-    assert_eq!(generate(&words, 102, 309).number, 12);
-    assert_eq!(generate(&words, 103, 308).number, 11);
+    assert_eq!(generate(&words, 102, 30).number, 12);
+    assert_eq!(generate(&words, 103, 29).number, 11);
 }
 
 #[test]
