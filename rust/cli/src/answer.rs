@@ -2,7 +2,7 @@
 
 use leqwarti::{Condition, ConditionKind, Formula, Plan, Reason, Refusal};
 
-use crate::{Fault, Json, RefusedText, Shortened, Source, Text, Unread};
+use crate::{Fault, Json, RefusedText, Shortened, Size, Source, Text, Unread};
 
 /// What the generator says of a file.
 #[derive(Clone, Debug, PartialEq, Eq)]
@@ -50,6 +50,16 @@ impl Answer {
         match self {
             Answer::Short(_, shortened) => Some(shortened),
             Answer::Table(..) | Answer::Unread(_) => None,
+        }
+    }
+
+    /// What a caller lends at least, where there is a plan; shortening changes
+    /// nothing of it.
+    pub fn size(&self) -> Option<Size> {
+        match self {
+            Answer::Table(source, Ok(plan)) => Some(Size::of(source.words(), plan)),
+            Answer::Short(source, shortened) => Some(Size::of(source.words(), &shortened.old)),
+            Answer::Table(_, Err(_)) | Answer::Unread(_) => None,
         }
     }
 

@@ -10,6 +10,7 @@ mod proof;
 mod refused_text;
 mod rows;
 mod shortened;
+mod size;
 mod smt;
 pub mod solvers;
 mod source;
@@ -29,6 +30,7 @@ pub use proof::{
 pub use refused_text::RefusedText;
 pub use rows::{RowLine, Rows};
 pub use shortened::Shortened;
+pub use size::Size;
 pub use smt::{scripts, Script};
 pub use source::{Fault, Source, Unread};
 pub use system::columns;

@@ -1,7 +1,7 @@
 //! The command: `vcgen [list] [--words] FILE`, `vcgen smt FILE [INDEX]`,
 //! `vcgen smt --into FOLDER FILE` and
 //! `vcgen prove [--timeout SECONDS] [--json] FILE`, each also with `--short`; and
-//! `vcgen mend [--json] FILE`.
+//! `vcgen mend [--json] FILE` and `vcgen size [--json] FILE`.
 
 mod progress;
 mod request;
@@ -17,7 +17,7 @@ use cli::{scripts, Answer, Fault, MendedRows, Outcome, Progress, Proof};
 use cli::{Report, Rows, Script, Source, Unread, HELP};
 use leqwarti::Plan;
 use progress::ProgressLine;
-use request::{request, List, Mend, Prove, Request, Smt, Wanted};
+use request::{request, List, Mend, Prove, Request, Size, Smt, Wanted};
 
 const REFUSED: u8 = 1;
 const UNREADABLE: u8 = 2;
@@ -49,6 +49,7 @@ fn carry_out(request: Request) -> Result<u8, Failure> {
         Request::Smt(request) => smt(&request).map(|()| 0),
         Request::Prove(request) => prove(&request),
         Request::Mend(request) => mend(&request),
+        Request::Size(request) => size(&request),
     }
 }
 
@@ -143,11 +144,7 @@ fn smt(request: &Smt) -> Result<(), Failure> {
 fn prove(request: &Prove) -> Result<u8, Failure> {
     let answer = answer(request.file)?.shortened();
     let Answer::Short(source, shortened) = &answer else {
-        let told = match answer.refusal_json() {
-            Some(refusal) if request.as_json => format!("{refusal}\n"),
-            _ => answer.text(),
-        };
-        return print(&told).map(|()| REFUSED);
+        return print(&refusal(&answer, request.as_json)).map(|()| REFUSED);
     };
     let solvers = solvers()?;
     let report = Report {
@@ -189,6 +186,23 @@ fn mend(request: &Mend) -> Result<u8, Failure> {
             print(&format!("{}\n", unmended.json())).map(|()| REFUSED)
         }
         Err(unmended) => Err(refused(unmended.text())),
+    }
+}
+
+fn size(request: &Size) -> Result<u8, Failure> {
+    let answer = answer(request.file)?;
+    match answer.size() {
+        Some(size) if request.as_json => print(&format!("{}\n", size.json())).map(|()| 0),
+        Some(size) => print(&size.text()).map(|()| 0),
+        None => print(&refusal(&answer, request.as_json)).map(|()| REFUSED),
+    }
+}
+
+/// Why there is no plan.
+fn refusal(answer: &Answer, as_json: bool) -> String {
+    match answer.refusal_json() {
+        Some(refusal) if as_json => format!("{refusal}\n"),
+        _ => answer.text(),
     }
 }
 

@@ -13,6 +13,7 @@ pub enum Request<'a> {
     Smt(Smt<'a>),
     Prove(Prove<'a>),
     Mend(Mend<'a>),
+    Size(Size<'a>),
 }
 
 pub struct List<'a> {
@@ -49,6 +50,11 @@ pub struct Prove<'a> {
 }
 
 pub struct Mend<'a> {
+    pub file: &'a Path,
+    pub as_json: bool,
+}
+
+pub struct Size<'a> {
     pub file: &'a Path,
     pub as_json: bool,
 }
@@ -119,6 +125,7 @@ enum Subcommand {
     Smt,
     Prove,
     Mend,
+    Size,
 }
 
 impl Subcommand {
@@ -128,6 +135,7 @@ impl Subcommand {
             Subcommand::Smt,
             Subcommand::Prove,
             Subcommand::Mend,
+            Subcommand::Size,
         ];
         all.into_iter().find(|one| argument == one.name())
     }
@@ -138,6 +146,7 @@ impl Subcommand {
             Subcommand::Smt => "smt",
             Subcommand::Prove => "prove",
             Subcommand::Mend => "mend",
+            Subcommand::Size => "size",
         }
     }
 
@@ -151,7 +160,7 @@ impl Subcommand {
                 ("--timeout", Some("SECONDS")),
                 ("--json", None),
             ],
-            Subcommand::Mend => &[("--json", None)],
+            Subcommand::Mend | Subcommand::Size => &[("--json", None)],
         }
     }
 
@@ -237,6 +246,13 @@ impl<'a> Given<'a> {
             Subcommand::Mend => {
                 none_of(rest)?;
                 Request::Mend(Mend {
+                    file,
+                    as_json: self.has("--json"),
+                })
+            }
+            Subcommand::Size => {
+                none_of(rest)?;
+                Request::Size(Size {
                     file,
                     as_json: self.has("--json"),
                 })
@@ -349,6 +365,9 @@ mod tests {
             Ok(Request::Mend(mend)) => {
                 format!("mend {} {}", mend.file.display(), form(mend.as_json))
             }
+            Ok(Request::Size(size)) => {
+                format!("size {} {}", size.file.display(), form(size.as_json))
+            }
         }
     }
 
@@ -408,6 +427,9 @@ mod tests {
             ("mend a", "mend a text"),
             ("mend -", "mend - text"),
             ("mend a --json", "mend a json"),
+            ("size a", "size a text"),
+            ("size -", "size - text"),
+            ("size --json a", "size a json"),
             ("--help", "help"),
             ("smt -h", "help"),
         ] {
@@ -425,6 +447,8 @@ mod tests {
         assert_eq!(told("list prove"), "list prove false");
         assert_eq!(told("mend mend"), "mend mend text");
         assert_eq!(told("list mend"), "list mend false");
+        assert_eq!(told("size size"), "size size text");
+        assert_eq!(told("list size"), "list size false");
     }
 
     #[test]
@@ -475,6 +499,13 @@ mod tests {
             "mend --words a",
             "mend --json --json a",
             "--json mend a",
+            "size",
+            "size a b",
+            "size --json",
+            "size --short a",
+            "size --words a",
+            "size --json --json a",
+            "--json size a",
         ] {
             assert_eq!(told(arguments), "usage", "{arguments}");
         }
@@ -496,6 +527,7 @@ mod tests {
                  ./vcgen smt [--short] --into FOLDER FILE"
             }
             "mend" => "usage: ./vcgen mend [--json] FILE",
+            "size" => "usage: ./vcgen size [--json] FILE",
             _ => "usage: ./vcgen prove [--short] [--timeout SECONDS] [--json] FILE",
         };
         for (arguments, name, wanted) in [
@@ -538,6 +570,11 @@ mod tests {
             ("mend a b", "mend", "`b` is an argument too many"),
             ("mend --short a", "mend", "`--short` is no option of mend"),
             ("--json mend a", "mend", "`mend` has to stand first"),
+            ("size", "size", "no file is given"),
+            ("size a b", "size", "`b` is an argument too many"),
+            ("size --short a", "size", "`--short` is no option of size"),
+            ("size --json --json a", "size", "--json is given twice"),
+            ("--json size a", "size", "`size` has to stand first"),
             ("--word a prove", "list", "`--word` is no option of list"),
             ("a prove", "list", "`prove` is an argument too many"),
             ("prove --json", "prove", "no file is given"),

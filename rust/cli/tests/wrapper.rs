@@ -112,6 +112,8 @@ fn wrong_usage_builds_nothing() {
         "smt",
         "mend",
         "mend --json",
+        "size",
+        "size --json",
         "",
     ];
     let usage = cli::HELP.split("\n\n").next().unwrap();
@@ -123,7 +125,10 @@ fn wrong_usage_builds_nothing() {
             &["prove a.script --timeout 5 a.script"],
             "too many arguments: a.script a.script",
         ),
-        (&["mend a.script 5"], "too many arguments: a.script 5"),
+        (
+            &["mend a.script 5", "size a.script 5"],
+            "too many arguments: a.script 5",
+        ),
         (&["smt a.script 5 5"], "too many arguments: a.script 5 5"),
         (
             &[
@@ -132,6 +137,7 @@ fn wrong_usage_builds_nothing() {
                 "prove --jsn",
                 "smt --jsn a.script",
                 "mend --jsn a.script",
+                "size --jsn a.script",
             ],
             "--jsn is no option",
         ),
@@ -150,6 +156,7 @@ fn wrong_usage_builds_nothing() {
         (&["--short smt a.script 5"], "`smt` has to stand first"),
         (&["--words list a.script"], "`list` has to stand first"),
         (&["--json mend a.script"], "`mend` has to stand first"),
+        (&["--json size a.script"], "`size` has to stand first"),
     ] {
         let error = format!("vcgen: {told}\n{usage}\n./vcgen --help says more\n");
         assert_unbuilt(all_arguments, (Some(2), "", &error));
@@ -165,6 +172,7 @@ fn a_file_that_is_not_there_builds_nothing() {
         "prove --json none",
         "list none",
         "mend none",
+        "size none",
         "none",
     ];
     assert_unbuilt(&all_arguments, (Some(2), "", "vcgen: cannot read none\n"));
@@ -248,6 +256,9 @@ fn what_is_built_gets_the_arguments_as_they_are() {
         "mend a.script",
         "mend --json a.script",
         "mend -",
+        "size a.script",
+        "size --json a.script",
+        "size -",
         "a.script",
     ] {
         let passed: String = arguments
