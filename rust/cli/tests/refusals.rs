@@ -15,6 +15,7 @@ fn a_text_that_is_not_read_is_told_with_its_place() {
             (&["list", "-"], wanted, ""),
             (&["--words", "-"], first_line, ""),
             (&["list", "--words", "-"], first_line, ""),
+            (&["size", "-"], wanted, ""),
             (&["smt", "-"], "", wanted),
             (&["smt", "-", "0"], "", wanted),
             (&["smt", "--into", "none", "-"], "", wanted),

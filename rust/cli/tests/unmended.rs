@@ -206,6 +206,7 @@ fn who_shares_a_row_is_told_of_mend() {
         (&[path][..], &told[..], ""),
         (&["list", "--short", path], &told, ""),
         (&["prove", path], &told, ""),
+        (&["size", path], &told, ""),
         (&["smt", path], "", &told),
         (&["smt", path, "0"], "", &told),
     ] {

@@ -61,6 +61,12 @@ pub fn expected_mended(file: &Path) -> Option<String> {
     stored.exists().then(|| text(&stored))
 }
 
+/// What `size` is to print of an example, as text and as rows, where that is stored.
+pub fn expected_size(file: &Path) -> Option<String> {
+    let stored = file.with_extension("size.expected");
+    stored.exists().then(|| text(&stored))
+}
+
 pub fn name(file: &Path) -> &str {
     file.file_stem().unwrap().to_str().unwrap()
 }
