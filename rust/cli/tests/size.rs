@@ -6,11 +6,11 @@ mod json;
 
 use std::path::PathBuf;
 
-use cli::Source;
+use cli::{Answer, Source};
 use command::{vcgen, written};
 use files::{expected, expected_size, rows, text, texts, top};
 use json::Json;
-use leqwarti::{scratch_words, LARGEST_TABLE, LONGEST_LIST};
+use leqwarti::{plan_into, scratch_words, Reason, LARGEST_TABLE, LONGEST_LIST};
 
 fn all_examples() -> Vec<PathBuf> {
     [rows(), texts()].concat()
@@ -82,6 +82,37 @@ fn sizes_are_those_of_the_table_and_the_list() {
             words.join(" ")
         });
         assert_eq!(lines.collect::<Vec<_>>(), told, "{}", file.display());
+        planned += 1;
+    }
+    assert!(planned >= 50, "{planned} files");
+}
+
+/// Whoever lends as much gets the list, and with a word less is told what is short.
+#[test]
+fn what_is_told_suffices_and_no_word_less() {
+    let mut planned = 0;
+    for file in all_examples() {
+        let answer = Answer::to(text(&file).as_bytes()).unwrap();
+        let (Some(size), Answer::Table(source, _)) = (answer.size(), &answer) else {
+            continue;
+        };
+        let lend = |list, scratch| {
+            let (mut list, mut scratch) = (vec![7; list], vec![7; scratch]);
+            let words = plan_into(source.words(), &mut list, &mut scratch);
+            words.map(<[i32]>::len).map_err(|refusal| refusal.reason)
+        };
+        for (list, scratch, wanted) in [
+            (size.list, size.scratch, Ok(size.list)),
+            (size.list - 1, size.scratch, Err(Reason::ListTooLong)),
+            (size.list, size.scratch - 1, Err(Reason::ScratchTooShort)),
+            (
+                size.list - 1,
+                size.scratch - 1,
+                Err(Reason::ScratchTooShort),
+            ),
+        ] {
+            assert_eq!(lend(list, scratch), wanted, "{}", file.display());
+        }
         planned += 1;
     }
     assert!(planned >= 50, "{planned} files");
@@ -220,7 +251,12 @@ fn the_readme_shows_what_is_lent() {
         scratch_words(LARGEST_TABLE / 4),
     ];
     assert_eq!(most, [8_192, 16_384, 4_096]);
-    let told = "8,192 words for the table, 16,384 for the list and 4,096 for the scratch";
     let words: Vec<&str> = readme.split_whitespace().collect();
-    assert!(words.join(" ").contains(told), "{told}");
+    let readme = words.join(" ");
+    for told in [
+        "With 93 words for the list the answer is 12, with 39 for the scratch it is 11",
+        "8,192 words for the table, 16,384 for the list and 4,096 for the scratch suffice",
+    ] {
+        assert!(readme.contains(told), "{told}");
+    }
 }
