@@ -107,7 +107,7 @@ unfolding fitted
 fitted-same cs list scratch = same-answer (ltb (room list) (length (list-words cs))) cs list scratch
 
 module _ (t : List ℤ) (list scratch : ℕ) where
-  outcome-refused : {n r : ℕ} → verdict t ≡ refused n r → outcome t list scratch ≡ refuse n r list scratch
+  pub outcome-refused : {n r : ℕ} → verdict t ≡ refused n r → outcome t list scratch ≡ refuse n r list scratch
   unfolding outcome-within
   outcome-refused e = rw (e, outcome-within)
 
