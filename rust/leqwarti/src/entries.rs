@@ -245,8 +245,9 @@ unsafe fn answer_of<Row>(
     answer
 }
 
-/// The generator. Whatever both buffers held before the call, after it the
-/// list is followed by zeros and the scratch is all zeros.
+/// The generator, which needs two words of scratch for each row. Whatever both
+/// buffers held before the call, after it the list is followed by zeros and the
+/// scratch is all zeros.
 pub fn generate(table: &[i32], list: &mut [i32], scratch: &mut [i32]) -> Answer {
     // SAFETY: the entry takes words.
     unsafe { answer_of(exported::leqwarti_generate, table, list, scratch) }

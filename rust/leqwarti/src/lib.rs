@@ -76,15 +76,34 @@ pub use text::{read_text, TextRefusal, LONGEST_SCRIPT};
 /// How many variables there are; 128 to 255 of them are frozen.
 pub const VARIABLES: usize = 1_024;
 
+/// The most rows that a table has.
+const MOST_ROWS: usize = 2_048;
+
 /// The most words that a table has: 2,048 rows.
-pub const LARGEST_TABLE: usize = 4 * 2_048;
+pub const LARGEST_TABLE: usize = 4 * MOST_ROWS;
 
 /// The most words that a list has.
 pub const LONGEST_LIST: usize = 16_384;
 
-/// The scratch that suffices for every script with the longest list:
-/// (nesting + 2) times its words, nesting being 8 at most.
-pub const LARGEST_SCRATCH: usize = 10 * LONGEST_LIST;
+/// The words of scratch that suffice for every table, whatever the room.
+pub const LARGEST_SCRATCH: usize = scratch_words(MOST_ROWS);
+
+/// The words of scratch that a table of so many rows needs: two a row, whatever
+/// the room. A table of more than 2,048 rows is refused whatever is lent, so none
+/// needs more than [`LARGEST_SCRATCH`].
+///
+/// ```
+/// assert_eq!(leqwarti::scratch_words(4), 8);
+/// assert_eq!(leqwarti::scratch_words(2_048), leqwarti::LARGEST_SCRATCH);
+/// assert_eq!(leqwarti::scratch_words(usize::MAX), leqwarti::LARGEST_SCRATCH);
+/// ```
+pub const fn scratch_words(rows: usize) -> usize {
+    if rows < MOST_ROWS {
+        2 * rows
+    } else {
+        2 * MOST_ROWS
+    }
+}
 
 /// Checks a table without listing anything.
 ///
@@ -99,7 +118,10 @@ pub fn check(table: &[i32]) -> Result<(), Refusal> {
 
 /// Lists the conditions of a table's script, with room for the longest list.
 pub fn plan(table: &[i32]) -> Result<Plan, Refusal> {
-    with_longest_list(|list, scratch| entries::generate(table, list, scratch))
+    let rows = table.len() / 4;
+    with_longest_list(rows, |list, scratch| {
+        entries::generate(table, list, scratch)
+    })
 }
 
 /// The same for a table of row records.
@@ -117,14 +139,17 @@ pub fn plan(table: &[i32]) -> Result<Plan, Refusal> {
 /// # Ok::<(), leqwarti::Refusal>(())
 /// ```
 pub fn plan_records(records: &[Record]) -> Result<Plan, Refusal> {
-    with_longest_list(|list, scratch| entries::generate_records(records, list, scratch))
+    with_longest_list(records.len(), |list, scratch| {
+        entries::generate_records(records, list, scratch)
+    })
 }
 
 fn with_longest_list(
+    rows: usize,
     generate: impl FnOnce(&mut [i32], &mut [i32]) -> Answer,
 ) -> Result<Plan, Refusal> {
     let mut list = vec![0; LONGEST_LIST];
-    let answer = generate(&mut list, &mut vec![0; LARGEST_SCRATCH]);
+    let answer = generate(&mut list, &mut vec![0; scratch_words(rows)]);
     Refusal::unless_zero(answer.number, answer.row)?;
     list.truncate(answer.words);
     Plan::read(list)
@@ -134,18 +159,19 @@ fn with_longest_list(
 /// the words of the list, at the front of `list`.
 ///
 /// The room is the length of `list`, or 16,384 where it is longer; `scratch`
-/// must hold (nesting + 2) times as many words. Whatever they held, afterwards
-/// zeros follow the list, and the scratch is all zeros; after a refusal both are.
+/// must hold two words for each row of the table ([`scratch_words`]). Whatever
+/// they held, afterwards zeros follow the list, and the scratch is all zeros;
+/// after a refusal both are.
 ///
 /// ```
 /// use leqwarti::Reason;
 ///
 /// let skip = [16, 0, 0, 0, 32, 0, 0, 0, 16, 0, 0, 0, 48, 0, 1, 2];
-/// let (mut list, mut scratch) = ([7; 10], [7; 20]);
+/// let (mut list, mut scratch) = ([7; 10], [7; 8]);
 /// let words = leqwarti::plan_into(&skip, &mut list, &mut scratch)?;
 /// assert_eq!(words, [25, 16, 16, 4, 3, 3, 1]);
 ///
-/// let refusal = leqwarti::plan_into(&skip, &mut list, &mut scratch[..19]).unwrap_err();
+/// let refusal = leqwarti::plan_into(&skip, &mut list, &mut scratch[..7]).unwrap_err();
 /// assert_eq!(refusal.reason, Reason::ScratchTooShort);
 /// assert_eq!(list, [0; 10]);
 /// # Ok::<(), leqwarti::Refusal>(())

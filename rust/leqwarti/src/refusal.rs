@@ -34,7 +34,7 @@ pub enum Reason {
     OutOfPlace = 9,
     /// "nested too deep": more than eight ifs and whiles in one another.
     NestedTooDeep = 10,
-    /// "short bench": the scratch buffer is too short.
+    /// "short bench": the scratch buffer has fewer than two words a row.
     ScratchTooShort = 11,
     /// "full sheet": the list is longer than its buffer or 16,384 words.
     ListTooLong = 12,
@@ -140,7 +140,7 @@ impl Reason {
                  or a mark outside the annotations in its loop's body"
             }
             Reason::NestedTooDeep => "more than eight ifs and whiles stand in one another",
-            Reason::ScratchTooShort => "the scratch buffer is too short for the list's room",
+            Reason::ScratchTooShort => "the scratch buffer is shorter than two words for each row",
             Reason::ListTooLong => "the list is longer than its buffer, or than 16,384 words",
             Reason::MarkOutsideBody => {
                 "the row is a mark, and a place where it is used is not inside the body of the loop \

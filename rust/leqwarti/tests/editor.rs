@@ -32,17 +32,20 @@ fn expect(name: &str, rows: &[Row], room: usize, scratch: usize, wanted: &str, w
 #[test]
 fn four_records() {
     let list = [25, 16, 16, 4, 3, 3, 1];
-    expect("room for it", &FOUR_ROWS, 7, 14, "planned 1 7", &list);
+    expect("room for it", &FOUR_ROWS, 7, 8, "planned 1 7", &list);
+    let name = "a word of scratch too few";
+    expect(name, &FOUR_ROWS, 7, 7, "refused 11 0", &[]);
     let to_itself = edited(&FOUR_ROWS, 3, [48, 0, 1, 3]);
-    expect("row 3 names itself", &to_itself, 7, 14, "refused 4 3", &[]);
+    expect("row 3 names itself", &to_itself, 7, 7, "refused 4 3", &[]);
 }
 
 #[test]
 fn example_a() {
     let list = numbers(EXAMPLE_A_LIST);
-    expect("room for it", &EXAMPLE_A, 94, 282, "planned 4 94", &list);
+    expect("room for it", &EXAMPLE_A, 94, 40, "planned 4 94", &list);
+    expect("too little room", &EXAMPLE_A, 93, 40, "refused 12 0", &[]);
     let name = "room for four words, and a word of scratch too few";
-    expect(name, &EXAMPLE_A, 4, 11, "refused 11 0", &[]);
+    expect(name, &EXAMPLE_A, 4, 39, "refused 11 0", &[]);
 }
 
 /// Records of no kind: the number says whether their length is the fault.

@@ -1,10 +1,11 @@
 //! The generator: room and scratch at their edges, the largest tables and
 //! lists, and scripts of each shape with their whole lists. The answers wanted
 //! are worked out from document 01's rules, with the range of variables from
-//! document 02, P2. Document 01's trial rows, which the program `trials` runs,
-//! are among them: here the buffers are looked at too. `generator_cases.txt` has
-//! cases that an independent reading of P2 answered; in seven of them code
-//! divides, and their answers are those since P5.
+//! document 02, P2, and the need of scratch from P8. Document 01's trial rows,
+//! which the program `trials` runs, are among them as P8 has moved them: here the
+//! buffers are looked at too. `generator_cases.txt` has cases that an independent
+//! reading of P2 answered; in seven of them code divides, and their answers are
+//! those since P5; two had 12 and, without any scratch, have 11 since P8.
 
 mod common;
 
@@ -83,107 +84,179 @@ fn nesting() {
 }
 
 /// 2,048 rows: a precondition of 2,045 words, skip, true. Main has 1 + 2045 + 1
-/// words; with its trailer and the count 2,051. Nesting 0.
+/// words; with its trailer and the count 2,051.
 #[test]
 fn the_largest_table() {
-    let rows = longest_path([16, 0, 0, 0]);
-    expect_answers("2,048 rows", &rows, "2051, 4102 | planned 1 2051");
+    expect_answers(
+        "2,048 rows",
+        &longest_path([16, 0, 0, 0]),
+        "
+        2051, 4096 | planned 1 2051
+        2051, 4095 | refused 11 0
+        2050, 4096 | refused 12 0
+        2050, 4095 | refused 11 0
+        ",
+    );
 }
 
-/// Scratch must hold (nesting + 2) * room words, and the list must not be
-/// longer than room.
+/// Scratch must hold two words a row, 8 and 40 and 88 and 56, and the list must
+/// not be longer than room.
 #[test]
 fn edges_of_room_and_scratch() {
     expect_answers(
-        "nesting 0",
+        "4 rows",
         &FOUR_ROWS,
         "
-        6, 11   | refused 11 0
-        6, 12   | refused 12 0
-        7, 13   | refused 11 0
-        7, 14   | planned 1 7
-        8, 15   | refused 11 0
-        8, 16   | planned 1 7
+        6, 7    | refused 11 0
+        6, 8    | refused 12 0
+        7, 7    | refused 11 0
+        7, 8    | planned 1 7
+        8, 7    | refused 11 0
+        8, 8    | planned 1 7
+        7, 9    | planned 1 7
         7, 5120 | planned 1 7
         ",
     );
     expect_answers(
-        "nesting 1",
+        "20 rows",
         &EXAMPLE_A,
         "
-        93, 278   | refused 11 0
-        93, 279   | refused 12 0
+        93, 39    | refused 11 0
+        93, 40    | refused 12 0
         93, 5120  | refused 12 0
-        94, 281   | refused 11 0
-        94, 282   | planned 4 94
-        95, 284   | refused 11 0
-        95, 285   | planned 4 94
+        94, 39    | refused 11 0
+        94, 40    | planned 4 94
+        95, 39    | refused 11 0
+        95, 40    | planned 4 94
+        94, 41    | planned 4 94
+        512, 39   | refused 11 0
         512, 5120 | planned 4 94
         ",
     );
     expect_answers(
-        "nesting 8, whiles",
+        "44 rows, 8 whiles",
         &nested(0, 8),
         "
-        334, 3339 | refused 11 0
-        334, 3340 | refused 12 0
-        335, 3349 | refused 11 0
-        335, 3350 | planned 25 335
+        334, 87 | refused 11 0
+        334, 88 | refused 12 0
+        335, 87 | refused 11 0
+        335, 88 | planned 25 335
         ",
     );
     expect_answers(
-        "nesting 8, ifs",
+        "28 rows, 8 ifs",
         &nested(8, 0),
         "
-        62, 619 | refused 11 0
-        62, 620 | refused 12 0
-        63, 629 | refused 11 0
-        63, 630 | planned 1 63
+        62, 55 | refused 11 0
+        62, 56 | refused 12 0
+        63, 55 | refused 11 0
+        63, 56 | planned 1 63
         ",
     );
 }
 
-/// Room 0 needs no scratch, and no list fits.
+/// What document 01 asked for before P8, nesting + 2 lists, is too much, and with
+/// a small room too little. The comments have the answers from before.
 #[test]
-fn no_room() {
-    expect_answers("nesting 0", &FOUR_ROWS, "0, 0 | refused 12 0");
-    expect_answers("nesting 1", &EXAMPLE_A, "0, 0 | refused 12 0");
-    expect_answers("nesting 8", &nested(0, 8), "0, 0 | refused 12 0");
-    expect_answers("with scratch", &FOUR_ROWS, "0, 9 | refused 12 0");
-    expect_answers("no scratch", &FOUR_ROWS, "1, 0 | refused 11 0");
+fn what_was_enough_before_p8() {
+    expect_answers("4 rows", &FOUR_ROWS, "7, 13 | planned 1 7"); // 11
+    expect_answers("20 rows", &EXAMPLE_A, "94, 281 | planned 4 94"); // 11
+    expect_answers("20 rows", &EXAMPLE_A, "93, 278 | refused 12 0"); // 11
+    expect_answers("20 rows", &EXAMPLE_A, "13, 39 | refused 11 0"); // 12
+    expect_answers("20 rows", &EXAMPLE_A, "512, 40 | planned 4 94"); // 11
+
+    // Ten assignments to what nothing reads: main is true implies true, in 7 words.
+    let assignment = |row: i32| [[1, 0, 0, 0], [33, 0, row, 0]];
+    let mut rows: Vec<Row> = vec![[16, 0, 0, 0], [32, 0, 0, 0]];
+    for _ in 0..10 {
+        let next = rows.len() as i32;
+        rows.extend(assignment(next));
+        rows.push([34, next - 1, next + 1, 0]);
+    }
+    let last = rows.len() as i32;
+    rows.extend([[16, 0, 0, 0], [48, 0, last - 1, last]]);
+    expect_answers(
+        "34 rows",
+        &rows,
+        "
+        7, 14 | refused 11 0
+        7, 67 | refused 11 0
+        7, 68 | planned 1 7
+        6, 12 | refused 11 0
+        6, 67 | refused 11 0
+        6, 68 | refused 12 0
+        ",
+    );
 }
 
-/// Past 16,384 words of a buffer, room stays 16,384: scratch 32,768, 49,152 and
-/// 163,840.
+/// No list fits, and scratch is tested first all the same.
+#[test]
+fn no_room() {
+    expect_answers(
+        "4 rows",
+        &FOUR_ROWS,
+        "
+        0, 0 | refused 11 0
+        0, 7 | refused 11 0
+        0, 8 | refused 12 0
+        0, 9 | refused 12 0
+        1, 0 | refused 11 0
+        ",
+    );
+    expect_answers(
+        "20 rows",
+        &EXAMPLE_A,
+        "
+        0, 0  | refused 11 0
+        0, 39 | refused 11 0
+        0, 40 | refused 12 0
+        ",
+    );
+    expect_answers(
+        "44 rows",
+        &nested(0, 8),
+        "
+        0, 0  | refused 11 0
+        0, 87 | refused 11 0
+        0, 88 | refused 12 0
+        ",
+    );
+}
+
+/// Past 16,384 words of a buffer, room stays 16,384; the need of scratch is the
+/// same for all.
 #[test]
 fn long_buffers() {
     expect_answers(
-        "nesting 0",
+        "4 rows",
         &FOUR_ROWS,
         "
-        16383, 32765 | refused 11 0
-        16383, 32766 | planned 1 7
-        16384, 32767 | refused 11 0
-        16384, 32768 | planned 1 7
-        16385, 32767 | refused 11 0
-        16385, 32768 | planned 1 7
-        20000, 32767 | refused 11 0
+        16383, 7     | refused 11 0
+        16383, 8     | planned 1 7
+        16384, 7     | refused 11 0
+        16384, 8     | planned 1 7
+        16385, 7     | refused 11 0
+        16385, 8     | planned 1 7
+        20000, 7     | refused 11 0
+        20000, 8     | planned 1 7
         20000, 32768 | planned 1 7
         ",
     );
     expect_answers(
-        "nesting 1",
+        "20 rows",
         &EXAMPLE_A,
         "
-        20000, 49151 | refused 11 0
+        20000, 39    | refused 11 0
+        20000, 40    | planned 4 94
         20000, 49152 | planned 4 94
         ",
     );
     expect_answers(
-        "nesting 8",
+        "44 rows",
         &nested(0, 8),
         "
-        20000, 163839 | refused 11 0
+        20000, 87     | refused 11 0
+        20000, 88     | planned 25 335
         20000, 163840 | planned 25 335
         ",
     );
@@ -201,17 +274,20 @@ fn the_longest_list() {
         "ten ifs before a postcondition of 10 words",
         &ifs(Script::skip(), 10).before(9),
         "
-        16384, 49152 | planned 1 16384
+        16384, 122   | planned 1 16384
+        20000, 122   | planned 1 16384
         20000, 49152 | planned 1 16384
-        16383, 49149 | refused 12 0
-        16384, 49151 | refused 11 0
+        16383, 122   | refused 12 0
+        16384, 121   | refused 11 0
         ",
     );
     expect_answers(
         "the same with a precondition of two words",
         &ifs(Script::skip_after_not(), 10).before(9),
         "
-        16384, 49152 | refused 12 0
+        16384, 124   | refused 12 0
+        20000, 124   | refused 12 0
+        20000, 123   | refused 11 0
         20000, 49152 | refused 12 0
         ",
     );
@@ -219,8 +295,9 @@ fn the_longest_list() {
         "forty ifs",
         &ifs(Script::skip(), 40).rows(),
         "
-        16384, 49152 | refused 12 0
-        20000, 49152 | refused 12 0
+        16384, 404   | refused 12 0
+        20000, 404   | refused 12 0
+        20000, 403   | refused 11 0
         ",
     );
 }
@@ -290,14 +367,15 @@ fn all_ordinary_variables_in_one_expression() {
     let (table, list) = (sum_of_all_variables().concat(), sum_of_all_variables_list());
     assert_eq!((table.len() / 4, list.len()), (1_797, 2_696));
     for room in [2_696, 4_000] {
-        let written = expect("the sum", &table, room, 8_000, planned(1, 2_696));
+        let written = expect("the sum", &table, room, 3_594, planned(1, 2_696));
         assert_eq!(written, list);
     }
-    expect("no room", &table, 2_695, 8_000, refused(12, 0));
+    expect("no room", &table, 2_695, 3_594, refused(12, 0));
 }
 
 /// v257 := v256 + 1; v258 := v257 + 1; .. before v656 = v0: all 400 pass into
-/// one another, and v256 + 1 + .. + 1 is left.
+/// one another, and v256 + 1 + .. + 1 is left. Before P8 a scratch of 2,422 was
+/// enough.
 #[test]
 fn assignments_to_400_variables() {
     let mut rows: Vec<Row> = vec![[16, 0, 0, 0]];
@@ -319,8 +397,9 @@ fn assignments_to_400_variables() {
     let trailer = vec![4, next + 3, 1_207, 1];
     let list = [vec![25, 16, 20], sum, vec![2, 0], trailer].concat();
     assert_eq!((next + 4, list.len()), (2_004, 1_211));
-    let written = expect("400", &rows.concat(), 1_211, 2_422, planned(1, 1_211));
+    let written = expect("400", &rows.concat(), 1_211, 4_008, planned(1, 1_211));
     assert_eq!(written, list);
+    expect("400", &rows.concat(), 1_211, 2_422, refused(11, 0));
 }
 
 /// Loops in branches, in sequence and in loops, with empty bodies.

@@ -6,12 +6,12 @@
 use std::str::FromStr;
 
 use leqwarti::entries::{generate, Answer};
-use leqwarti::Plan;
+use leqwarti::{scratch_words, Plan};
 
 /// A row as the document writes it: kind, first, second, third.
 pub type Row = [i32; 4];
 
-/// Example A: 4 conditions, 94 words, nesting 1.
+/// Example A: 4 conditions, 94 words.
 pub const EXAMPLE_A: [Row; 20] = [
     [1, 0, 0, 0],
     [2, 0, 0, 0],
@@ -44,8 +44,7 @@ pub const EXAMPLE_A_LIST: &str = "
     25 19 1 0 2 0 19 1 0 2 0 4 19 11,
     4";
 
-/// The script of four rows in the document's trial rows: 1 condition, 7 words,
-/// nesting 0.
+/// The script of four rows in the document's trial rows: 1 condition, 7 words.
 pub const FOUR_ROWS: [Row; 4] = [[16, 0, 0, 0], [32, 0, 0, 0], [16, 0, 0, 0], [48, 0, 1, 2]];
 
 /// A row of every kind: a loop in a branch of a loop, with assertions, both
@@ -324,17 +323,18 @@ pub fn expect(name: &str, table: &[i32], room: usize, scratch: usize, wanted: An
     list
 }
 
-/// The whole list, word for word: with room to spare, with as much as it needs,
-/// and refused with one word less.
+/// The whole list, word for word: with room and scratch to spare, with as much as
+/// it needs, and refused with one word less of either.
 pub fn expect_words(name: &str, table: &[i32], words: &[i32]) {
     let conditions = *words.last().expect("a count") as usize;
     let wanted = planned(conditions, words.len());
-    for room in [words.len() + 100, words.len()] {
-        let written = expect(name, table, room, 10 * room, wanted);
+    let (room, scratch) = (words.len(), scratch_words(table.len() / 4));
+    for more in [100, 0] {
+        let written = expect(name, table, room + more, scratch + more, wanted);
         assert_eq!(written, words, "{name}: the list");
     }
-    let short = words.len() - 1;
-    expect(name, table, short, 10 * short, refused(12, 0));
+    expect(name, table, room - 1, scratch, refused(12, 0));
+    expect(name, table, room, scratch - 1, refused(11, 0));
 }
 
 pub fn expect_list(name: &str, rows: &[Row], list: &str) {

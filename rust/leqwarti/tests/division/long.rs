@@ -93,7 +93,9 @@ fn lists_that_double_with_each_division() {
         "if 1 div v0 = 1 then v0 := v0 div v0 else v0 := v0 mod v0 end;",
     ] {
         let text = format!("pre true; {} post true", statement.repeat(90));
+        let table = table_of(&text);
+        let scratch = leqwarti::scratch_words(table.len() / 4);
         let room = leqwarti::LONGEST_LIST;
-        expect(statement, &table_of(&text), room, 3 * room, refused(12, 0));
+        expect(statement, &table, room, scratch, refused(12, 0));
     }
 }

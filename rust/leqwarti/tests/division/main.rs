@@ -1,6 +1,7 @@
 //! Division by zero: what D adds at an assignment and at a guard, and the
 //! condition guard. The answers wanted are worked out from document 02, P5;
-//! `cases.txt` has cases that an independent reading of it answered.
+//! `cases.txt` has cases that an independent reading of it answered; two of them
+//! had 12 and, with too little scratch for their rows, have 11 since P8.
 
 #[path = "../common/mod.rs"]
 mod common;
