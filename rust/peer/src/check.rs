@@ -23,7 +23,6 @@ const NESTING: State = 0xF0;
 
 /// What the generator wants to know of an accepted table.
 pub struct Accepted {
-    pub nesting: usize,
     pub has_loops: bool,
     /// Whether there is a div or mod anywhere.
     pub has_divisions: bool,
@@ -73,7 +72,6 @@ pub fn check_rows(rows: &[Row]) -> Result<Accepted, Verdict> {
         return Err(Verdict { number: 10, row: 0 });
     }
     Ok(Accepted {
-        nesting: nesting.into(),
         has_loops: checker.has_loops,
         has_divisions: checker.has_divisions,
         targets: checker.targets,

@@ -34,7 +34,7 @@ fn answer(table: &[i32], list: &mut [i32], scratch: usize) -> Result<Answer, Ver
     let rows = rows_of(table)?;
     let accepted = check_rows(rows)?;
     let room = list.len().min(LONGEST_LIST);
-    if scratch < (accepted.nesting + 2) * room {
+    if scratch < 2 * rows.len() {
         return Err(Verdict { number: 11, row: 0 });
     }
     let (conditions, words) = write_list(rows, &mut list[..room], accepted)

@@ -1,5 +1,5 @@
-//! A yardstick for the proved library: document 01 and requests P1, P2, P4, P5, P6
-//! and P7 written by hand for speed.
+//! A yardstick for the proved library: document 01 and requests P1, P2, P4, P5, P6,
+//! P7 and P8 written by hand for speed.
 //!
 //! Nothing of it is proved. `fuzz/tests/peer.rs` compares it with the proved
 //! library word for word, and the benchmark times the library beside it; it has
