@@ -295,7 +295,7 @@ pub fn spelled_conditions(subject: &mut dyn Subject, words: &[i32]) -> Option<Ve
     // A subject that is wrong may need more.
     let room = (4 * need.words?).min(LONGEST_LIST);
     let mut list = vec![0; room];
-    let mut scratch = vec![0; need.scratch(list.len())];
+    let mut scratch = vec![0; need.scratch];
     let answer = subject.generate(words, &mut list, &mut scratch);
     if answer.number != 0 {
         return None;

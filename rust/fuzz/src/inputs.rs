@@ -4,10 +4,11 @@ use std::fmt::Write;
 
 use reference::{check, conditions, list_words, need, script_of, Verdict, LONGEST_LIST};
 
-use crate::limits::{dividing_limit_words, limit_words, list_of_length};
+use crate::limits::{dividing_limit_words, limit_words, list_of_length, nested, unread_words};
 use crate::mending::{any_rooms_for_mended, any_table_to_mend};
 use crate::mutate::{change_words, list_with_length, made_up_list, random_words, tear, tiny_list};
 use crate::prng::Prng;
+use crate::scratch::any_scratch;
 use crate::script_texts::{any_room_for_table, any_script_text};
 use crate::scripts::{script_words, Shape};
 use crate::shortening::{any_index_of_pair, any_list_to_shorten, any_pair, any_room_for_list};
@@ -75,6 +76,27 @@ impl Input {
             30 => any_text_of(list_of(&words), random),
             _ => Input::Bytes(bytes_of(&words)),
         }
+    }
+
+    /// Tables with every kind of room and of scratch, most of them accepted and small;
+    /// some are for the program, which lends both itself.
+    pub fn any_lent(random: &mut Prng) -> Input {
+        let words = match random.below(16) {
+            0 => any_words(random),
+            1 => nested_words(random),
+            2 => unread_words(random),
+            _ => {
+                let shape = Shape {
+                    rows: 4 + random.below(40),
+                    ..Shape::any(random)
+                };
+                script_words(random, shape)
+            }
+        };
+        if random.once_in(16) {
+            return Input::Bytes(bytes_of(&words));
+        }
+        table_with_any_lengths(words, random)
     }
 
     pub fn any_script(random: &mut Prng) -> Input {
@@ -208,10 +230,22 @@ fn dividing_words(random: &mut Prng) -> Vec<i32> {
     words
 }
 
+/// Ifs and whiles in one another, as deep as there may be or one deeper.
+fn nested_words(random: &mut Prng) -> Vec<i32> {
+    let nesting = random.below(10);
+    nested(random, nesting)
+}
+
 /// Rooms and scratches at, below and above the need.
 fn any_lengths(words: &[i32], random: &mut Prng) -> (usize, usize) {
     let Some(need) = need(words) else {
-        return (random.pick(&[0, 1, 7, 94, 512]), random.below(2_000));
+        let two_a_row = words.len() / 2;
+        let scratch_len = match random.below(4) {
+            0 => two_a_row,
+            1 => two_a_row.saturating_sub(1),
+            _ => random.below(2_000),
+        };
+        return (random.pick(&[0, 1, 7, 94, 512]), scratch_len);
     };
     let wanted = need.words.unwrap_or(LONGEST_LIST);
     let list_len = match random.below(32) {
@@ -223,16 +257,7 @@ fn any_lengths(words: &[i32], random: &mut Prng) -> (usize, usize) {
         29 => random.pick(&[0, 1, 6, 7]),
         _ => random.pick(&[LONGEST_LIST - 1, LONGEST_LIST, LONGEST_LIST + 1, 20_000]),
     };
-    let enough = need.scratch(list_len.min(LONGEST_LIST));
-    let scratch_len = match random.below(16) {
-        0..=6 => enough,
-        7..=9 => enough.saturating_sub(1),
-        10..=11 => enough + 1,
-        12..=13 => enough + random.below(100),
-        14 => random.below(enough + 1),
-        _ => 0,
-    };
-    (list_len, scratch_len)
+    (list_len, any_scratch(words, need, list_len, random))
 }
 
 /// Lists of the generator and made-up ones, whole and torn.

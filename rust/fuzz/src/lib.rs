@@ -26,6 +26,7 @@ pub mod odd_lists;
 pub mod odd_tables;
 pub mod prng;
 pub mod repeated;
+pub mod scratch;
 pub mod script_texts;
 pub mod scripts;
 pub mod shortening;

@@ -284,6 +284,28 @@ fn chain_of_assignments(random: &mut Prng) -> Vec<i32> {
     finish(arena, pre, statement, post, random)
 }
 
+/// Assignments to what nothing reads, some of them in branches: many rows, and a
+/// short list.
+pub fn unread_words(random: &mut Prng) -> Vec<i32> {
+    let mut arena = Arena::default();
+    let mut statements = Vec::new();
+    for _ in 0..random.pick(&[2, 5, 20, 80]) {
+        let value = arena.constant(1);
+        let assign = arena.assign(random.between(0, 3), value);
+        statements.push(match random.below(30) {
+            0 => {
+                let (guard, other) = (arena.leaf(17), arena.leaf(32));
+                arena.three(35, guard, assign, other)
+            }
+            _ => assign,
+        });
+    }
+    let leaning_left = random.once_in(2);
+    let statement = sequence(&mut arena, statements, leaning_left);
+    let (pre, post) = (arena.leaf(16), arena.leaf(16));
+    finish(arena, pre, statement, post, random)
+}
+
 /// Each of many variables from the next one, and a postcondition that reads
 /// some of them.
 fn chain_of_variables(random: &mut Prng) -> Vec<i32> {

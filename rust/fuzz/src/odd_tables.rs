@@ -7,6 +7,7 @@ use crate::arena::{Arena, Field, Node, Order};
 use crate::layouts::{relaid, LAYOUTS};
 use crate::limits::nested;
 use crate::prng::Prng;
+use crate::scratch::need_before_p8;
 use crate::scripts::{script_words, Shape};
 
 /// The most rows of a table.
@@ -65,7 +66,8 @@ pub fn few_rows(random: &mut Prng) -> Vec<i32> {
     }
 }
 
-/// Lengths at, right below and right above what the table needs, and 0.
+/// Lengths at, right below and right above what the table needs, and 0; of the scratch also around
+/// what it needed before P8.
 fn lengths(words: &[i32], random: &mut Prng) -> (usize, usize) {
     let need = need(words);
     let wanted = match need {
@@ -77,8 +79,11 @@ fn lengths(words: &[i32], random: &mut Prng) -> (usize, usize) {
         0 => LONGEST_LIST + random.below(3),
         _ => list_len,
     };
-    let room = list_len.min(LONGEST_LIST);
-    let scratch = need.map_or(2 * room, |need| need.scratch(room));
+    let scratch = match need {
+        None => words.len() / 2,
+        Some(_) if random.once_in(6) => need_before_p8(words, list_len),
+        Some(need) => need.scratch,
+    };
     (list_len, around(scratch, random))
 }
 
