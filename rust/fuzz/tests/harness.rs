@@ -1,6 +1,7 @@
 //! The harness tried on the reference itself and on broken subjects.
 
 mod misdivided;
+mod mislent;
 mod mismended;
 mod misnumbered;
 mod misread;
@@ -8,16 +9,19 @@ mod misshortened;
 mod misspelt;
 
 use fuzz::mutate::{list_with_length, made_up_list};
+use fuzz::scratch::{need_before_p8, nesting};
 use fuzz::scripts::{script_words, Shape};
 use fuzz::texts::dividing_list;
 use fuzz::{compare, compare_counting, faults, limits, seed_from_environment};
 use fuzz::{Answer, Input, Making, Prng, Reference, Subject, Tally};
 use misdivided::{division_faults, DivisionFault, Misdivided};
+use mislent::{LentFault, Mislent};
 use mismended::{mend_faults, MendFault, Mismended};
 use misread::{Misread, ReadFault};
 use misshortened::{short_faults, Misshortened, ShortFault};
 use misspelt::{Misspelt, TextFault};
-use reference::{check, lines, need, Line, Variable, Verdict};
+use reference::{check, conditions, lines, list_words, need, script_of};
+use reference::{Line, Variable, Verdict};
 
 const CASES: u64 = 30_000;
 
@@ -67,9 +71,10 @@ fn limits_are_where_they_are_said_to_be() {
             let words = limits::dividing_list_of_length(&mut random, length);
             assert_eq!(need(&words).unwrap().words, listed);
         }
-        for nesting in 0..=8 {
-            let words = limits::nested(&mut random, nesting);
-            assert_eq!(need(&words).unwrap().nesting, nesting);
+        for levels in 0..=8 {
+            let words = limits::nested(&mut random, levels);
+            assert_eq!(check(&words), Verdict::Accepted);
+            assert_eq!(nesting(&words), levels);
         }
         let too_deep = limits::nested(&mut random, 9);
         assert_eq!(check(&too_deep), Verdict::Refused { number: 10, row: 0 });
@@ -106,8 +111,6 @@ faults! {
         NestingNine,
         RowOfTooDeep,
         RoomNotCapped,
-        ScratchOneShort,
-        ScratchLeftDirty,
         ListEndLeftDirty,
         ListLeftAfterRefusal,
         CountsAfterRefusal,
@@ -210,14 +213,12 @@ impl Subject for Broken {
         let mut answer = Reference.generate(words, list, scratch);
         let used = answer.words;
         match self.0 {
-            Fault::RoomNotCapped if answer.number == 0 && list.len() > 16_384 => answer.number = 11,
-            Fault::ScratchOneShort if answer.number == 11 => {
-                let mut more = vec![0; scratch.len() + 1];
-                return Reference.generate(words, list, &mut more);
-            }
-            Fault::ScratchLeftDirty => {
-                if let Some(last) = scratch.last_mut() {
-                    *last = 1;
+            Fault::RoomNotCapped if answer.number == 12 && list.len() > 16_384 => {
+                if let Ok(conditions) = conditions(&script_of(words), list.len()) {
+                    let written = list_words(&conditions);
+                    list[..written.len()].copy_from_slice(&written);
+                    (answer.number, answer.words) = (0, written.len());
+                    answer.conditions = conditions.len();
                 }
             }
             Fault::ListEndLeftDirty if list.len() > used && answer.number == 0 => {
@@ -367,6 +368,40 @@ fn every_mistake_in_shortening_is_found() {
     let faulty = short_faults().map(misshortened);
     let faultless = Misshortened(ShortFault::Nothing);
     assert_all_found(faultless, faulty, Input::any_shortening, 5);
+}
+
+/// Each of the lengths that a scratch may have, beside both needs, on each side of the other and
+/// with each answer of the rooms.
+#[test]
+fn scratches_lie_around_both_needs() {
+    let seed = seed_from_environment();
+    let mut seen = std::collections::BTreeMap::new();
+    for case in 0..CASES {
+        let Input::Table {
+            words,
+            list_len,
+            scratch_len,
+        } = Input::any_lent(&mut Prng::for_case(seed, case))
+        else {
+            continue;
+        };
+        let Some(need) = need(&words) else { continue };
+        let before = need_before_p8(&words, list_len);
+        let fits = need.words.is_some_and(|words| words <= list_len);
+        let by_rule = [scratch_len.cmp(&need.scratch), scratch_len.cmp(&before)];
+        *seen.entry((fits, by_rule)).or_insert(0) += 1;
+    }
+    println!("{seen:?}");
+    // Below, at and above each of both, where the list fits and where it does not.
+    assert_eq!(seen.len(), 2 * 3 * 3);
+    assert!(seen.values().all(|cases| *cases >= 10), "{seen:?}");
+}
+
+#[test]
+fn every_mistake_about_scratch_is_found() {
+    let mislent = |&fault| (format!("{fault:?}"), Mislent(fault));
+    let faulty = LentFault::ALL.iter().map(mislent);
+    assert_all_found(Mislent(LentFault::Nothing), faulty, Input::any_lent, 7);
 }
 
 #[test]
