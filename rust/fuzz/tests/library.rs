@@ -4,6 +4,7 @@ mod common;
 
 use common::Proved;
 use fuzz::arena::{Arena, Order};
+use fuzz::scratch::need_before_p8;
 use fuzz::scripts::EXAMPLE_A;
 use fuzz::small::every_small_change;
 use fuzz::texts::text_need;
@@ -42,6 +43,20 @@ fn not_one_difference_where_code_divides() {
     assert!(tally.divisions.values().all(|tables| *tables >= 5_000));
 }
 
+/// Tables with scratch around what they need, and around what they needed before P8.
+const LENT_CASES: u64 = 180_000;
+
+#[test]
+fn not_one_difference_with_any_scratch() {
+    let seed = seed_from_environment();
+    let mut tally = Tally::default();
+    let result = compare_counting(&mut Proved, Input::any_lent, seed, LENT_CASES, &mut tally);
+    tell(format!("{LENT_CASES} cases: {tally:?}"));
+    assert!(result.is_ok(), "{}", result.unwrap_err());
+    let is_common = |number| tally.generate[number] >= 20_000;
+    assert!([0, 11, 12].iter().all(is_common));
+}
+
 fn compare_all(inputs: impl Iterator<Item = Input>) {
     let mut tally = Tally::default();
     let mut count = 0;
@@ -76,14 +91,33 @@ fn every_room_of(table: &[i32]) {
     let words = need.words.expect("a short list");
     let rooms = (0..words + 3).chain([LONGEST_LIST - 1, LONGEST_LIST, LONGEST_LIST + 1]);
     compare_all(rooms.flat_map(|list_len| {
-        let enough = need.scratch(list_len.min(LONGEST_LIST));
-        let scratches = [0, enough / 2, enough.saturating_sub(1), enough, enough + 1];
-        scratches.map(|scratch_len| Input::Table {
+        let (enough, before) = (need.scratch, need_before_p8(table, list_len));
+        let scratches = [0, enough / 2, enough - 1, enough, enough + 1];
+        let scratches_before = [before.saturating_sub(1), before, before + 1];
+        let scratches = scratches.into_iter().chain(scratches_before);
+        scratches.map(move |scratch_len| Input::Table {
             words: table.to_vec(),
             list_len,
             scratch_len,
         })
     }));
+}
+
+/// Every scratch up to the need and some more, with every room up to the need.
+#[test]
+fn every_room_with_every_scratch() {
+    let skip = [16, 0, 0, 0, 32, 0, 0, 0, 16, 0, 0, 0, 48, 0, 1, 2];
+    for table in [&skip[..], &EXAMPLE_A] {
+        let need = need(table).expect("an accepted table");
+        let words = need.words.expect("a short list");
+        compare_all((0..words + 3).flat_map(|list_len| {
+            (0..need.scratch + 5).map(move |scratch_len| Input::Table {
+                words: table.to_vec(),
+                list_len,
+                scratch_len,
+            })
+        }));
+    }
 }
 
 #[test]
@@ -208,7 +242,7 @@ fn assignments_to(targets: &[i32]) -> Input {
     Input::Table {
         words: arena.words(Order::Newest, &mut Prng::new(1)),
         list_len: 20,
-        scratch_len: 40,
+        scratch_len: 2 * arena.len(),
     }
 }
 

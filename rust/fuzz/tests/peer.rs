@@ -13,6 +13,9 @@ const CASES: u64 = 150_000;
 /// Beside these, tables that mostly divide in code, and their lists.
 const DIVIDING_CASES: u64 = 100_000;
 
+/// Tables with scratch around what they need, and around what they needed before P8.
+const LENT_CASES: u64 = 100_000;
+
 /// And texts of scripts.
 const SCRIPTS: u64 = 100_000;
 
@@ -288,6 +291,13 @@ fn not_one_difference() {
 fn not_one_difference_where_code_divides() {
     let tallies = compare_cases(Input::any_dividing, DIVIDING_CASES);
     assert!(tallies.tables[&0] >= 30_000 && tallies.tables[&12] >= 10_000);
+}
+
+#[test]
+fn not_one_difference_with_any_scratch() {
+    let tallies = compare_cases(Input::any_lent, LENT_CASES);
+    let is_common = |number| tallies.tables[number] >= 10_000;
+    assert!([0, 11, 12].iter().all(is_common));
 }
 
 /// What the library gave for tables, lists and texts.

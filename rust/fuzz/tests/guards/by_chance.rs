@@ -86,6 +86,7 @@ fn usual_inputs() {
         let making = random.pick(&[
             Input::any,
             Input::any_dividing,
+            Input::any_lent,
             Input::any_shortening,
             Input::any_mend,
         ]);

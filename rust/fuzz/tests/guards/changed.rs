@@ -52,7 +52,7 @@ fn every_bit_of_a_table() {
         let words = need.words.expect("a short list");
         for changed in with_each_bit_turned(&table) {
             check_table(&mut bare, &changed);
-            generate_table(&mut bare, &changed, words, need.scratch(words));
+            generate_table(&mut bare, &changed, words, need.scratch);
         }
     }
 }
@@ -70,6 +70,25 @@ fn every_name_in_every_place_of_a_table() {
     assert!(numbers.keys().copied().eq([0, 9]));
 }
 
+/// Every scratch up to the need and some more, with no room, just the room and a word less.
+#[test]
+fn every_scratch_for_a_table() {
+    let mut bare = Bare::new();
+    let mut numbers = Numbers::new();
+    for table in laid_out_tables() {
+        let need = need(&table).expect("a script");
+        let words = need.words.expect("a short list");
+        for scratch_len in 0..need.scratch + 5 {
+            for list_len in [0, words - 1, words] {
+                let number = generate_table(&mut bare, &table, list_len, scratch_len);
+                count(&mut numbers, number);
+            }
+        }
+    }
+    tell(format!("every scratch: {numbers:?}"));
+    assert!(numbers.keys().copied().eq([0, 11, 12]));
+}
+
 /// Every number of words from none to all, and some more.
 #[test]
 fn every_length_of_a_table() {
@@ -78,7 +97,7 @@ fn every_length_of_a_table() {
         let longer = [&table[..], &table[..9]].concat();
         for length in 0..longer.len() {
             check_table(&mut bare, &longer[..length]);
-            generate_table(&mut bare, &longer[..length], 30, 60);
+            generate_table(&mut bare, &longer[..length], 30, length / 2);
         }
     }
 }
@@ -96,7 +115,7 @@ fn tables_of_all_lengths_around_the_longest() {
     let table = padded(&script, nots);
     for length in 8_180..=table.len() {
         check_table(&mut bare, &table[..length]);
-        generate_table(&mut bare, &table[..length], 100, 1_000);
+        generate_table(&mut bare, &table[..length], 100, length / 2);
     }
 }
 
@@ -110,8 +129,7 @@ fn longest_lists_in_all_rooms_around_them() {
         let table = with_longest_list(&mut random);
         let need = need(&table).expect("a script");
         for list_len in LONGEST_LIST - 2..=LONGEST_LIST + 2 {
-            let scratch = need.scratch(list_len.min(LONGEST_LIST));
-            for scratch_len in scratch - 1..=scratch + 1 {
+            for scratch_len in need.scratch - 1..=need.scratch + 1 {
                 let number = generate_table(&mut bare, &table, list_len, scratch_len);
                 count(&mut numbers, number);
             }
