@@ -28,20 +28,32 @@
 //! group 17: 5,000 inputs more that divide in plenty, with lists that have such
 //! trailers. The digests of all other inputs are of the library from before P5;
 //! that one gave the digests from before P2 on every whole group.
+//!
+//! P8 made the need of scratch two words a row, whatever the room, in place of
+//! (nesting + 2) × room. It may have changed the answers only of accepted tables to
+//! which one of both rules gives 11 and the other does not: "calls that got 11 may
+//! now be planned or get 12, and calls with small room for their rows, planned or 12
+//! before, may get 11". It changed some in groups 1 to 4, 6, 11 and 17, and these are
+//! split once more: such inputs have a digest recorded with P8. So have such inputs
+//! of group 25: 100,000 more, with scratch around both needs. The digests of all
+//! other inputs are of the library from before P8, those to which both rules give 11
+//! among them; that one gave the digests from before on every whole group.
 
 mod digest;
 mod frozen;
 
 use std::collections::BTreeMap;
 
-use digest::{compare, expect, junk, Digest};
+use digest::tables::{digest_table, is_accepted, words_needed};
+use digest::{compare, expect, Digest};
 use frozen::divisions::{dividing_script, list_has_guard, put_kinds, table_divides_in_code};
 use frozen::limits::script_at_a_limit;
 use frozen::lists::{few_words, list, tear};
 use frozen::numbers::{list_has_new_number, put_at_edges, renumbered_script, table_has_new_number};
+use frozen::scratch::{any_lengths, any_script, around_both_needs, p8_may_change, Lengths};
 use frozen::tables::{altered_script, faulty_script, random_rows, script, Script};
 use frozen::Chance;
-use leqwarti::{entries, Record, LONGEST_LIST};
+use leqwarti::{entries, LONGEST_LIST};
 
 /// The request that may have changed the answer of an input last.
 #[derive(Clone, Copy, Debug, PartialEq, Eq, PartialOrd, Ord)]
@@ -49,14 +61,24 @@ enum Since {
     BeforeP2,
     P2,
     P5,
+    P8,
 }
 
-use Since::{BeforeP2, P2, P5};
+use Since::{BeforeP2, P2, P5, P8};
 
 /// Of an input that P5 may have changed, or else another request.
 fn since(p5: bool, otherwise: Since) -> Since {
     if p5 {
         P5
+    } else {
+        otherwise
+    }
+}
+
+/// Of a table with buffers of these lengths, which P8 may have changed, or else another request.
+fn since_with(script: &Script, lengths: Lengths, otherwise: Since) -> Since {
+    if is_accepted(&script.words) && p8_may_change(&script.words, lengths) {
+        P8
     } else {
         otherwise
     }
@@ -84,13 +106,23 @@ impl Digests {
     }
 
     /// Of an input that is counted unless it holds a number that P2 made ordinary.
-    fn of_input_with(&mut self, has_new_number: bool, changed_by_p5: bool) -> &mut Digest {
+    fn of_input_unless(&mut self, has_new_number: bool, since: Since) -> &mut Digest {
         if has_new_number {
-            self.of_input_beside(since(changed_by_p5, P2))
+            self.of_input_beside(since)
         } else {
-            self.of_input(since(changed_by_p5, BeforeP2))
+            self.of_input(since)
         }
     }
+
+    /// Of what else is tried of an input.
+    fn of_the_rest(&mut self, since: Since) -> &mut Digest {
+        self.of.entry(since).or_insert_with(Digest::new)
+    }
+}
+
+/// What may have changed an answer, P8 apart.
+fn since_p2_or_p5(has_new_number: bool, changed_by_p5: bool) -> Since {
+    since(changed_by_p5, if has_new_number { P2 } else { BeforeP2 })
 }
 
 /// Runs inputs of a group until so many are counted, and compares each digest with
@@ -114,58 +146,18 @@ fn compare_split(
     }
 }
 
-fn digest_table(words: &[i32], list_len: usize, scratch_len: usize, digest: &mut Digest) {
-    let verdict = entries::check(words);
-    digest.add(verdict.number as u64);
-    digest.add(verdict.row as u64);
-
-    let (mut list, mut scratch) = (junk(list_len), junk(scratch_len));
-    digest.add_answer(entries::generate(words, &mut list, &mut scratch));
-    digest.add_words(&list);
-    digest.add_words(&scratch);
-
-    let (rows, rest) = words.as_chunks();
-    if !rest.is_empty() {
-        return;
-    }
-    let record = |&[kind, first, second, third]: &[i32; 4]| Record {
-        kind,
-        first,
-        second,
-        third,
-    };
-    let records: Vec<Record> = rows.iter().map(record).collect();
-    let (mut list, mut scratch) = (junk(list_len), junk(scratch_len));
-    digest.add_answer(entries::generate_records(&records, &mut list, &mut scratch));
-    digest.add_words(&list);
-    digest.add_words(&scratch);
+/// Just the room, and the scratch that it needed before P8.
+fn lengths_at_the_need(script: &Script) -> Lengths {
+    let list = words_needed(&script.words);
+    let scratch = (script.nesting + 2) * list;
+    Lengths { list, scratch }
 }
 
-/// The words of the script's list, or as many as there may be; a few for a
-/// table that is refused.
-fn words_needed(script: &Script) -> usize {
-    const FULL: usize = 12;
-    for room in [256, 2_048, LONGEST_LIST] {
-        let (mut list, mut scratch) = (vec![0; room], vec![0; 10 * room]);
-        match entries::generate(&script.words, &mut list, &mut scratch) {
-            answer if answer.number == 0 => return answer.words,
-            answer if answer.number == FULL => {}
-            _ => return 20,
-        }
-    }
-    LONGEST_LIST
-}
-
-/// With just the room and the scratch that it needs.
-fn digest_at_the_need(script: &Script, digest: &mut Digest) {
-    let room = words_needed(script);
-    digest_table(&script.words, room, (script.nesting + 2) * room, digest);
-}
-
-/// With a room and a scratch about as large as it needs.
-fn digest_around_the_need(script: &Script, chance: &mut Chance, digest: &mut Digest) {
-    let needed = words_needed(script);
-    let list_len = match chance.below(8) {
+/// A room about as large as it needs, and a scratch about as large as it needed
+/// before P8.
+fn lengths_around_the_need(script: &Script, chance: &mut Chance) -> Lengths {
+    let needed = words_needed(&script.words);
+    let list = match chance.below(8) {
         0 => needed,
         1 => needed + 1,
         2 => needed + chance.below(200),
@@ -173,13 +165,13 @@ fn digest_around_the_need(script: &Script, chance: &mut Chance, digest: &mut Dig
         4 if chance.once_in(8) => LONGEST_LIST + chance.below(3) - 1,
         _ => chance.below(needed + 1),
     };
-    let enough = (script.nesting + 2) * list_len.min(LONGEST_LIST);
-    let scratch_len = match chance.below(4) {
+    let enough = (script.nesting + 2) * list.min(LONGEST_LIST);
+    let scratch = match chance.below(4) {
         0 | 1 => enough,
         2 => enough + 1,
         _ => enough.saturating_sub(1),
     };
-    digest_table(&script.words, list_len, scratch_len, digest);
+    Lengths { list, scratch }
 }
 
 fn digest_list(words: &[i32], chance: &mut Chance, digest: &mut Digest) {
@@ -251,71 +243,94 @@ fn digest_text(words: &[i32], chance: &mut Chance, digest: &mut Digest) {
 
 #[test]
 fn tables_accepted() {
-    const RECORDED: [(Since, u64); 2] = [
-        (BeforeP2, 0x2A5C_FA4F_32A3_07FF),
-        (P5, 0x23AC_AD3E_3C49_EE85),
+    const RECORDED: [(Since, u64); 3] = [
+        (BeforeP2, 0x61E1_4F40_4213_ABF7),
+        (P5, 0x95D5_E0AA_7747_A3ED),
+        (P8, 0x31E5_093A_6FD8_2F1D),
     ];
     compare_split(1, 50_000, &RECORDED, |chance, digests| {
         let script = script(chance);
-        let digest = digests.of_input(since(table_divides_in_code(&script.words), BeforeP2));
-        digest_at_the_need(&script, digest);
+        let otherwise = since(table_divides_in_code(&script.words), BeforeP2);
+        let lengths = lengths_at_the_need(&script);
+        let digest = digests.of_input(since_with(&script, lengths, otherwise));
+        digest_table(&script.words, lengths, digest);
     });
 }
 
 #[test]
 fn tables_with_rooms_around_the_need() {
-    const RECORDED: [(Since, u64); 2] = [
-        (BeforeP2, 0x972D_FD5D_7849_34BF),
-        (P5, 0x671F_4D27_08EE_22AD),
+    const RECORDED: [(Since, u64); 3] = [
+        (BeforeP2, 0x344A_6F9B_27C8_2005),
+        (P5, 0xBE5E_3B5A_43ED_2093),
+        (P8, 0xE4CF_5A7A_3AAD_6D37),
     ];
     compare_split(2, 30_000, &RECORDED, |chance, digests| {
         let script = script(chance);
-        let digest = digests.of_input(since(table_divides_in_code(&script.words), BeforeP2));
-        digest_around_the_need(&script, chance, digest);
+        let otherwise = since(table_divides_in_code(&script.words), BeforeP2);
+        let lengths = lengths_around_the_need(&script, chance);
+        let digest = digests.of_input(since_with(&script, lengths, otherwise));
+        digest_table(&script.words, lengths, digest);
     });
 }
 
 #[test]
 fn tables_altered() {
-    const RECORDED: [(Since, u64); 3] = [
-        (BeforeP2, 0xDEC2_A706_D8D6_92F1),
-        (P2, 0x6B0E_F023_2009_57DD),
-        (P5, 0xFB28_EAE8_6D22_CD3D),
+    const RECORDED: [(Since, u64); 4] = [
+        (BeforeP2, 0x3BE0_FC6F_789E_CDDF),
+        (P2, 0x5784_E446_CB0C_0565),
+        (P5, 0x4C68_FC04_FCDD_31F5),
+        (P8, 0x6D83_A208_B87D_F7E5),
     ];
     compare_split(3, 50_000, &RECORDED, |chance, digests| {
         let script = altered_script(chance);
         let has_new_number = table_has_new_number(&script.words);
         let divides = table_divides_in_code(&script.words);
-        let digest = digests.of_input_with(has_new_number, divides);
-        digest_at_the_need(&script, digest);
+        let otherwise = since_p2_or_p5(has_new_number, divides);
+        let lengths = lengths_at_the_need(&script);
+        let since = since_with(&script, lengths, otherwise);
+        let digest = digests.of_input_unless(has_new_number, since);
+        digest_table(&script.words, lengths, digest);
     });
 }
 
 #[test]
 fn tables_with_names_or_nesting_out_of_place() {
-    const RECORDED: [(Since, u64); 2] = [
-        (BeforeP2, 0xCAF2_9476_3A6F_EFEB),
-        (P5, 0xABD0_A6AA_01F3_9ABD),
+    const RECORDED: [(Since, u64); 3] = [
+        (BeforeP2, 0xB218_625D_0874_E377),
+        (P5, 0x33BA_8CE2_053C_17F3),
+        (P8, 0xF3B1_EA30_D91A_9111),
     ];
     compare_split(4, 20_000, &RECORDED, |chance, digests| {
         let script = faulty_script(chance);
-        let digest = digests.of_input(since(table_divides_in_code(&script.words), BeforeP2));
-        digest_around_the_need(&script, chance, digest);
+        let otherwise = since(table_divides_in_code(&script.words), BeforeP2);
+        let lengths = lengths_around_the_need(&script, chance);
+        let digest = digests.of_input(since_with(&script, lengths, otherwise));
+        digest_table(&script.words, lengths, digest);
     });
 }
 
 #[test]
 fn tables_of_random_rows() {
     compare(5, 20_000, 0xF447_B34F_3C4E_6348, |chance, digest| {
-        digest_table(&random_rows(chance), 40, 100, digest);
+        let lengths = Lengths {
+            list: 40,
+            scratch: 100,
+        };
+        digest_table(&random_rows(chance), lengths, digest);
     });
 }
 
 #[test]
 fn tables_at_limits() {
-    compare(6, 1_000, 0x32DB_0B42_6C90_41C0, |chance, digest| {
+    const RECORDED: [(Since, u64); 2] = [
+        (BeforeP2, 0x6C67_47CC_FBB8_59E2),
+        (P8, 0x13D7_ED51_7AFE_020D),
+    ];
+    compare_split(6, 1_000, &RECORDED, |chance, digests| {
         let script = script_at_a_limit(chance);
-        digest_around_the_need(&script, chance, digest);
+        let lengths = lengths_around_the_need(&script, chance);
+        let digest = digests.of_input(since_with(&script, lengths, BeforeP2));
+        digest_table(&script.words, lengths, digest);
     });
 }
 
@@ -358,7 +373,8 @@ fn lists_torn() {
             tear(&mut words, chance);
         }
         let has_new_number = list_has_new_number(&words);
-        let digest = digests.of_input_with(has_new_number, list_has_guard(&words));
+        let since = since_p2_or_p5(has_new_number, list_has_guard(&words));
+        let digest = digests.of_input_unless(has_new_number, since);
         digest_list(&words, chance, digest);
     });
 }
@@ -379,14 +395,19 @@ fn texts_for_solvers() {
     });
 }
 
-/// A script, and its list and texts with some words changed.
+/// A script, and its list and texts with some words changed, which P8 does not
+/// concern.
 fn digest_all(
     script: &Script,
     chance: &mut Chance,
-    digest: &mut Digest,
+    digests: &mut Digests,
+    otherwise: Since,
     change: fn(&mut [i32], &mut Chance),
 ) {
-    digest_at_the_need(script, digest);
+    let lengths = lengths_at_the_need(script);
+    let digest = digests.of_input(since_with(script, lengths, otherwise));
+    digest_table(&script.words, lengths, digest);
+    let digest = digests.of_the_rest(otherwise);
     if let Ok(plan) = leqwarti::plan(&script.words) {
         let mut words = plan.words().to_vec();
         if chance.once_in(4) {
@@ -401,14 +422,18 @@ fn digest_all(
 /// one in four has numbers at the edges of the ranges too.
 #[test]
 fn numbers_that_p2_made_ordinary() {
-    const RECORDED: [(Since, u64); 2] = [(P2, 0x7A88_0440_38BA_C25B), (P5, 0x4048_AE1D_0E7A_47BD)];
+    const RECORDED: [(Since, u64); 3] = [
+        (P2, 0xD143_7E7B_A36B_C651),
+        (P5, 0xB0C6_BC5D_7D48_398D),
+        (P8, 0x4D86_ECA1_5C03_C34D),
+    ];
     compare_split(11, 5_000, &RECORDED, |chance, digests| {
         let mut script = renumbered_script(chance);
         if chance.once_in(4) {
             put_at_edges(&mut script.words, 4, &[2, 33], chance);
         }
-        let digest = digests.of_input(since(table_divides_in_code(&script.words), P2));
-        digest_all(&script, chance, digest, |words, chance| {
+        let otherwise = since(table_divides_in_code(&script.words), P2);
+        digest_all(&script, chance, digests, otherwise, |words, chance| {
             put_at_edges(words, 1, &[2], chance);
         });
     });
@@ -418,9 +443,33 @@ fn numbers_that_p2_made_ordinary() {
 /// kinds in its trailers.
 #[test]
 fn divisions_in_code() {
-    compare(17, 5_000, 0xA4C1_8AC6_4D8E_EEE5, |chance, digest| {
+    const RECORDED: [(Since, u64); 2] = [(P5, 0xECBE_4E49_058E_1AEF), (P8, 0x0693_0381_1A30_FD35)];
+    compare_split(17, 5_000, &RECORDED, |chance, digests| {
         let script = dividing_script(chance);
-        digest_all(&script, chance, digest, put_kinds);
+        digest_all(&script, chance, digests, P5, put_kinds);
+    });
+}
+
+/// Scratches around the need and around the need from before P8.
+#[test]
+fn scratch_around_both_needs() {
+    const RECORDED: [(Since, u64); 4] = [
+        (BeforeP2, 0x4ED7_6830_F623_54A9),
+        (P2, 0x4F85_2E4C_F5F9_4206),
+        (P5, 0x1998_E0BA_21D2_8311),
+        (P8, 0x1C04_521A_C750_0949),
+    ];
+    compare_split(25, 100_000, &RECORDED, |chance, digests| {
+        let script = any_script(chance);
+        let lengths = if is_accepted(&script.words) {
+            around_both_needs(&script.words, words_needed(&script.words), chance)
+        } else {
+            any_lengths(&script.words, chance)
+        };
+        let has_new_number = table_has_new_number(&script.words);
+        let otherwise = since_p2_or_p5(has_new_number, table_divides_in_code(&script.words));
+        let digest = digests.of_input(since_with(&script, lengths, otherwise));
+        digest_table(&script.words, lengths, digest);
     });
 }
 
@@ -492,5 +541,33 @@ fn a_table_divides_in_code_where_a_guard_or_an_assigned_expression_does() {
     ] {
         let words = [&division[..], &row].concat();
         assert_eq!(table_divides_in_code(&words), divides, "{row:?}");
+    }
+}
+
+/// Example A has 20 rows and nesting 1: it needs 40 words, and before P8 3 times the room.
+#[test]
+fn p8_may_change_what_one_of_both_rules_refuses() {
+    let example_a = [
+        1, 0, 0, 0, 2, 0, 0, 0, 19, 0, 1, 0, 1, 0, 0, 0, 2, 0, 0, 0, 18, 3, 4, 0, 1, 0, 0, 0, 2, 0,
+        0, 0, 19, 6, 7, 0, 2, 0, 0, 0, 37, 8, 9, 0, 2, 0, 0, 0, 1, 1, 0, 0, 4, 11, 12, 0, 33, 0,
+        13, 0, 36, 5, 10, 14, 2, 0, 0, 0, 1, 0, 0, 0, 20, 16, 17, 0, 48, 2, 15, 18,
+    ];
+    for (list, scratch, may_change) in [
+        (94, 39, false),
+        (94, 40, true),
+        (94, 281, true),
+        (94, 282, false),
+        (13, 38, false),
+        (13, 39, true),
+        (13, 40, false),
+        (0, 0, true),
+        (0, 39, true),
+        (0, 40, false),
+        (20_000, 49_151, true),
+        (20_000, 49_152, false),
+    ] {
+        let lengths = Lengths { list, scratch };
+        let found = p8_may_change(&example_a, lengths);
+        assert_eq!(found, may_change, "{list}, {scratch}");
     }
 }

@@ -2,6 +2,8 @@
 
 #![allow(dead_code)] // each file of recorded answers uses a part of it
 
+pub mod tables;
+
 use std::collections::BTreeMap;
 
 use fuzz::tell;

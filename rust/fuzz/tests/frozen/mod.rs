@@ -11,6 +11,7 @@ pub mod lists;
 pub mod mending;
 pub mod noise;
 pub mod numbers;
+pub mod scratch;
 pub mod shortening;
 pub mod tables;
 pub mod texts;
