@@ -2,6 +2,7 @@
 
 use std::hint::black_box;
 
+use fuzz::scratch::need_before_p8;
 use leqwarti::{entries, LARGEST_TABLE, LONGEST_LIST};
 
 use crate::timing::{Contestants, Stopwatch};
@@ -57,11 +58,22 @@ pub fn time_generating(
     );
 }
 
-/// With the room that the list needs, or the largest where that is too small.
+/// With the room that the list needs, or the largest where that is too small, and the
+/// scratch that such a room took before P8, so that rows from before compare; or what the
+/// table needs, where that is more.
+pub fn time_generating_in_its_room(watch: &Stopwatch, name: &str, table: &[i32]) {
+    let need = reference::need(table).expect("an accepted table");
+    let list_length = need.words.unwrap_or(LONGEST_LIST);
+    let scratch = need_before_p8(table, list_length).max(need.scratch);
+    time_generating(watch, name, table, list_length, scratch);
+}
+
+/// With just the room and just the scratch that the table needs.
 pub fn time_generating_at_the_need(watch: &Stopwatch, name: &str, table: &[i32]) {
     let need = reference::need(table).expect("an accepted table");
     let list_length = need.words.unwrap_or(LONGEST_LIST);
-    time_generating(watch, name, table, list_length, need.scratch(list_length));
+    let name = format!("{name}, scratch {}", need.scratch);
+    time_generating(watch, &name, table, list_length, need.scratch);
 }
 
 /// The floor of what only reads: all words once.

@@ -22,14 +22,18 @@ mod texts;
 mod timing;
 
 use contests::{
-    time_checking, time_choosing, time_generating, time_generating_at_the_need, time_mending,
-    time_reading_at, time_reading_back, time_reading_text, time_shortening, time_writing,
+    time_checking, time_choosing, time_generating, time_generating_at_the_need,
+    time_generating_in_its_room, time_mending, time_reading_at, time_reading_back,
+    time_reading_text, time_shortening, time_writing,
 };
 use fuzz::scripts::EXAMPLE_A;
 use leqwarti::{LARGEST_SCRATCH, LONGEST_LIST, LONGEST_SCRIPT};
 use timing::Stopwatch;
 
 const USUAL_ROUNDS: usize = 31;
+
+/// What sufficed for every table with the longest list before P8.
+const SCRATCH_BEFORE_P8: usize = 10 * LONGEST_LIST;
 
 fn rounds(arguments: &[String]) -> Option<usize> {
     match arguments {
@@ -75,7 +79,34 @@ fn time_lists(watch: &Stopwatch) {
         ("a full list", scripts::full_list()),
     ];
     for (name, table) in tables {
-        time_generating_at_the_need(watch, name, &table);
+        time_generating_in_its_room(watch, name, &table);
+    }
+}
+
+/// Tables with just the scratch that they need, two words a row, and with as much as
+/// suffices for every table.
+fn time_scratches(watch: &Stopwatch) {
+    let tables = [
+        ("example A", EXAMPLE_A.to_vec()),
+        ("50 loops", scripts::loops(50)),
+        ("8 branches", scripts::branches(8)),
+        ("deep expression", scripts::deep_expression(1_000)),
+        ("300 assignments", scripts::assignments_passed(300, 1)),
+        (
+            "350 assignments passed 200 times",
+            scripts::assignments_passed(350, 200),
+        ),
+        ("400 increments", scripts::increments(400)),
+        ("300 divisions", scripts::divisions(300)),
+        ("a full list", scripts::full_list()),
+        ("24 branches", scripts::branches(24)),
+    ];
+    for (name, table) in &tables {
+        time_generating_at_the_need(watch, name, table);
+    }
+    for (name, table) in &tables[..2] {
+        let name = format!("{name}, for the longest list");
+        time_generating(watch, &name, table, LONGEST_LIST, LARGEST_SCRATCH);
     }
 }
 
@@ -111,7 +142,7 @@ fn time_divisions(watch: &Stopwatch) {
         ),
     ];
     for (name, table) in tables {
-        time_generating_at_the_need(watch, name, &table);
+        time_generating_in_its_room(watch, name, &table);
     }
 }
 
@@ -131,7 +162,7 @@ fn time_exponential_lists(watch: &Stopwatch) {
         ),
     ];
     for (name, table) in tables {
-        time_generating_at_the_need(watch, name, &table);
+        time_generating_in_its_room(watch, name, &table);
     }
 }
 
@@ -147,7 +178,11 @@ fn time_refusals(watch: &Stopwatch) {
         (format!("{rows}, the last one faulty"), &faulty),
         ("2,049 rows".to_string(), &too_long),
     ];
-    for (name, table) in tables {
+    for (name, table) in &tables {
+        time_generating(watch, name, table, LONGEST_LIST, SCRATCH_BEFORE_P8);
+    }
+    for (name, table) in &tables {
+        let name = format!("{name}, scratch {LARGEST_SCRATCH}");
         time_generating(watch, &name, table, LONGEST_LIST, LARGEST_SCRATCH);
     }
     time_checking(watch, &format!("{rows} checked"), &huge);
@@ -276,6 +311,7 @@ fn main() {
     let watch = Stopwatch { rounds };
     watch.print_head();
     time_lists(&watch);
+    time_scratches(&watch);
     time_divisions(&watch);
     time_exponential_lists(&watch);
     time_refusals(&watch);
