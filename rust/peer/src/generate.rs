@@ -3,16 +3,15 @@
 use crate::check::{check_rows, rows_of, Accepted};
 use crate::spell::{Full, Memory, Part, Writer};
 use crate::stack::Storage;
-use crate::weakest::{follow_branch, follow_sequence, Open, Walk, Written, BODY, SCRIPT};
+use crate::weakest::{follow_branch, follow_sequence, Follow, Open, Walk, Written, BODY, SCRIPT};
 use crate::{Answer, Row, Verdict, LONGEST_LIST, MOST_ROWS};
 
 /// The generator. Whatever both buffers held before the call, after it the
-/// list is followed by zeros and the scratch, which it has no use for, is all
-/// zeros.
+/// list is followed by zeros and the scratch is all zeros.
 #[inline(never)]
 pub fn generate(table: &[i32], list: &mut [i32], scratch: &mut [i32]) -> Answer {
+    let answer = answer(table, list, scratch);
     scratch.fill(0);
-    let answer = answer(table, list, scratch.len());
     match answer {
         Ok(answer) => {
             list[answer.words..].fill(0);
@@ -30,14 +29,14 @@ pub fn generate(table: &[i32], list: &mut [i32], scratch: &mut [i32]) -> Answer 
 }
 
 #[inline(always)]
-fn answer(table: &[i32], list: &mut [i32], scratch: usize) -> Result<Answer, Verdict> {
+fn answer(table: &[i32], list: &mut [i32], scratch: &mut [i32]) -> Result<Answer, Verdict> {
     let rows = rows_of(table)?;
     let accepted = check_rows(rows)?;
     let room = list.len().min(LONGEST_LIST);
-    if scratch < 2 * rows.len() {
+    if scratch.len() < 2 * rows.len() {
         return Err(Verdict { number: 11, row: 0 });
     }
-    let (conditions, words) = write_list(rows, &mut list[..room], accepted)
+    let (conditions, words) = write_list(rows, &mut list[..room], scratch, accepted)
         .map_err(|Full| Verdict { number: 12, row: 0 })?;
     Ok(Answer {
         number: 0,
@@ -47,17 +46,25 @@ fn answer(table: &[i32], list: &mut [i32], scratch: usize) -> Result<Answer, Ver
     })
 }
 
-/// How many conditions the list has, and how many words.
-fn write_list(rows: &[Row], list: &mut [i32], accepted: Accepted) -> Result<(usize, usize), Full> {
+/// How many conditions the list has, and how many words. The scratch has two runs of a
+/// word for each row: what follows each statement, and the assignments passed.
+fn write_list(
+    rows: &[Row],
+    list: &mut [i32],
+    scratch: &mut [i32],
+    accepted: Accepted,
+) -> Result<(usize, usize), Full> {
     let has_loops = accepted.has_loops;
     let last = rows.len() - 1;
     let [_, precondition, statement, postcondition] = rows[last];
-    let (mut memory, mut follow) = (Memory::new(), Storage::<_, MOST_ROWS>::new());
+    let (follow, path) = scratch.split_at_mut(rows.len());
+    follow[statement as usize] = i32::from(SCRIPT);
+    let mut memory = Memory::new();
     let (mut invariants, mut open) = (Storage::<_, MOST_ROWS>::new(), Storage::new());
     let mut branches = Storage::new();
     let mut walk = Walk {
-        writer: Writer::new(rows, list, &mut memory, &accepted),
-        follow: follow.filled(rows.len(), SCRIPT),
+        writer: Writer::new(rows, list, &mut path[..rows.len()], &mut memory, &accepted),
+        follow,
         invariants: invariants.filled(if has_loops { rows.len() } else { 0 }, Part::default()),
         open: open.stack(),
         branches: branches.stack(),
@@ -151,7 +158,7 @@ impl Walk<'_> {
         self.invariants[usize::from(row)] = invariant_words;
         self.writer.put(22)?;
         let guard_words = self.writer.write(guard)?;
-        self.write_before(self.follow[usize::from(row)])?;
+        self.write_before(self.follow[usize::from(row)] as Follow)?;
         self.finish(start, 1, row)?;
 
         let start = self.writer.place();
@@ -167,7 +174,7 @@ impl Walk<'_> {
         let variant_words = self.writer.write(variant)?;
         self.finish(start, 2, row)?;
 
-        self.follow[body as usize] = BODY | self.open.len() as u16;
+        self.follow[body as usize] = i32::from(BODY | self.open.len() as u16);
         self.open.push(Open {
             row,
             invariant,

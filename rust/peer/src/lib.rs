@@ -1,5 +1,5 @@
-//! A yardstick for the proved library: document 01 and requests P1, P2, P4, P5, P6,
-//! P7 and P8 written by hand for speed.
+//! A yardstick for the proved library: document 01 and requests P1, P2 and P4 to P8
+//! written by hand for speed.
 //!
 //! Nothing of it is proved. `fuzz/tests/peer.rs` compares it with the proved
 //! library word for word, and the benchmark times the library beside it; it has
@@ -8,13 +8,16 @@
 //! [`check`] reads the table once, and again only where a frozen name or a mark
 //! occurs. [`generate`] writes the list from front to back, keeps no formula,
 //! and copies what stands in the list already; where there is a div or mod, it
-//! notes once which rows divide. The reader goes over the words
-//! of a line once. [`smt`] writes a part once and copies it where it stands
-//! again. [`read_text`] goes over the text once. [`shorten`] goes over a formula
-//! once to find its nodes and once back over these. [`mend`] goes over the old rows
-//! once, or twice where there are marks, and over the new ones once. Nothing is taken
-//! from the heap, and working memory is cleared only as far as the table has rows, or
-//! assigns to variables; the module `stack` has the only `unsafe` code.
+//! notes once which rows divide. What follows each statement and what the
+//! assignments passed assign is in the caller's scratch, as in the proved library;
+//! where their values stand in the list is in an array of its own, and so are the
+//! parts still to be written. The reader goes over the words of a line once. [`smt`]
+//! writes a part once and copies it where it stands again. [`read_text`] goes over
+//! the text once. [`shorten`] goes over a formula once to find its nodes and once
+//! back over these. [`mend`] goes over the old rows once, or twice where there are
+//! marks, and over the new ones once. Nothing is taken from the heap, and working
+//! memory is cleared only as far as the table has rows, or assigns to variables; the
+//! module `stack` has the only `unsafe` code.
 
 mod check;
 mod divisors;

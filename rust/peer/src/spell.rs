@@ -19,12 +19,10 @@ pub struct Part {
     pub length: u16,
 }
 
-/// An assignment on the path. They count from 1.
+/// An assignment on the path. They count from 1. The variable and the row of the assigned
+/// expression are in the caller's scratch.
 #[derive(Clone, Copy)]
 struct Passed {
-    variable: u16,
-    /// The row of the assigned expression.
-    value: u16,
     /// The assignment to the same variable before this one, or 0.
     before: u16,
     /// Where the value stands, under the assignments before.
@@ -70,6 +68,9 @@ pub struct Writer<'a> {
     list: &'a mut [i32],
     at: usize,
     path: Stack<'a, Passed, MOST_ROWS>,
+    /// What each assignment on the path assigns: the variable, and above it the row of the
+    /// expression.
+    assigned: &'a mut [i32],
     /// The latest assignment to each variable, or 0; none to variables beyond.
     latest: &'a mut [u16],
     /// Whether a row has a div or mod in it; none has where there are no such rows.
@@ -89,6 +90,7 @@ impl<'a> Writer<'a> {
     pub fn new(
         rows: &'a [Row],
         list: &'a mut [i32],
+        assigned: &'a mut [i32],
         memory: &'a mut Memory,
         accepted: &Accepted,
     ) -> Writer<'a> {
@@ -100,6 +102,7 @@ impl<'a> Writer<'a> {
             list,
             at: 0,
             path: memory.path.stack(),
+            assigned,
             latest: memory.latest.filled(accepted.targets, 0),
             divides,
             versions: 0,
@@ -145,9 +148,8 @@ impl<'a> Writer<'a> {
     pub fn pass(&mut self, variable: i32, value: i32) {
         let latest = &mut self.latest[variable as usize];
         self.versions += 1;
+        self.assigned[self.path.len()] = value << 16 | variable;
         self.path.push(Passed {
-            variable: variable as u16,
-            value: value as u16,
             before: *latest,
             written: Part::default(),
             version: self.versions,
@@ -159,11 +161,9 @@ impl<'a> Writer<'a> {
     #[inline(always)]
     pub fn go_back(&mut self, passed: u16) {
         while self.path.len() > usize::from(passed) {
-            if let Some(Passed {
-                variable, before, ..
-            }) = self.path.pop()
-            {
-                self.latest[usize::from(variable)] = before;
+            if let Some(Passed { before, .. }) = self.path.pop() {
+                let variable = self.assigned[self.path.len()] & 0xffff;
+                self.latest[variable as usize] = before;
             }
         }
     }
@@ -205,7 +205,7 @@ impl<'a> Writer<'a> {
                         Some(passed) if passed.written.length > 0 => {
                             copy(list, &mut at, passed.written)?
                         }
-                        Some(passed) => {
+                        Some(_) => {
                             later.push(VALUE_ENDS);
                             values.push(Value {
                                 assignment,
@@ -213,7 +213,7 @@ impl<'a> Writer<'a> {
                                 seen,
                             });
                             seen = assignment - 1;
-                            row = passed.value;
+                            row = (self.assigned[usize::from(seen)] >> 16) as u16;
                             continue;
                         }
                     }

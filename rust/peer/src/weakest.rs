@@ -55,8 +55,8 @@ pub struct Branch {
 
 pub struct Walk<'a> {
     pub writer: Writer<'a>,
-    /// By the row of a statement.
-    pub follow: &'a mut [Follow],
+    /// By the row of a statement; a [`Follow`] each, where it was met.
+    pub follow: &'a mut [i32],
     /// Where a loop's invariant stands, by its row.
     pub invariants: &'a mut [Part],
     pub open: Stack<'a, Open, 8>,
@@ -68,14 +68,14 @@ pub struct Walk<'a> {
 
 /// Sets what follows both parts of a sequence.
 #[inline(always)]
-pub fn follow_sequence(follow: &mut [Follow], row: u16, first: i32, second: i32) {
+pub fn follow_sequence(follow: &mut [i32], row: u16, first: i32, second: i32) {
     follow[second as usize] = follow[usize::from(row)];
-    follow[first as usize] = second as Follow;
+    follow[first as usize] = second;
 }
 
 /// Sets what follows both sides of a branch.
 #[inline(always)]
-pub fn follow_branch(follow: &mut [Follow], row: u16, then: i32, otherwise: i32) {
+pub fn follow_branch(follow: &mut [i32], row: u16, then: i32, otherwise: i32) {
     follow[then as usize] = follow[usize::from(row)];
     follow[otherwise as usize] = follow[usize::from(row)];
 }
@@ -108,10 +108,10 @@ impl Walk<'_> {
         while statement & BODY == 0 {
             let [kind, first, second, _] = rows[usize::from(statement)];
             statement = match kind {
-                32 => follow[usize::from(statement)],
+                32 => follow[usize::from(statement)] as Follow,
                 33 if !self.writer.divides(second) => {
                     self.writer.pass(first, second);
-                    follow[usize::from(statement)]
+                    follow[usize::from(statement)] as Follow
                 }
                 34 => {
                     follow_sequence(follow, statement, first, second);
@@ -137,7 +137,7 @@ impl Walk<'_> {
                 self.writer.put(23)?;
                 self.writer.write_divisors(second)?;
                 self.writer.pass(first, second);
-                Some(self.follow[usize::from(statement)])
+                Some(self.follow[usize::from(statement)] as Follow)
             }
             35 => {
                 follow_branch(self.follow, statement, second, third);
@@ -159,7 +159,7 @@ impl Walk<'_> {
             38 => {
                 self.writer.put(23)?;
                 self.writer.write(first)?;
-                Some(self.follow[usize::from(statement)])
+                Some(self.follow[usize::from(statement)] as Follow)
             }
             _ => {
                 self.write_invariant(statement, second)?;
