@@ -1,6 +1,6 @@
 -- What an entry of the run `follow` means, by the sort of its row. A statement: the row of the statement that comes after it, or
 -- 2048 where there is none (`Follow.Followed`). An expression or a formula: 0 where its D does not stand, and else 1 more than
--- the row of its source (`Entry`, `Divided`). A note, the script and the rows past the last: nothing.
+-- the row of its source (`Entry`, `Divided`). A note and the script: nothing.
 -- Assumes nothing.
 use Prim.Native.Nat.{ℕ, _+_, _≤_, _<_}
 use mathlib.Core.Path.{_≡_, sym, ap, _∙_}

@@ -1,6 +1,6 @@
 -- The conditions of a loop and the main one: what their writers ask, and that the words of their parts, one run after another,
 -- are the formula of the condition. Assumes nothing.
-use Prim.Native.Nat.{ℕ, _+_, _*_, _<_}
+use Prim.Native.Nat.{ℕ, _+_, _<_}
 use mathlib.Core.Path.{_≡_, ap, _∙_}
 use mathlib.Core.List.{List, [], _∷_}
 use native.Mathlib.Omega.{arith as linear}
@@ -15,6 +15,7 @@ use Rattle.script.specs.Conditions.{Condition, condition, exit, floor, step, wp
 use Rattle.script.specs.Words.{expr-words, formula-words}
 use Rattle.script.specs.Rows.{rows}
 use Rattle.script.specs.Trees.{expr-at, formula-at, stmt-at}
+use Rattle.script.specs.Generated.{scratch-need}
 use Rattle.theorems.specs.Accepted.{Accepted}
 use Rattle.theorems.specs.Writing.{Wrote, then, wrote-as}
 use Rattle.formula_writer.specs.Paths.{none-passed, none-passedᵉ, expr-under, formula-under}
@@ -52,14 +53,14 @@ pub record StepReady (t : List ℤ) (k : ℕ) (follow path : List ℤ) : Type 0 
   pub loops : Loop t k
   pub followed : Followed t follow
   pub divided : Divided t follow
-  pub long : length path ≡ 2 * rows t
+  pub long : length path ≡ scratch-need t
   pub noted : follow-in t path ≡ follow
 
 pub record MainReady (t : List ℤ) (r : ℕ) (follow path : List ℤ) : Type 0 where
   pub scripts : Script t r
   pub followed : Followed t follow
   pub divided : Divided t follow
-  pub long : length path ≡ 2 * rows t
+  pub long : length path ≡ scratch-need t
   pub noted : follow-in t path ≡ follow
 
 -- ---- what is left: the lines of cs, and a scratch that is as long as before, with the same `follow`

@@ -11,6 +11,7 @@ use Rattle.script.specs.Conditions.{walk, conditions}
 use Rattle.script.specs.Rows.{rows}
 use Rattle.script.specs.Trees.{stmt-at, tree}
 use Rattle.script.specs.Refusals.{verdict, accepted}
+use Rattle.script.specs.Generated.{scratch-need}
 use Rattle.theorems.specs.Accepted.{passed}
 use Rattle.theorems.specs.RowTrees.{tree-is}
 use Rattle.following.specs.Follow.{follow-in, Followed}
@@ -32,7 +33,7 @@ use Rattle.list_writer.specs.Walks.{Walking, walk-at}
 abbrev pub with-run : List ℤ → List ℤ → List ℤ → List ℤ
 with-run t scratch follow = take (rows t) scratch ++ (follow ++ drop (length scratch - rows t) (drop (rows t) scratch))
 
-module _ (t scratch follow : List ℤ) (b : length scratch ≡ 2 * rows t) where
+module _ (t scratch follow : List ℤ) (b : length scratch ≡ scratch-need t) where
   path-long : length (take (rows t) scratch) ≡ rows t
   path-long = length-take-le (rows t) scratch (omega linear)
 
@@ -63,7 +64,7 @@ module _ (t : List ℤ) (ok : verdict t ≡ accepted) where
   script-here = record { table = passed t ok; inside = let a = filled in omega linear; script = script-kind t last (passed t ok .script) }
 
   -- the scratch, with the run filled in
-  module _ (path : List ℤ) (b : length path ≡ 2 * rows t) (k : Followed t (follow-in t path)) (d : Divided t (follow-in t path)) where
+  module _ (path : List ℤ) (b : length path ≡ scratch-need t) (k : Followed t (follow-in t path)) (d : Divided t (follow-in t path)) where
     ready : {path′ : List ℤ} → Same (rows t) 0 path path′ → MainReady t last (follow-in t path) path′
     ready e = record { scripts = script-here; followed = k; divided = d; long = e .long ∙ b; noted = e .behind }
 

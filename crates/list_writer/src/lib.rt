@@ -6,12 +6,13 @@ use script::RowNumber;
 use script::field;
 use script::kinds;
 ghost use mathlib.Core.Path.{_≡_};
-ghost use Prim.Native.Nat.{_*_, _≤_};
+ghost use Prim.Native.Nat.{_≤_};
 ghost use lib.ListN.{length};
 ghost use Rattle.script.specs.Rows.{rows};
 ghost use Rattle.script.specs.Conditions.{conditions};
 ghost use Rattle.script.specs.Trees.{tree};
 ghost use Rattle.script.specs.Refusals.{verdict, accepted};
+ghost use Rattle.script.specs.Generated.{scratch-need};
 ghost use Rattle.following.specs.Follow.{follow-in, Followed};
 ghost use Rattle.dividing.specs.Divided.{Divided};
 ghost use Rattle.line_writer.specs.Spelled.{Whole};
@@ -68,7 +69,7 @@ fn list_conditions(
 }
 
 // Fills in what follows each statement, and which rows divide.
-fn find_follow(table: &[i32], follow: &mut [i32])
+fn fill_run(table: &[i32], follow: &mut [i32])
     requires { ⌜ (verdict (now table) ≡ accepted) × (length (now follow) ≡ rows (now table)) ⌝ }
     ensures { λ r. ⌜ Followed (now (table .entry)) (now (follow .exit)) × Divided (now (table .entry)) (now (follow .exit)) ⌝ }
 {
@@ -78,12 +79,12 @@ fn find_follow(table: &[i32], follow: &mut [i32])
 
 // Writes the whole list of a table that is accepted: the conditions of the script's statement, main, and their number.
 pub fn write_list(table: &[i32], list: &mut [i32], scratch: &mut [i32]) -> Progress
-    requires { ⌜ (verdict (now table) ≡ accepted) × ((length (now list) ≤ 16384) × (length (now scratch) ≡ 2 * rows (now table))) ⌝ }
+    requires { ⌜ (verdict (now table) ≡ accepted) × ((length (now list) ≤ 16384) × (length (now scratch) ≡ scratch-need (now table))) ⌝ }
     ensures { λ q. ⌜ Whole (now (list .entry)) (conditions (tree (now (table .entry)))) q (now (list .exit)) ⌝ }
     ensures { λ q. ⌜ length (now (scratch .exit)) ≡ length (now (scratch .entry)) ⌝ }
 {
     let rows = table.len() / 4;
-    find_follow(table, &mut scratch[rows..]);
+    fill_run(table, &mut scratch[rows..]);
     let script = RowNumber(rows - 1);
     let statement = field(table, script.0, 2);
     let start = Progress { at: 0, count: 0 };

@@ -1,7 +1,7 @@
 -- 02, P5: "What has no div or mod adds nothing", of tables: where no guard and no assigned expression of a table's tree
--- divides, the generator answers and leaves what it did before P5 (`same-outcome`, with that outcome stated again: the verdict
--- and the scratch that is needed are the present ones, the conditions are 01's); and so it does for a table without a div or mod row (`same-for-table`), and for
--- every table that is refused with 1 to 10.
+-- divides, the generator answers and leaves what it would with 01's conditions, whatever scratch is needed (`same-by`), so by the
+-- present rule (`same-outcome`; by the rule of 01 it is `ScratchRules.before-division`); and so it does for a table without a div
+-- or mod row (`same-for-table`), and for every table that is refused with 1 to 10.
 -- Argument: the first by `same-conditions`; the second by induction on the depth, since a tree's operators are those of its
 -- rows; past the last row of an accepted table there is none (`past-end`). Assumes nothing.
 use Prim.Native.Nat.{ℕ, zero, suc, _+_, _*_, _-_, _≤_, _<_}
@@ -17,34 +17,42 @@ use Rattle.script.specs.declared.FormulaRow.the-variants.{True, False, Comparis
 use Rattle.script.specs.declared.StatementRow.the-variants.{Skip, Assign, Sequence, If, While, Assert}
 use Rattle.script.specs.declared.Row.{Row}
 use Rattle.script.specs.declared.Row.the-variants as Row
-use Rattle.script.specs.Syntax.{Expr, Formula, Stmt}
+use Rattle.script.specs.Syntax.{Expr, Formula, Stmt, Tree}
 use Rattle.script.specs.Rows.{at-kind, row-of, row, rows}
 use Rattle.script.specs.Trees.{expr-node, formula-node, loop-node, stmt-node, script-node, expr, formula, stmt, expr-at, formula-at, stmt-at, tree}
 use Rattle.script.specs.Refusals.{Verdict, accepted, refused, verdict}
-use Rattle.script.specs.Conditions.{conditions}
+use Rattle.script.specs.Conditions.{Condition, conditions}
 use Rattle.script.specs.Generated.{Outcome, refuse, scratch-need, outcome-for, outcome, outcome-within}
 use Rattle.theorems.specs.Accepted.{passed}
 use Rattle.theorems.specs.Unchanged.{is-division, divides, dividesᶠ, Undivided, conditions₀, same-conditions}
 
--- ---- the outcome before P5
+-- ---- with other conditions, and another need for scratch
 
-unfoldable pub outcome₀ : List ℤ → ℕ → ℕ → Outcome
-outcome₀ table list scratch =
+abbrev pub outcome-by : (Tree → List Condition) → ℕ → List ℤ → ℕ → ℕ → Outcome
+outcome-by cs need table list scratch =
     elim (verdict table) [
       | refused n r ↦ refuse n r list scratch
-      | accepted ↦ outcome-for (scratch-need table) (conditions₀ (tree table)) list scratch
+      | accepted ↦ outcome-for need (cs (tree table)) list scratch
     ]
+
+-- with the conditions of before P5, by the present rule for scratch
+unfoldable pub outcome₀ : List ℤ → ℕ → ℕ → Outcome
+outcome₀ table list scratch = outcome-by conditions₀ (scratch-need table) table list scratch
+
+pub same-by : (need : ℕ) (t : List ℤ) (list scratch : ℕ) → (verdict t ≡ accepted → Undivided (tree t .body))
+    → outcome-by conditions need t list scratch ≡ outcome-by conditions₀ need t list scratch
+same-by need t list scratch u = by-verdict (verdict t) u
+  where
+    by-verdict : (v : Verdict) → (v ≡ accepted → Undivided (tree t .body))
+        → _≡_ {A = Outcome} (elim v [ refused n r ↦ refuse n r list scratch | accepted ↦ outcome-for need (conditions (tree t)) list scratch ])
+        (elim v [ refused n r ↦ refuse n r list scratch | accepted ↦ outcome-for need (conditions₀ (tree t)) list scratch ])
+    by-verdict (refused n r) w = refl
+    by-verdict accepted w = ap (λ cs. outcome-for need cs list scratch) (same-conditions (tree t) (w refl))
 
 pub same-outcome : (t : List ℤ) (list scratch : ℕ) → (verdict t ≡ accepted → Undivided (tree t .body))
     → outcome t list scratch ≡ outcome₀ t list scratch
 unfolding outcome-within outcome₀
-same-outcome t list scratch u = by-verdict (verdict t) u
-  where
-    by-verdict : (v : Verdict) → (v ≡ accepted → Undivided (tree t .body))
-        → _≡_ {A = Outcome} (elim v [ refused n r ↦ refuse n r list scratch | accepted ↦ outcome-for (scratch-need t) (conditions (tree t)) list scratch ])
-        (elim v [ refused n r ↦ refuse n r list scratch | accepted ↦ outcome-for (scratch-need t) (conditions₀ (tree t)) list scratch ])
-    by-verdict (refused n r) w = refl
-    by-verdict accepted w = ap (λ cs. outcome-for (scratch-need t) cs list scratch) (same-conditions (tree t) (w refl))
+same-outcome t list scratch u = same-by (scratch-need t) t list scratch u
 
 -- ---- a table without a div or mod row
 

@@ -1,8 +1,9 @@
 -- 02, P8: "The same lists must come from 2 × rows scratch words, whatever the room". The rule of 01 for scratch is stated again
 -- (`outcome₁`), and the two are compared for every table, list length and scratch length. 11 comes exactly where an accepted
 -- table has too little scratch (`eleven`). Where neither gives 11, they give the same outcome (`same-outcome`), so where both plan,
--- the same list (`same-plan`). 11 alone comes and goes, as 02 says (`from-11`, `to-11`), and each such move occurs (`moves`).
--- 4,096 words are enough for every table (`enough-for-all`), and no other need has the same occasions of 11 (`only-need`).
+-- the same list (`same-plan`); what was planned with any scratch is planned alike with 2 × rows words (`planned-still`). 11 alone
+-- comes and goes, as 02 says (`from-11`, `to-11`), and each such move occurs (`moves`). 4,096 words are enough for every table
+-- (`enough-for-all`), the program answers as before (`program-same`), and no other need has the same occasions of 11 (`only-need`).
 -- Argument: but for 11, an outcome does not depend on the need (`rest`). Assumes nothing.
 use Prim.Native.Nat.{ℕ, _+_, _*_, _≤_, _<_}
 use native.Mathlib.Omega.{arith as linear}
@@ -23,6 +24,8 @@ use Rattle.script.specs.Generated.{Outcome, refuse, plan, room, scratch-need, o
 use Rattle.script.specs.Computed.{_⨾_, example, example-a, four-rows, three-skips}
 use Rattle.theorems.specs.Accepted.{passed}
 use Rattle.theorems.specs.Numbers.{one-to-ten}
+use Rattle.theorems.specs.Unchanged.{Undivided, conditions₀}
+use Rattle.theorems.specs.NoDivision.{outcome-by, same-by}
 
 -- ---- the rule of 01
 
@@ -31,11 +34,13 @@ abbrev pub scratch-need₁ : List ℤ → ℕ → ℕ
 scratch-need₁ table list = (nesting (tree table .body) + 2) * room list
 
 unfoldable pub outcome₁ : List ℤ → ℕ → ℕ → Outcome
-outcome₁ table list scratch =
-    elim (verdict table) [
-      | refused n r ↦ refuse n r list scratch
-      | accepted ↦ outcome-for (scratch-need₁ table list) (conditions (tree table)) list scratch
-    ]
+outcome₁ table list scratch = outcome-by conditions (scratch-need₁ table list) table list scratch
+
+-- 02, P5, by that rule: what has no div or mod was answered so before P5 too
+pub before-division : (table : List ℤ) (list scratch : ℕ) → (verdict table ≡ accepted → Undivided (tree table .body))
+    → outcome₁ table list scratch ≡ outcome-by conditions₀ (scratch-need₁ table list) table list scratch
+unfolding outcome₁
+before-division table list scratch u = same-by (scratch-need₁ table list) table list scratch u
 
 abbrev pub number : Outcome → ℕ
 number o = o .answer .number
@@ -167,6 +172,47 @@ module _ (table : List ℤ) (list scratch : ℕ) where
       let s = n .1 in
       let k = passed table (n .0) .short in
       omega linear
+
+-- ---- "The same lists must come from 2 × rows scratch words": whatever scratch each rule is lent
+
+abbrev pub Alike : Outcome → Outcome → Type 0
+Alike o p = (o .answer ≡ p .answer) × (o .list ≡ p .list)
+
+module _ (table : List ℤ) (list old new : ℕ) where
+  fits-alike : (b : Bool) → Alike (by-room table list old b) (by-room table list new b)
+  fits-alike true = (refl, refl)
+  fits-alike false = (refl, refl)
+
+  rest-alike : (v : Verdict) → Alike (rest-of table list old v) (rest-of table list new v)
+  unfolding rest-of
+  rest-alike (refused n r) = (refl, refl)
+  rest-alike accepted = fits-alike (too-long table list old)
+
+  -- but for 11, with any two lengths of scratch
+  pub same-words : number (outcome₁ table list old) ≢ 11 → number (outcome table list new) ≢ 11
+      → Alike (outcome₁ table list old) (outcome table list new)
+  same-words h k =
+      let a = otherwise table list old (before-under table list old) h in
+      let b = otherwise table list new (now-under table list new) k in
+      let c = rest-alike (verdict table) in
+      (rw (a, b) (c .0), rw (a, b) (c .1))
+
+  -- what was planned is planned with 2 × rows words
+  pub planned-still : number (outcome₁ table list old) ≡ 0 → scratch-need table ≤ new
+      → Alike (outcome₁ table list old) (outcome table list new)
+  planned-still h k = same-words (λ e. omega linear) (λ e. let s = eleven table list new .0 e .1 in omega linear)
+
+-- ---- "with room 512 and scratch 5,120": the program answers as before, whatever it reads
+
+pub program-same : (table : List ℤ) → outcome₁ table 512 5120 ≡ outcome table 512 5120
+program-same table = same-outcome table 512 5120 not-before (enough-for-all table 512 5120 (omega linear))
+  where
+    not-before : number (outcome₁ table 512 5120) ≢ 11
+    not-before e =
+        let n = exactly table 512 5120 (before-under table 512 5120) .0 e in
+        let d = passed table (n .0) .shallow in
+        let s : 5120 < (nesting (tree table .body) + 2) * 512 = n .1 in
+        omega linear
 
 -- ---- no other need gives 11 on the same occasions
 

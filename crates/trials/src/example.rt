@@ -13,8 +13,8 @@ pub fn rows() -> [i32; 124] {
     table
 }
 
-fn within(name: &[u8], room: usize, bench: usize) {
-    run::words(name, &rows(), 80, room, bench);
+fn within(name: &[u8], room: usize, lent: usize) {
+    run::words(name, &rows(), 80, room, lent);
 }
 
 pub fn rooms() {

@@ -24,15 +24,15 @@ pub fn say(name: &[u8], answer: Answer) {
 }
 
 // The first n words of a table, with that room and scratch: at most 512 and 5,120 words, as the program has.
-pub fn part(name: &[u8], table: &[i32], n: usize, room: usize, bench: usize) {
+pub fn part(name: &[u8], table: &[i32], n: usize, room: usize, lent: usize) {
     let mut list = [7; 512];
     let mut scratch = [7; 5120];
     if n <= table.len() {
         if room <= 512 {
-            if bench <= 5120 {
+            if lent <= 5120 {
                 say(
                     name,
-                    generator::generate(&table[..n], &mut list[..room], &mut scratch[..bench]),
+                    generator::generate(&table[..n], &mut list[..room], &mut scratch[..lent]),
                 );
             }
         }
@@ -40,15 +40,15 @@ pub fn part(name: &[u8], table: &[i32], n: usize, room: usize, bench: usize) {
 }
 
 // The same of a table in an array.
-pub fn words(name: &[u8], table: &[i32; 124], n: usize, room: usize, bench: usize) {
-    part(name, table, n, room, bench);
+pub fn words(name: &[u8], table: &[i32; 124], n: usize, room: usize, lent: usize) {
+    part(name, table, n, room, lent);
 }
 
 // The same of a table as document 01 prints it.
-pub fn rows(name: &[u8], rows: &[u8], room: usize, bench: usize) {
+pub fn rows(name: &[u8], rows: &[u8], room: usize, lent: usize) {
     let mut table = [0; 124];
     let n = text::numbers(rows, &mut table);
-    words(name, &table, n, room, bench);
+    words(name, &table, n, room, lent);
 }
 
 // Every word of a list.

@@ -1,6 +1,6 @@
 -- What the writer of W asks and what it leaves, and what holds at each of its turns: whatever writes W from the statement at
 -- hand on, writes W from the first on. Assumes nothing.
-use Prim.Native.Nat.{ℕ, _*_, _≤_, _<_}
+use Prim.Native.Nat.{ℕ, _≤_, _<_}
 use mathlib.Core.Path.{_≡_, refl}
 use mathlib.Core.List.{List}
 use native.Mathlib.Omega.{arith as linear}
@@ -8,6 +8,7 @@ use lib.IntN.{ℤ}
 use lib.ListN.{length}
 use Rattle.script.specs.Syntax.{Formula}
 use Rattle.script.specs.Rows.{rows}
+use Rattle.script.specs.Generated.{scratch-need}
 use Rattle.theorems.specs.Writing.{Wrote, stopped}
 use Rattle.formula_writer.specs.Nodes.{OnPath}
 use Rattle.following.specs.Follow.{follow-in}
@@ -16,15 +17,15 @@ use Rattle.dividing.specs.Divided.{Divided}
 use Rattle.wp_writer.specs.Ends.{end-formula, Ended, EndReady, words-under}
 use Rattle.wp_writer.specs.Same.{Same, same-refl, same-trans, same-less}
 
--- ---- what is asked: a course from s on, after the j assignments of the path, before the formula at the end; path and `follow` are
--- the two runs of the scratch
+-- ---- what is asked: a course from s on, after the j assignments of the path, before the formula at the end. `path` is the whole
+-- scratch, which the path begins; `follow` is its second run
 
 pub record Before (t follow path : List ℤ) (j end s : ℕ) : Type 0 where
   pub course : Course t follow s j
   pub divided : Divided t follow
   pub ended : Ended t end
   pub along : OnPath t path j
-  pub long : length path ≡ 2 * rows t
+  pub long : length path ≡ scratch-need t
   pub noted : follow-in t path ≡ follow
 
 -- the run in the scratch is meant

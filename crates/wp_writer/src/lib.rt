@@ -1,7 +1,7 @@
 // Writing W of a statement and of what follows it into the list, word after word, with no formula kept. The scratch has two runs
 // of as many words as there are rows: the path, that is the assignments passed since the formula was begun, which are carried
-// out where a variable is written; and what follows each statement, which is fixed by the table. Once there is no room, a call
-// returns at once.
+// out where a variable is written; and what follows each statement and which rows divide, which the table fixes. Once there is
+// no room, a call returns at once.
 
 use script::RowNumber;
 use script::field;

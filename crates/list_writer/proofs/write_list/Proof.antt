@@ -1,13 +1,12 @@
 -- `list_writer::write_list` meets its contract: what follows each statement and which rows divide is found first; what is listed, then main, are the
 -- script's conditions. Assumes nothing.
-use Prim.Native.Nat.{_*_}
 use borrow.Author.Needs.{needs}
 use native.Mathlib.Omega.{arith}
 use mathlib.Core.Path.{_≡_, _∙_}
 use mathlib.Core.List.{List}
 use lib.IntN.{ℤ}
 use lib.ListN.{length}
-use Rattle.script.specs.Rows.{rows}
+use Rattle.script.specs.Generated.{scratch-need}
 use Rattle.following.specs.Follow.{follow-in, Followed}
 use Rattle.dividing.specs.Divided.{Divided}
 use Rattle.line_writer.specs.Spelled.{whole-counted}
@@ -18,7 +17,7 @@ use Rattle.list_writer.proofs.write_list.Tie as tie
 -- ---- where the run was found
 
 abbrev Found : Type 0
-Found = tie.After-find-follow
+Found = tie.After-fill-run
 
 abbrev start : Found → tie.Start
 start c = c .before .before
@@ -28,21 +27,21 @@ table c = start c .args .table .now
 
 -- the scratch then
 abbrev scratch : Found → List ℤ
-scratch c = with-run (table c) (start c .args .scratch .now) (c .find-follow .last .1 .0)
+scratch c = with-run (table c) (start c .args .scratch .now) (c .fill-run .last .1 .0)
 
-there : (c : Found) → follow-in (table c) (scratch c) ≡ c .find-follow .last .1 .0
-there c = run-there (table c) (start c .args .scratch .now) (c .find-follow .last .1 .0) (start c .pre .1 .1)
+there : (c : Found) → follow-in (table c) (scratch c) ≡ c .fill-run .last .1 .0
+there c = run-there (table c) (start c .args .scratch .now) (c .fill-run .last .1 .0) (start c .pre .1 .1)
 
 followed : (c : Found) → Followed (table c) (follow-in (table c) (scratch c))
-followed c = rw (there c) (c .find-follow .ensures .0)
+followed c = rw (there c) (c .fill-run .ensures .0)
 
 divided : (c : Found) → Divided (table c) (follow-in (table c) (scratch c))
-divided c = rw (there c) (c .find-follow .ensures .1)
+divided c = rw (there c) (c .fill-run .ensures .1)
 
 as-lent : (c : Found) → length (scratch c) ≡ length (start c .args .scratch .now)
-as-lent c = run-fits (table c) (start c .args .scratch .now) (c .find-follow .last .1 .0) (start c .pre .1 .1) (c .find-follow .ensures .0 .long)
+as-lent c = run-fits (table c) (start c .args .scratch .now) (c .fill-run .last .1 .0) (start c .pre .1 .1) (c .fill-run .ensures .0 .long)
 
-long : (c : Found) → length (scratch c) ≡ 2 * rows (table c)
+long : (c : Found) → length (scratch c) ≡ scratch-need (table c)
 long c = as-lent c ∙ start c .pre .1 .1
 
 sub-t10 : tie.Need-sub-t10
