@@ -34,10 +34,11 @@
 //! which one of both rules gives 11 and the other does not: "calls that got 11 may
 //! now be planned or get 12, and calls with small room for their rows, planned or 12
 //! before, may get 11". It changed some in groups 1 to 4, 6, 11 and 17, and these are
-//! split once more: such inputs have a digest recorded with P8. So have such inputs
-//! of group 25: 100,000 more, with scratch around both needs. The digests of all
-//! other inputs are of the library from before P8, those to which both rules give 11
-//! among them; that one gave the digests from before on every whole group.
+//! split once more: such inputs have a digest recorded with P8, made of the lists of
+//! the library from before and P8's rule; the library gives the same. So have such
+//! inputs of group 25: 100,000 more, with scratch around both needs. The digests of
+//! all other inputs are of the library from before P8, those to which both rules give
+//! 11 among them; that one gave the digests from before on every whole group.
 
 mod digest;
 mod frozen;
