@@ -47,15 +47,8 @@ fn list_of(table: &[i32]) -> Vec<i32> {
     leqwarti::plan(table).expect("a plan").words().to_vec()
 }
 
-fn time_lists(watch: &Stopwatch) {
-    time_generating(
-        watch,
-        "example A, the program's room",
-        &EXAMPLE_A,
-        512,
-        5_120,
-    );
-    let tables = [
+fn tables_with_lists() -> Vec<(&'static str, Vec<i32>)> {
+    vec![
         ("example A", EXAMPLE_A.to_vec()),
         ("50 loops", scripts::loops(50)),
         ("8 branches", scripts::branches(8)),
@@ -77,8 +70,18 @@ fn time_lists(watch: &Stopwatch) {
         ("400 increments", scripts::increments(400)),
         ("12 doublings after 500 others", scripts::doublings(12, 500)),
         ("a full list", scripts::full_list()),
-    ];
-    for (name, table) in tables {
+    ]
+}
+
+fn time_lists(watch: &Stopwatch) {
+    time_generating(
+        watch,
+        "example A, the program's room",
+        &EXAMPLE_A,
+        512,
+        5_120,
+    );
+    for (name, table) in tables_with_lists() {
         time_generating_in_its_room(watch, name, &table);
     }
 }
@@ -86,21 +89,9 @@ fn time_lists(watch: &Stopwatch) {
 /// Tables with just the scratch that they need, two words a row, and with as much as
 /// suffices for every table.
 fn time_scratches(watch: &Stopwatch) {
-    let tables = [
-        ("example A", EXAMPLE_A.to_vec()),
-        ("50 loops", scripts::loops(50)),
-        ("8 branches", scripts::branches(8)),
-        ("deep expression", scripts::deep_expression(1_000)),
-        ("300 assignments", scripts::assignments_passed(300, 1)),
-        (
-            "350 assignments passed 200 times",
-            scripts::assignments_passed(350, 200),
-        ),
-        ("400 increments", scripts::increments(400)),
-        ("300 divisions", scripts::divisions(300)),
-        ("a full list", scripts::full_list()),
-        ("24 branches", scripts::branches(24)),
-    ];
+    let mut tables = tables_with_lists();
+    tables.push(("300 divisions", scripts::divisions(300)));
+    tables.push(("24 branches", scripts::branches(24)));
     for (name, table) in &tables {
         time_generating_at_the_need(watch, name, table);
     }

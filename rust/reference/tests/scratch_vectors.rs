@@ -4,10 +4,8 @@
 
 mod vectors;
 
-use std::collections::BTreeMap;
-
 use reference::*;
-use vectors::Fields;
+use vectors::{expect_lines, Fields};
 
 const VECTORS: &str = include_str!("vectors/P8.jsonl");
 
@@ -37,20 +35,10 @@ fn every_line() {
         "table",
         "words",
     ];
-    let mut lines_by_number = BTreeMap::new();
-    let mut others = Vec::new();
-    for (place, line) in (1..).zip(VECTORS.lines()) {
-        let fields = Fields::of(line);
-        assert_eq!(fields.names(), names, "line {place}");
-        let (room, scratch) = (fields.number("room"), fields.number("scratch"));
-        let answer = generate(&fields.words("table"), room, scratch);
-        let due = outcome(&fields);
-        *lines_by_number.entry(due.number).or_insert(0) += 1;
-        if answer != due {
-            others.push((place, answer, due));
-        }
-    }
-    assert!(others.is_empty(), "{others:?}");
     let lines = [(0, 40), (11, 25), (12, 20)];
-    assert_eq!(lines_by_number, BTreeMap::from(lines));
+    let answer = |fields: &Fields| {
+        let (room, scratch) = (fields.number("room"), fields.number("scratch"));
+        generate(&fields.words("table"), room, scratch)
+    };
+    expect_lines(VECTORS, &names, lines, answer, outcome);
 }

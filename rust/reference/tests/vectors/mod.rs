@@ -2,6 +2,7 @@
 //! arrays of whole numbers.
 
 use std::collections::BTreeMap;
+use std::fmt::Debug;
 use std::str::FromStr;
 
 /// The values of a line by name, as they are written there.
@@ -44,4 +45,29 @@ impl<'a> Fields<'a> {
         words.resize(room, 0);
         words
     }
+}
+
+/// Each line has the fields of these names, `answer` gives what `due` makes of
+/// them, and so many lines have each number.
+#[allow(dead_code)] // the lines of P6 have two forms
+pub fn expect_lines<T: Debug + PartialEq, const N: usize>(
+    vectors: &str,
+    names: &[&str],
+    lines: [(u8, usize); N],
+    answer: impl Fn(&Fields) -> T,
+    due: impl Fn(&Fields) -> T,
+) {
+    let mut lines_by_number = BTreeMap::new();
+    let mut others = Vec::new();
+    for (place, line) in (1..).zip(vectors.lines()) {
+        let fields = Fields::of(line);
+        assert_eq!(fields.names(), names, "line {place}");
+        *lines_by_number.entry(fields.number("number")).or_insert(0) += 1;
+        let (found, wanted) = (answer(&fields), due(&fields));
+        if found != wanted {
+            others.push((place, found, wanted));
+        }
+    }
+    assert!(others.is_empty(), "{others:?}");
+    assert_eq!(lines_by_number, BTreeMap::from(lines));
 }
