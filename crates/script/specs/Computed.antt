@@ -1,12 +1,13 @@
 -- 01, "Trial rows": the starred ones, and those of the others that computation reaches, as rows of a single statement that
 -- the prover settles by computing the definitions. 02, P2, moves one of them, "the case with target 256 becomes planned": within
 -- 256 variables it is what 01 says. Beside it stand rows at both limits. 02, P8, moves those with scratch 281, 13 and 0; what
--- they were is in the theorems' `ScratchRules`. Those of 02, P5, are in `DivisionFigures`. Assumes nothing.
+-- they were is in the theorems' `ScratchRules`. 02, P9: "Example A grows to 98 words, the four-row script's list to 8, and their trial
+-- rooms move with them." Those of 02, P5, are in `DivisionFigures`, more of P9 in `DepthFigures`. Assumes nothing.
 use Prim.Native.Nat.{ℕ, zero, suc, _+_, _*_}
 use mathlib.Core.Path.{_≡_, refl}
 use mathlib.Core.Bool.{Bool, true, false}
 use mathlib.Core.List.{List, [], _∷_, _++_, map}
-use lib.IntN.{ℤ, pos, negsuc}
+use lib.IntN.{ℤ, pos, negsuc, negℤ}
 use lib.Dec.{lit≤}
 use lib.ListN.{take}
 use Rattle.script.specs.declared.Answer.{Answer}
@@ -97,13 +98,17 @@ unfoldable pub numbers : List ℕ → List ℤ
 numbers [] = []
 numbers (n ∷ ns) = pos n ∷ numbers ns
 
+-- the words of a list with depths, from those before its last one and the number of its conditions
+unfoldable pub counted-down : List ℕ → ℕ → List ℤ
+counted-down ws n = numbers ws ++ (negℤ (pos n) ∷ [])
+
 -- ---- trials
 
 pub data Trial : Type 0 where
   -- table, room, scratch, answer
   generates : List ℤ → ℕ → ℕ → Answer → Trial
-  -- table, the words of its list
-  lists : List ℤ → List ℕ → Trial
+  -- table, the words of its list but the last, the number of its conditions
+  lists : List ℤ → List ℕ → ℕ → Trial
   -- table, verdict
   judges : List ℤ → Verdict → Trial
   -- how many variables there are, table, verdict
@@ -130,7 +135,7 @@ planned n w = record { number = 0; row = 0; conditions = n; words = w }
 
 unfoldable pub observed : Trial → Observed
 observed (generates t l s a) = answer (outcome t l s .answer)
-observed (lists t ws) = words (take (outcome t 512 5120 .answer .words) (outcome t 512 5120 .list))
+observed (lists t ws n) = words (take (outcome t 512 5120 .answer .words) (outcome t 512 5120 .list))
 observed (judges t v) = verdict-is (verdict t)
 observed (judges-within n t v) = verdict-is (verdict-within n t)
 observed (measures n b) = test (bad-length n)
@@ -140,7 +145,7 @@ observed (reads-within n ws i l) = line (line-at-within n ws i)
 
 unfoldable pub expected : Trial → Observed
 expected (generates t l s a) = answer a
-expected (lists t ws) = words (numbers ws)
+expected (lists t ws n) = words (counted-down ws n)
 expected (judges t v) = verdict-is v
 expected (judges-within n t v) = verdict-is v
 expected (measures n b) = test b
@@ -150,24 +155,24 @@ expected (reads-within n ws i l) = line l
 
 trials : List Trial
 trials =
-    generates example-a 512 5120 (planned 4 94)
-    ∷ generates example-a 93 5120 (refusal 12 0)
-    ∷ generates example-a 94 281 (planned 4 94)
-    ∷ generates example-a 94 282 (planned 4 94)
-    ∷ generates example-a 94 40 (planned 4 94)
-    ∷ generates example-a 94 39 (refusal 11 0)
-    ∷ generates example-a 93 39 (refusal 11 0)
-    ∷ generates example-a 93 40 (refusal 12 0)
-    ∷ lists four-rows (25 ∷ 16 ∷ 16 ∷ 4 ∷ 3 ∷ 3 ∷ 1 ∷ [])
-    ∷ generates four-rows 6 12 (refusal 12 0)
-    ∷ generates four-rows 7 13 (planned 1 7)
-    ∷ generates four-rows 7 8 (planned 1 7)
-    ∷ generates four-rows 7 7 (refusal 11 0)
+    generates example-a 512 5120 (planned 4 98)
+    ∷ generates example-a 97 5120 (refusal 12 0)
+    ∷ generates example-a 98 281 (planned 4 98)
+    ∷ generates example-a 98 282 (planned 4 98)
+    ∷ generates example-a 98 40 (planned 4 98)
+    ∷ generates example-a 98 39 (refusal 11 0)
+    ∷ generates example-a 97 39 (refusal 11 0)
+    ∷ generates example-a 97 40 (refusal 12 0)
+    ∷ lists four-rows (25 ∷ 16 ∷ 16 ∷ 4 ∷ 3 ∷ 3 ∷ 0 ∷ []) 1
+    ∷ generates four-rows 7 12 (refusal 12 0)
+    ∷ generates four-rows 8 13 (planned 1 8)
+    ∷ generates four-rows 8 8 (planned 1 8)
+    ∷ generates four-rows 8 7 (refusal 11 0)
     ∷ generates four-rows 0 0 (refusal 11 0)
     ∷ generates four-rows 0 7 (refusal 11 0)
     ∷ generates four-rows 0 8 (refusal 12 0)
-    ∷ generates three-skips 7 15 (refusal 11 0)
-    ∷ generates three-skips 7 16 (planned 1 7)
+    ∷ generates three-skips 8 15 (refusal 11 0)
+    ∷ generates three-skips 8 16 (planned 1 8)
     ∷ generates [] 512 5120 (refusal 1 0)
     ∷ measures 8192 false
     ∷ measures 8196 true
@@ -185,7 +190,7 @@ trials =
     ∷ judges-within 256 (names-in 256 0 0) (refused 3 3)
     ∷ judges-within 256 (names-in 0 256 0) (refused 3 7)
     ∷ judges-within 256 (names-in 0 0 256) (refused 3 0)
-    ∷ generates (example (2, 0, 0, 0) (4, 11, 12, 0) (33, 256, 13, 0)) 512 5120 (planned 4 88)
+    ∷ generates (example (2, 0, 0, 0) (4, 11, 12, 0) (33, 256, 13, 0)) 512 5120 (planned 4 92)
     ∷ generates (example (2, 0, 0, 0) (4, 11, 12, 0) (33, 255, 13, 0)) 512 5120 (refusal 8 14)
     ∷ generates (example (2, 0, 0, 0) (4, 11, 12, 0) (33, 1024, 13, 0)) 512 5120 (refusal 3 14)
     ∷ judges (names-in 127 127 127) accepted
@@ -206,57 +211,57 @@ trials =
     ∷ judges (nested 8) accepted
     ∷ judges (nested 9) (refused 10 0)
     ∷ lists example-a
-    (25 ∷ 23 ∷ 19 ∷ 1 ∷ 0 ∷ 2 ∷ 0 ∷ 22 ∷ 18 ∷ 1 ∷ 0 ∷ 2 ∷ 0 ∷ 20 ∷ 2 ∷ 0 ∷ 1 ∷ 0 ∷ 1 ∷ 15 ∷ 18
-    ∷ 25 ∷ 23 ∷ 19 ∷ 1 ∷ 0 ∷ 2 ∷ 0 ∷ 18 ∷ 1 ∷ 0 ∷ 2 ∷ 0 ∷ 19 ∷ 1 ∷ 0 ∷ 2 ∷ 0 ∷ 2 ∷ 15 ∷ 17
+    (25 ∷ 23 ∷ 19 ∷ 1 ∷ 0 ∷ 2 ∷ 0 ∷ 22 ∷ 18 ∷ 1 ∷ 0 ∷ 2 ∷ 0 ∷ 20 ∷ 2 ∷ 0 ∷ 1 ∷ 0 ∷ 1 ∷ 15 ∷ 18 ∷ 0
+    ∷ 25 ∷ 23 ∷ 19 ∷ 1 ∷ 0 ∷ 2 ∷ 0 ∷ 18 ∷ 1 ∷ 0 ∷ 2 ∷ 0 ∷ 19 ∷ 1 ∷ 0 ∷ 2 ∷ 0 ∷ 2 ∷ 15 ∷ 17 ∷ 0
     ∷ 25 ∷ 23 ∷ 23 ∷ 19 ∷ 1 ∷ 0 ∷ 2 ∷ 0 ∷ 18 ∷ 1 ∷ 0 ∷ 2 ∷ 0 ∷ 20 ∷ 2 ∷ 0 ∷ 9 ∷ 15
-    ∷ 23 ∷ 19 ∷ 1 ∷ 0 ∷ 4 ∷ 2 ∷ 0 ∷ 1 ∷ 1 ∷ 18 ∷ 4 ∷ 2 ∷ 0 ∷ 1 ∷ 1 ∷ 9 ∷ 15 ∷ 3 ∷ 15 ∷ 35
-    ∷ 25 ∷ 19 ∷ 1 ∷ 0 ∷ 2 ∷ 0 ∷ 19 ∷ 1 ∷ 0 ∷ 2 ∷ 0 ∷ 4 ∷ 19 ∷ 11 ∷ 4 ∷ [])
+    ∷ 23 ∷ 19 ∷ 1 ∷ 0 ∷ 4 ∷ 2 ∷ 0 ∷ 1 ∷ 1 ∷ 18 ∷ 4 ∷ 2 ∷ 0 ∷ 1 ∷ 1 ∷ 9 ∷ 15 ∷ 3 ∷ 15 ∷ 35 ∷ 0
+    ∷ 25 ∷ 19 ∷ 1 ∷ 0 ∷ 2 ∷ 0 ∷ 19 ∷ 1 ∷ 0 ∷ 2 ∷ 0 ∷ 4 ∷ 19 ∷ 11 ∷ 0 ∷ []) 4
     ∷ lists loops-in-branches
-    (25 ∷ 23 ∷ 16 ∷ 22 ∷ 16 ∷ 16 ∷ 1 ∷ 7 ∷ 6
-    ∷ 25 ∷ 23 ∷ 16 ∷ 16 ∷ 19 ∷ 1 ∷ 0 ∷ 1 ∷ 0 ∷ 2 ∷ 7 ∷ 9
-    ∷ 25 ∷ 23 ∷ 23 ∷ 16 ∷ 16 ∷ 20 ∷ 1 ∷ 0 ∷ 9 ∷ 7 ∷ 23 ∷ 16 ∷ 18 ∷ 1 ∷ 0 ∷ 9 ∷ 7 ∷ 3 ∷ 7 ∷ 17
-    ∷ 25 ∷ 23 ∷ 16 ∷ 22 ∷ 17 ∷ 16 ∷ 1 ∷ 13 ∷ 6
-    ∷ 25 ∷ 23 ∷ 16 ∷ 17 ∷ 19 ∷ 1 ∷ 0 ∷ 1 ∷ 1 ∷ 2 ∷ 13 ∷ 9
-    ∷ 25 ∷ 23 ∷ 23 ∷ 16 ∷ 17 ∷ 20 ∷ 1 ∷ 1 ∷ 9 ∷ 13 ∷ 23 ∷ 16 ∷ 18 ∷ 1 ∷ 1 ∷ 9 ∷ 13 ∷ 3 ∷ 13 ∷ 17
-    ∷ 25 ∷ 16 ∷ 23 ∷ 25 ∷ 16 ∷ 16 ∷ 25 ∷ 22 ∷ 16 ∷ 16 ∷ 4 ∷ 16 ∷ 10 ∷ 7 ∷ [])
+    (25 ∷ 23 ∷ 16 ∷ 22 ∷ 16 ∷ 16 ∷ 1 ∷ 7 ∷ 6 ∷ 0
+    ∷ 25 ∷ 23 ∷ 16 ∷ 16 ∷ 19 ∷ 1 ∷ 0 ∷ 1 ∷ 0 ∷ 2 ∷ 7 ∷ 9 ∷ 0
+    ∷ 25 ∷ 23 ∷ 23 ∷ 16 ∷ 16 ∷ 20 ∷ 1 ∷ 0 ∷ 9 ∷ 7 ∷ 23 ∷ 16 ∷ 18 ∷ 1 ∷ 0 ∷ 9 ∷ 7 ∷ 3 ∷ 7 ∷ 17 ∷ 0
+    ∷ 25 ∷ 23 ∷ 16 ∷ 22 ∷ 17 ∷ 16 ∷ 1 ∷ 13 ∷ 6 ∷ 0
+    ∷ 25 ∷ 23 ∷ 16 ∷ 17 ∷ 19 ∷ 1 ∷ 0 ∷ 1 ∷ 1 ∷ 2 ∷ 13 ∷ 9 ∷ 0
+    ∷ 25 ∷ 23 ∷ 23 ∷ 16 ∷ 17 ∷ 20 ∷ 1 ∷ 1 ∷ 9 ∷ 13 ∷ 23 ∷ 16 ∷ 18 ∷ 1 ∷ 1 ∷ 9 ∷ 13 ∷ 3 ∷ 13 ∷ 17 ∷ 0
+    ∷ 25 ∷ 16 ∷ 23 ∷ 25 ∷ 16 ∷ 16 ∷ 25 ∷ 22 ∷ 16 ∷ 16 ∷ 4 ∷ 16 ∷ 10 ∷ 0 ∷ []) 7
     ∷ lists loops-in-sequence
-    (25 ∷ 23 ∷ 16 ∷ 22 ∷ 17 ∷ 16 ∷ 1 ∷ 13 ∷ 6
-    ∷ 25 ∷ 23 ∷ 16 ∷ 17 ∷ 19 ∷ 1 ∷ 0 ∷ 1 ∷ 1 ∷ 2 ∷ 13 ∷ 9
-    ∷ 25 ∷ 23 ∷ 23 ∷ 16 ∷ 17 ∷ 20 ∷ 1 ∷ 1 ∷ 9 ∷ 13 ∷ 23 ∷ 16 ∷ 23 ∷ 16 ∷ 18 ∷ 1 ∷ 1 ∷ 9 ∷ 13 ∷ 3 ∷ 13 ∷ 19
-    ∷ 25 ∷ 23 ∷ 16 ∷ 22 ∷ 17 ∷ 16 ∷ 1 ∷ 6 ∷ 6
-    ∷ 25 ∷ 23 ∷ 16 ∷ 17 ∷ 19 ∷ 1 ∷ 0 ∷ 1 ∷ 0 ∷ 2 ∷ 6 ∷ 9
-    ∷ 25 ∷ 23 ∷ 23 ∷ 16 ∷ 17 ∷ 20 ∷ 1 ∷ 0 ∷ 9 ∷ 6 ∷ 23 ∷ 16 ∷ 18 ∷ 1 ∷ 0 ∷ 9 ∷ 6 ∷ 3 ∷ 6 ∷ 17
-    ∷ 25 ∷ 16 ∷ 16 ∷ 4 ∷ 16 ∷ 3 ∷ 7 ∷ [])
+    (25 ∷ 23 ∷ 16 ∷ 22 ∷ 17 ∷ 16 ∷ 1 ∷ 13 ∷ 6 ∷ 0
+    ∷ 25 ∷ 23 ∷ 16 ∷ 17 ∷ 19 ∷ 1 ∷ 0 ∷ 1 ∷ 1 ∷ 2 ∷ 13 ∷ 9 ∷ 0
+    ∷ 25 ∷ 23 ∷ 23 ∷ 16 ∷ 17 ∷ 20 ∷ 1 ∷ 1 ∷ 9 ∷ 13 ∷ 23 ∷ 16 ∷ 23 ∷ 16 ∷ 18 ∷ 1 ∷ 1 ∷ 9 ∷ 13 ∷ 3 ∷ 13 ∷ 19 ∷ 0
+    ∷ 25 ∷ 23 ∷ 16 ∷ 22 ∷ 17 ∷ 16 ∷ 1 ∷ 6 ∷ 6 ∷ 0
+    ∷ 25 ∷ 23 ∷ 16 ∷ 17 ∷ 19 ∷ 1 ∷ 0 ∷ 1 ∷ 0 ∷ 2 ∷ 6 ∷ 9 ∷ 0
+    ∷ 25 ∷ 23 ∷ 23 ∷ 16 ∷ 17 ∷ 20 ∷ 1 ∷ 0 ∷ 9 ∷ 6 ∷ 23 ∷ 16 ∷ 18 ∷ 1 ∷ 0 ∷ 9 ∷ 6 ∷ 3 ∷ 6 ∷ 17 ∷ 0
+    ∷ 25 ∷ 16 ∷ 16 ∷ 4 ∷ 16 ∷ 3 ∷ 0 ∷ []) 7
     ∷ lists loop-in-loop
-    (25 ∷ 23 ∷ 16 ∷ 22 ∷ 16 ∷ 16 ∷ 1 ∷ 11 ∷ 6
-    ∷ 25 ∷ 23 ∷ 16 ∷ 16 ∷ 19 ∷ 1 ∷ 0 ∷ 1 ∷ 0 ∷ 2 ∷ 11 ∷ 9
-    ∷ 25 ∷ 23 ∷ 16 ∷ 22 ∷ 17 ∷ 23 ∷ 16 ∷ 18 ∷ 1 ∷ 0 ∷ 9 ∷ 11 ∷ 1 ∷ 10 ∷ 12
-    ∷ 25 ∷ 23 ∷ 16 ∷ 17 ∷ 19 ∷ 1 ∷ 0 ∷ 1 ∷ 1 ∷ 2 ∷ 10 ∷ 9
-    ∷ 25 ∷ 23 ∷ 23 ∷ 16 ∷ 17 ∷ 20 ∷ 1 ∷ 1 ∷ 9 ∷ 10 ∷ 23 ∷ 16 ∷ 18 ∷ 1 ∷ 1 ∷ 9 ∷ 10 ∷ 3 ∷ 10 ∷ 17
-    ∷ 25 ∷ 23 ∷ 23 ∷ 16 ∷ 16 ∷ 20 ∷ 1 ∷ 0 ∷ 9 ∷ 11 ∷ 16 ∷ 3 ∷ 11 ∷ 11
-    ∷ 25 ∷ 16 ∷ 16 ∷ 4 ∷ 13 ∷ 3 ∷ 7 ∷ [])
-    ∷ reads (numbers (25 ∷ 16 ∷ 16 ∷ 4 ∷ 3 ∷ 3 ∷ 1 ∷ [])) (pos 0) (record { number = 0; kind = 4; row = 3; start = 0; end = 3 })
+    (25 ∷ 23 ∷ 16 ∷ 22 ∷ 16 ∷ 16 ∷ 1 ∷ 11 ∷ 6 ∷ 0
+    ∷ 25 ∷ 23 ∷ 16 ∷ 16 ∷ 19 ∷ 1 ∷ 0 ∷ 1 ∷ 0 ∷ 2 ∷ 11 ∷ 9 ∷ 0
+    ∷ 25 ∷ 23 ∷ 16 ∷ 22 ∷ 17 ∷ 23 ∷ 16 ∷ 18 ∷ 1 ∷ 0 ∷ 9 ∷ 11 ∷ 1 ∷ 10 ∷ 12 ∷ 1
+    ∷ 25 ∷ 23 ∷ 16 ∷ 17 ∷ 19 ∷ 1 ∷ 0 ∷ 1 ∷ 1 ∷ 2 ∷ 10 ∷ 9 ∷ 1
+    ∷ 25 ∷ 23 ∷ 23 ∷ 16 ∷ 17 ∷ 20 ∷ 1 ∷ 1 ∷ 9 ∷ 10 ∷ 23 ∷ 16 ∷ 18 ∷ 1 ∷ 1 ∷ 9 ∷ 10 ∷ 3 ∷ 10 ∷ 17 ∷ 1
+    ∷ 25 ∷ 23 ∷ 23 ∷ 16 ∷ 16 ∷ 20 ∷ 1 ∷ 0 ∷ 9 ∷ 11 ∷ 16 ∷ 3 ∷ 11 ∷ 11 ∷ 0
+    ∷ 25 ∷ 16 ∷ 16 ∷ 4 ∷ 13 ∷ 3 ∷ 0 ∷ []) 7
+    ∷ reads (numbers (25 ∷ 16 ∷ 16 ∷ 4 ∷ 3 ∷ 3 ∷ 1 ∷ [])) (pos 0) (record { number = 0; kind = 4; row = 3; depth = 0; start = 0; end = 3 })
     ∷ reads (numbers (25 ∷ 16 ∷ 16 ∷ 4 ∷ 3 ∷ 3 ∷ 1 ∷ [])) (pos 1) (no-line 21)
     ∷ reads (numbers (25 ∷ 16 ∷ 16 ∷ 4 ∷ 3 ∷ 3 ∷ 1 ∷ [])) (negsuc 0) (no-line 21)
     ∷ reads (numbers (25 ∷ 16 ∷ 16 ∷ 4 ∷ 3 ∷ 4 ∷ 1 ∷ [])) (pos 0) (no-line 20)
     ∷ reads [] (pos 0) (no-line 20)
-    ∷ reads (numbers (16 ∷ 1 ∷ 2047 ∷ 1 ∷ 1 ∷ [])) (pos 0) (record { number = 0; kind = 1; row = 2047; start = 0; end = 1 })
+    ∷ reads (numbers (16 ∷ 1 ∷ 2047 ∷ 1 ∷ 1 ∷ [])) (pos 0) (record { number = 0; kind = 1; row = 2047; depth = 0; start = 0; end = 1 })
     ∷ reads (numbers (16 ∷ 1 ∷ 2048 ∷ 1 ∷ 1 ∷ [])) (pos 0) (no-line 20)
     ∷ reads (numbers (16 ∷ 0 ∷ 0 ∷ 1 ∷ 1 ∷ [])) (pos 0) (no-line 20)
     ∷ reads (numbers (16 ∷ 1 ∷ 0 ∷ 0 ∷ 1 ∷ [])) (pos 0) (no-line 20)
     ∷ reads (numbers (16 ∷ 1 ∷ 0 ∷ 1 ∷ 0 ∷ [])) (pos 0) (no-line 20)
     ∷ reads (numbers (16 ∷ 1 ∷ 0 ∷ 1 ∷ 2 ∷ [])) (pos 0) (no-line 20)
     ∷ reads (numbers (16 ∷ 16 ∷ 1 ∷ 0 ∷ 1 ∷ 1 ∷ [])) (pos 0) (no-line 20)
-    ∷ reads (numbers (20 ∷ 9 ∷ 2047 ∷ 1 ∷ 0 ∷ 4 ∷ 0 ∷ 5 ∷ 1 ∷ [])) (pos 0) (record { number = 0; kind = 4; row = 0; start = 0; end = 5 })
+    ∷ reads (numbers (20 ∷ 9 ∷ 2047 ∷ 1 ∷ 0 ∷ 4 ∷ 0 ∷ 5 ∷ 1 ∷ [])) (pos 0) (record { number = 0; kind = 4; row = 0; depth = 0; start = 0; end = 5 })
     ∷ reads (numbers (20 ∷ 9 ∷ 2048 ∷ 1 ∷ 0 ∷ 4 ∷ 0 ∷ 5 ∷ 1 ∷ [])) (pos 0) (no-line 20)
-    ∷ reads (one-variable 1023) (pos 0) (record { number = 0; kind = 4; row = 0; start = 0; end = 5 })
+    ∷ reads (one-variable 1023) (pos 0) (record { number = 0; kind = 4; row = 0; depth = 0; start = 0; end = 5 })
     ∷ reads (one-variable 1024) (pos 0) (no-line 20)
-    ∷ reads-within 256 (one-variable 255) (pos 0) (record { number = 0; kind = 4; row = 0; start = 0; end = 5 })
+    ∷ reads-within 256 (one-variable 255) (pos 0) (record { number = 0; kind = 4; row = 0; depth = 0; start = 0; end = 5 })
     ∷ reads-within 256 (one-variable 256) (pos 0) (no-line 20)
     ∷ []
 
 trials-hold : map observed trials ≡ map expected trials
-unfolding trials observed expected names-in one-variable numbers example example-a four-rows three-skips loops-in-branches loops-in-sequence loop-in-loop branches nested _⨾_ outcome-within outcome-for verdict-within length-test row-test-within script-test unlinked-test target-test reading-test nesting-test lowest row-fault-within linked misread misreads row row-of expr formula stmt expr-at formula-at stmt-at tree nesting conditions walk wp divisors divisorsᶠ subst-expr subst-formula list-words all-lines line-words expr-words formula-words read-expr-within read-formula-within spelled-within found-within line-before-within lines-before-within lines-within line-at-within
+unfolding trials observed expected names-in one-variable numbers counted-down example example-a four-rows three-skips loops-in-branches loops-in-sequence loop-in-loop branches nested _⨾_ outcome-within outcome-for verdict-within length-test row-test-within script-test unlinked-test target-test reading-test nesting-test lowest row-fault-within linked misread misreads row row-of expr formula stmt expr-at formula-at stmt-at tree nesting conditions walk wp divisors divisorsᶠ subst-expr subst-formula list-words all-lines line-words expr-words formula-words read-expr-within read-formula-within spelled-within found-within line-before-within lines-before-within lines-within line-at-within
 trials-hold = refl
 
 -- ---- "With guard 0 ≤ x, variant x and body x := x − 1, a start at 0 makes one pass."

@@ -1,8 +1,8 @@
--- 01, "Conditions", with D of 02, P5: substitution, D, W, and the conditions that a walk lists, in order. Nothing is
--- simplified.
+-- 01, "Conditions", with D of 02, P5, and the depth of 02, P9: substitution, D, W, and the conditions that a walk lists, in order.
+-- Nothing is simplified.
 -- The language and the shape of loops follow source document 000; the base rules are those of Hoare 1969; the conditions of
 -- a while are those of source document 004, section 3.4, with the variant added. Assumes nothing.
-use Prim.Native.Nat.{ℕ}
+use Prim.Native.Nat.{ℕ, suc}
 use mathlib.Core.List.{List, [], _∷_, _++_}
 use mathlib.Core.Bool.{cond}
 use mathlib.Core.Option.{Option, none, some}
@@ -94,13 +94,16 @@ wp (loop m b i v x) q = i
 -- "A and Q"
 wp (assert a) q = join And a q
 
+-- the rule that it comes from, the row of its loop or of the script, "how many loops enclose the named one, 0 for main" (02, P9),
+-- and the formula
 pub record Condition : Type 0 where
   pub rule : Rule
   pub row : ℕ
+  pub depth : ℕ
   pub claim : Formula
 
-abbrev pub condition : Rule → ℕ → Formula → Condition
-condition k r f = record { rule = k; row = r; claim = f }
+abbrev pub condition : Rule → ℕ → ℕ → Formula → Condition
+condition k r d f = record { rule = k; row = r; depth = d; claim = f }
 
 -- "(I and (V less m))"
 abbrev pub decreased : ℕ → Formula → Expr → Formula
@@ -119,25 +122,26 @@ abbrev pub step : ℕ → Formula → Formula → Expr → Stmt → Formula
 step m b i v x = join Implies (join And (join And i b) (cmp Equal v (mark m))) (wp x (decreased m i v))
 
 -- 02, P5: "a loop whose guard divides lists first a condition of kind 5, guard: I implies D(B)"
-abbrev pub guard : ℕ → Formula → Option Formula → List Condition
-guard m i none = []
-guard m i (some d) = condition Guard m (join Implies i d) ∷ []
+abbrev pub guard : ℕ → ℕ → Formula → Option Formula → List Condition
+guard m depth i none = []
+guard m depth i (some d) = condition Guard m depth (join Implies i d) ∷ []
 
 -- "Walk order: a sequence lists its second part's conditions first; an if lists those of then, next those of else." A loop
--- lists guard where its guard divides, exit, floor, "all conditions of its body, walked with (I and (V less m))", and step.
-unfoldable pub walk : Stmt → Formula → List Condition
-walk skip q = []
-walk (assign v e) q = []
-walk (seq a b) q = walk b q ++ walk a (wp b q)
-walk (branch b x y) q = walk x q ++ walk y q
-walk (loop m b i v x) q =
-    guard m i (divisorsᶠ b)
-    ++ (condition Exit m (exit b i q) ∷ condition Floor m (floor b i v)
-    ∷ (walk x (decreased m i v) ++ (condition Step m (step m b i v x) ∷ [])))
-walk (assert a) q = []
+-- lists guard where its guard divides, exit, floor, "all conditions of its body, walked with (I and (V less m))", and step. What is
+-- walked stands in the bodies of so many loops; the body of a loop stands in one more (02, P9).
+unfoldable pub walk : ℕ → Stmt → Formula → List Condition
+walk depth skip q = []
+walk depth (assign v e) q = []
+walk depth (seq a b) q = walk depth b q ++ walk depth a (wp b q)
+walk depth (branch b x y) q = walk depth x q ++ walk depth y q
+walk depth (loop m b i v x) q =
+    guard m depth i (divisorsᶠ b)
+    ++ (condition Exit m depth (exit b i q) ∷ condition Floor m depth (floor b i v)
+    ∷ (walk (suc depth) x (decreased m i v) ++ (condition Step m depth (step m b i v x) ∷ [])))
+walk depth (assert a) q = []
 
 -- "Last comes main: P implies W(S, Q)."
 unfoldable pub conditions : Tree → List Condition
 conditions t =
-    walk (t .body) (t .post)
-    ++ (condition Main (t .row) (join Implies (t .pre) (wp (t .body) (t .post))) ∷ [])
+    walk 0 (t .body) (t .post)
+    ++ (condition Main (t .row) 0 (join Implies (t .pre) (wp (t .body) (t .post))) ∷ [])

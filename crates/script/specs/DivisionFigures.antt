@@ -17,7 +17,7 @@ use Rattle.script.specs.Trees.{expr, formula, stmt, expr-at, formula-at,
 use Rattle.script.specs.Refusals.{lowest, row-fault-within, linked, misread, misreads, length-test, row-test-within, script-test, unlinked-test, target-test, reading-test, nesting-test, verdict-within}
 use Rattle.script.specs.Generated.{outcome-for, outcome-within}
 use Rattle.script.specs.Listing.{read-expr-within, read-formula-within, spelled-within, found-within, line-before-within, lines-before-within, lines-within, line-at-within, no-line}
-use Rattle.script.specs.Computed.{_⨾_, numbers, Trial, lists, reads, observed, expected}
+use Rattle.script.specs.Computed.{_⨾_, numbers, counted-down, Trial, lists, reads, observed, expected}
 
 -- ---- D, node by node
 
@@ -172,55 +172,55 @@ trials =
     lists three-divisors
     (25 ∷ 16 ∷ 23
     ∷ 23 ∷ 23 ∷ 21 ∷ 2 ∷ 2 ∷ 1 ∷ 0 ∷ 21 ∷ 2 ∷ 4 ∷ 1 ∷ 0 ∷ 21 ∷ 6 ∷ 2 ∷ 3 ∷ 2 ∷ 4 ∷ 1 ∷ 0
-    ∷ 16 ∷ 4 ∷ 10 ∷ 24 ∷ 1 ∷ [])
+    ∷ 16 ∷ 4 ∷ 10 ∷ 24 ∷ 0 ∷ []) 1
     ∷ lists nested-divisors
     (25 ∷ 16 ∷ 23
     ∷ 23 ∷ 21 ∷ 2 ∷ 2 ∷ 1 ∷ 0 ∷ 23 ∷ 21 ∷ 2 ∷ 4 ∷ 1 ∷ 0 ∷ 21 ∷ 2 ∷ 6 ∷ 1 ∷ 0
-    ∷ 16 ∷ 4 ∷ 14 ∷ 21 ∷ 1 ∷ [])
+    ∷ 16 ∷ 4 ∷ 14 ∷ 21 ∷ 0 ∷ []) 1
     ∷ lists division-in-choose
     (25 ∷ 16 ∷ 23 ∷ 23 ∷ 23 ∷ 21 ∷ 2 ∷ 2 ∷ 1 ∷ 0
     ∷ 25 ∷ 20 ∷ 6 ∷ 2 ∷ 1 ∷ 2 ∷ 2 ∷ 1 ∷ 0 ∷ 21 ∷ 2 ∷ 4 ∷ 1 ∷ 0
     ∷ 25 ∷ 22 ∷ 20 ∷ 6 ∷ 2 ∷ 1 ∷ 2 ∷ 2 ∷ 1 ∷ 0 ∷ 21 ∷ 2 ∷ 6 ∷ 1 ∷ 0
-    ∷ 16 ∷ 4 ∷ 15 ∷ 40 ∷ 1 ∷ [])
+    ∷ 16 ∷ 4 ∷ 15 ∷ 40 ∷ 0 ∷ []) 1
     ∷ lists division-in-if
     (25 ∷ 16 ∷ 23 ∷ 21 ∷ 2 ∷ 1 ∷ 1 ∷ 0
     ∷ 23 ∷ 25 ∷ 23 ∷ 21 ∷ 2 ∷ 1 ∷ 1 ∷ 0 ∷ 20 ∷ 6 ∷ 1 ∷ 1 ∷ 2 ∷ 1 ∷ 1 ∷ 1 ∷ 16
-    ∷ 25 ∷ 22 ∷ 23 ∷ 21 ∷ 2 ∷ 1 ∷ 1 ∷ 0 ∷ 20 ∷ 6 ∷ 1 ∷ 1 ∷ 2 ∷ 1 ∷ 1 ∷ 1 ∷ 23 ∷ 17 ∷ 16 ∷ 4 ∷ 15 ∷ 44 ∷ 1 ∷ [])
+    ∷ 25 ∷ 22 ∷ 23 ∷ 21 ∷ 2 ∷ 1 ∷ 1 ∷ 0 ∷ 20 ∷ 6 ∷ 1 ∷ 1 ∷ 2 ∷ 1 ∷ 1 ∷ 1 ∷ 23 ∷ 17 ∷ 16 ∷ 4 ∷ 15 ∷ 44 ∷ 0 ∷ []) 1
     ∷ lists division-in-while
-    (25 ∷ 16 ∷ 21 ∷ 2 ∷ 0 ∷ 1 ∷ 0 ∷ 5 ∷ 10 ∷ 7
-    ∷ 25 ∷ 23 ∷ 16 ∷ 22 ∷ 20 ∷ 6 ∷ 1 ∷ 1 ∷ 2 ∷ 0 ∷ 1 ∷ 1 ∷ 16 ∷ 1 ∷ 10 ∷ 13
-    ∷ 25 ∷ 23 ∷ 16 ∷ 20 ∷ 6 ∷ 1 ∷ 1 ∷ 2 ∷ 0 ∷ 1 ∷ 1 ∷ 19 ∷ 1 ∷ 0 ∷ 1 ∷ 0 ∷ 2 ∷ 10 ∷ 16
-    ∷ 25 ∷ 23 ∷ 23 ∷ 16 ∷ 20 ∷ 6 ∷ 1 ∷ 1 ∷ 2 ∷ 0 ∷ 1 ∷ 1 ∷ 20 ∷ 1 ∷ 0 ∷ 9 ∷ 10 ∷ 23 ∷ 16 ∷ 18 ∷ 1 ∷ 0 ∷ 9 ∷ 10 ∷ 3 ∷ 10 ∷ 24
-    ∷ 25 ∷ 16 ∷ 16 ∷ 4 ∷ 12 ∷ 3 ∷ 5 ∷ [])
+    (25 ∷ 16 ∷ 21 ∷ 2 ∷ 0 ∷ 1 ∷ 0 ∷ 5 ∷ 10 ∷ 7 ∷ 0
+    ∷ 25 ∷ 23 ∷ 16 ∷ 22 ∷ 20 ∷ 6 ∷ 1 ∷ 1 ∷ 2 ∷ 0 ∷ 1 ∷ 1 ∷ 16 ∷ 1 ∷ 10 ∷ 13 ∷ 0
+    ∷ 25 ∷ 23 ∷ 16 ∷ 20 ∷ 6 ∷ 1 ∷ 1 ∷ 2 ∷ 0 ∷ 1 ∷ 1 ∷ 19 ∷ 1 ∷ 0 ∷ 1 ∷ 0 ∷ 2 ∷ 10 ∷ 16 ∷ 0
+    ∷ 25 ∷ 23 ∷ 23 ∷ 16 ∷ 20 ∷ 6 ∷ 1 ∷ 1 ∷ 2 ∷ 0 ∷ 1 ∷ 1 ∷ 20 ∷ 1 ∷ 0 ∷ 9 ∷ 10 ∷ 23 ∷ 16 ∷ 18 ∷ 1 ∷ 0 ∷ 9 ∷ 10 ∷ 3 ∷ 10 ∷ 24 ∷ 0
+    ∷ 25 ∷ 16 ∷ 16 ∷ 4 ∷ 12 ∷ 3 ∷ 0 ∷ []) 5
     ∷ lists division-after-assignment
-    (25 ∷ 16 ∷ 23 ∷ 21 ∷ 4 ∷ 2 ∷ 1 ∷ 1 ∷ 1 ∷ 1 ∷ 0 ∷ 16 ∷ 4 ∷ 11 ∷ 12 ∷ 1 ∷ [])
+    (25 ∷ 16 ∷ 23 ∷ 21 ∷ 4 ∷ 2 ∷ 1 ∷ 1 ∷ 1 ∷ 1 ∷ 0 ∷ 16 ∷ 4 ∷ 11 ∷ 12 ∷ 0 ∷ []) 1
     ∷ lists division-in-inner-while
-    (25 ∷ 16 ∷ 21 ∷ 2 ∷ 1 ∷ 1 ∷ 0 ∷ 5 ∷ 14 ∷ 7
-    ∷ 25 ∷ 23 ∷ 16 ∷ 22 ∷ 20 ∷ 6 ∷ 1 ∷ 1 ∷ 2 ∷ 1 ∷ 1 ∷ 1 ∷ 16 ∷ 1 ∷ 14 ∷ 13
-    ∷ 25 ∷ 23 ∷ 16 ∷ 20 ∷ 6 ∷ 1 ∷ 1 ∷ 2 ∷ 1 ∷ 1 ∷ 1 ∷ 19 ∷ 1 ∷ 0 ∷ 1 ∷ 0 ∷ 2 ∷ 14 ∷ 16
-    ∷ 25 ∷ 23 ∷ 23 ∷ 16 ∷ 20 ∷ 6 ∷ 1 ∷ 1 ∷ 2 ∷ 1 ∷ 1 ∷ 1 ∷ 20 ∷ 1 ∷ 0 ∷ 9 ∷ 14 ∷ 23 ∷ 16 ∷ 18 ∷ 1 ∷ 0 ∷ 9 ∷ 14 ∷ 3 ∷ 14 ∷ 24
-    ∷ 25 ∷ 16 ∷ 23 ∷ 25 ∷ 20 ∷ 2 ∷ 1 ∷ 1 ∷ 0 ∷ 16 ∷ 25 ∷ 22 ∷ 20 ∷ 2 ∷ 1 ∷ 1 ∷ 0 ∷ 16 ∷ 4 ∷ 17 ∷ 18 ∷ 5 ∷ [])
+    (25 ∷ 16 ∷ 21 ∷ 2 ∷ 1 ∷ 1 ∷ 0 ∷ 5 ∷ 14 ∷ 7 ∷ 0
+    ∷ 25 ∷ 23 ∷ 16 ∷ 22 ∷ 20 ∷ 6 ∷ 1 ∷ 1 ∷ 2 ∷ 1 ∷ 1 ∷ 1 ∷ 16 ∷ 1 ∷ 14 ∷ 13 ∷ 0
+    ∷ 25 ∷ 23 ∷ 16 ∷ 20 ∷ 6 ∷ 1 ∷ 1 ∷ 2 ∷ 1 ∷ 1 ∷ 1 ∷ 19 ∷ 1 ∷ 0 ∷ 1 ∷ 0 ∷ 2 ∷ 14 ∷ 16 ∷ 0
+    ∷ 25 ∷ 23 ∷ 23 ∷ 16 ∷ 20 ∷ 6 ∷ 1 ∷ 1 ∷ 2 ∷ 1 ∷ 1 ∷ 1 ∷ 20 ∷ 1 ∷ 0 ∷ 9 ∷ 14 ∷ 23 ∷ 16 ∷ 18 ∷ 1 ∷ 0 ∷ 9 ∷ 14 ∷ 3 ∷ 14 ∷ 24 ∷ 0
+    ∷ 25 ∷ 16 ∷ 23 ∷ 25 ∷ 20 ∷ 2 ∷ 1 ∷ 1 ∷ 0 ∷ 16 ∷ 25 ∷ 22 ∷ 20 ∷ 2 ∷ 1 ∷ 1 ∷ 0 ∷ 16 ∷ 4 ∷ 17 ∷ 18 ∷ 0 ∷ []) 5
     ∷ lists division-in-both-whiles
-    (25 ∷ 16 ∷ 21 ∷ 2 ∷ 0 ∷ 1 ∷ 0 ∷ 5 ∷ 19 ∷ 7
-    ∷ 25 ∷ 23 ∷ 16 ∷ 22 ∷ 20 ∷ 6 ∷ 1 ∷ 1 ∷ 2 ∷ 0 ∷ 1 ∷ 1 ∷ 16 ∷ 1 ∷ 19 ∷ 13
-    ∷ 25 ∷ 23 ∷ 16 ∷ 20 ∷ 6 ∷ 1 ∷ 1 ∷ 2 ∷ 0 ∷ 1 ∷ 1 ∷ 19 ∷ 1 ∷ 0 ∷ 1 ∷ 0 ∷ 2 ∷ 19 ∷ 16
-    ∷ 25 ∷ 16 ∷ 21 ∷ 2 ∷ 1 ∷ 1 ∷ 0 ∷ 5 ∷ 18 ∷ 7
-    ∷ 25 ∷ 23 ∷ 16 ∷ 22 ∷ 20 ∷ 7 ∷ 1 ∷ 1 ∷ 2 ∷ 1 ∷ 1 ∷ 1 ∷ 23 ∷ 16 ∷ 18 ∷ 1 ∷ 0 ∷ 9 ∷ 19 ∷ 1 ∷ 18 ∷ 19
-    ∷ 25 ∷ 23 ∷ 16 ∷ 20 ∷ 7 ∷ 1 ∷ 1 ∷ 2 ∷ 1 ∷ 1 ∷ 1 ∷ 19 ∷ 1 ∷ 0 ∷ 1 ∷ 1 ∷ 2 ∷ 18 ∷ 16
-    ∷ 25 ∷ 23 ∷ 23 ∷ 16 ∷ 20 ∷ 7 ∷ 1 ∷ 1 ∷ 2 ∷ 1 ∷ 1 ∷ 1 ∷ 20 ∷ 1 ∷ 1 ∷ 9 ∷ 18 ∷ 23 ∷ 16 ∷ 18 ∷ 1 ∷ 1 ∷ 9 ∷ 18 ∷ 3 ∷ 18 ∷ 24
-    ∷ 25 ∷ 23 ∷ 23 ∷ 16 ∷ 20 ∷ 6 ∷ 1 ∷ 1 ∷ 2 ∷ 0 ∷ 1 ∷ 1 ∷ 20 ∷ 1 ∷ 0 ∷ 9 ∷ 19 ∷ 16 ∷ 3 ∷ 19 ∷ 18
-    ∷ 25 ∷ 16 ∷ 16 ∷ 4 ∷ 21 ∷ 3 ∷ 9 ∷ [])
+    (25 ∷ 16 ∷ 21 ∷ 2 ∷ 0 ∷ 1 ∷ 0 ∷ 5 ∷ 19 ∷ 7 ∷ 0
+    ∷ 25 ∷ 23 ∷ 16 ∷ 22 ∷ 20 ∷ 6 ∷ 1 ∷ 1 ∷ 2 ∷ 0 ∷ 1 ∷ 1 ∷ 16 ∷ 1 ∷ 19 ∷ 13 ∷ 0
+    ∷ 25 ∷ 23 ∷ 16 ∷ 20 ∷ 6 ∷ 1 ∷ 1 ∷ 2 ∷ 0 ∷ 1 ∷ 1 ∷ 19 ∷ 1 ∷ 0 ∷ 1 ∷ 0 ∷ 2 ∷ 19 ∷ 16 ∷ 0
+    ∷ 25 ∷ 16 ∷ 21 ∷ 2 ∷ 1 ∷ 1 ∷ 0 ∷ 5 ∷ 18 ∷ 7 ∷ 1
+    ∷ 25 ∷ 23 ∷ 16 ∷ 22 ∷ 20 ∷ 7 ∷ 1 ∷ 1 ∷ 2 ∷ 1 ∷ 1 ∷ 1 ∷ 23 ∷ 16 ∷ 18 ∷ 1 ∷ 0 ∷ 9 ∷ 19 ∷ 1 ∷ 18 ∷ 19 ∷ 1
+    ∷ 25 ∷ 23 ∷ 16 ∷ 20 ∷ 7 ∷ 1 ∷ 1 ∷ 2 ∷ 1 ∷ 1 ∷ 1 ∷ 19 ∷ 1 ∷ 0 ∷ 1 ∷ 1 ∷ 2 ∷ 18 ∷ 16 ∷ 1
+    ∷ 25 ∷ 23 ∷ 23 ∷ 16 ∷ 20 ∷ 7 ∷ 1 ∷ 1 ∷ 2 ∷ 1 ∷ 1 ∷ 1 ∷ 20 ∷ 1 ∷ 1 ∷ 9 ∷ 18 ∷ 23 ∷ 16 ∷ 18 ∷ 1 ∷ 1 ∷ 9 ∷ 18 ∷ 3 ∷ 18 ∷ 24 ∷ 1
+    ∷ 25 ∷ 23 ∷ 23 ∷ 16 ∷ 20 ∷ 6 ∷ 1 ∷ 1 ∷ 2 ∷ 0 ∷ 1 ∷ 1 ∷ 20 ∷ 1 ∷ 0 ∷ 9 ∷ 19 ∷ 16 ∷ 3 ∷ 19 ∷ 18 ∷ 0
+    ∷ 25 ∷ 16 ∷ 16 ∷ 4 ∷ 21 ∷ 3 ∷ 0 ∷ []) 9
     -- "in annotations 01's totals stay": no D, and no condition of kind 5
     ∷ lists division-in-annotations
-    (25 ∷ 23 ∷ 20 ∷ 6 ∷ 1 ∷ 1 ∷ 2 ∷ 0 ∷ 1 ∷ 0 ∷ 22 ∷ 17 ∷ 20 ∷ 6 ∷ 1 ∷ 1 ∷ 2 ∷ 0 ∷ 1 ∷ 0 ∷ 1 ∷ 21 ∷ 20
-    ∷ 25 ∷ 23 ∷ 20 ∷ 6 ∷ 1 ∷ 1 ∷ 2 ∷ 0 ∷ 1 ∷ 0 ∷ 17 ∷ 19 ∷ 1 ∷ 0 ∷ 6 ∷ 1 ∷ 1 ∷ 2 ∷ 0 ∷ 2 ∷ 21 ∷ 19
+    (25 ∷ 23 ∷ 20 ∷ 6 ∷ 1 ∷ 1 ∷ 2 ∷ 0 ∷ 1 ∷ 0 ∷ 22 ∷ 17 ∷ 20 ∷ 6 ∷ 1 ∷ 1 ∷ 2 ∷ 0 ∷ 1 ∷ 0 ∷ 1 ∷ 21 ∷ 20 ∷ 0
+    ∷ 25 ∷ 23 ∷ 20 ∷ 6 ∷ 1 ∷ 1 ∷ 2 ∷ 0 ∷ 1 ∷ 0 ∷ 17 ∷ 19 ∷ 1 ∷ 0 ∷ 6 ∷ 1 ∷ 1 ∷ 2 ∷ 0 ∷ 2 ∷ 21 ∷ 19 ∷ 0
     ∷ 25 ∷ 23 ∷ 23 ∷ 20 ∷ 6 ∷ 1 ∷ 1 ∷ 2 ∷ 0 ∷ 1 ∷ 0 ∷ 17 ∷ 20 ∷ 6 ∷ 1 ∷ 1 ∷ 2 ∷ 0 ∷ 9 ∷ 21
-    ∷ 23 ∷ 20 ∷ 6 ∷ 1 ∷ 1 ∷ 2 ∷ 0 ∷ 1 ∷ 0 ∷ 23 ∷ 20 ∷ 6 ∷ 1 ∷ 1 ∷ 2 ∷ 0 ∷ 1 ∷ 0 ∷ 18 ∷ 6 ∷ 1 ∷ 1 ∷ 2 ∷ 0 ∷ 9 ∷ 21 ∷ 3 ∷ 21 ∷ 46
-    ∷ 25 ∷ 20 ∷ 6 ∷ 1 ∷ 1 ∷ 2 ∷ 0 ∷ 1 ∷ 0 ∷ 20 ∷ 6 ∷ 1 ∷ 1 ∷ 2 ∷ 0 ∷ 1 ∷ 0 ∷ 4 ∷ 27 ∷ 17 ∷ 4 ∷ [])
-    ∷ reads (numbers (25 ∷ 16 ∷ 16 ∷ 5 ∷ 3 ∷ 3 ∷ 1 ∷ [])) (pos 0) (record { number = 0; kind = 5; row = 3; start = 0; end = 3 })
+    ∷ 23 ∷ 20 ∷ 6 ∷ 1 ∷ 1 ∷ 2 ∷ 0 ∷ 1 ∷ 0 ∷ 23 ∷ 20 ∷ 6 ∷ 1 ∷ 1 ∷ 2 ∷ 0 ∷ 1 ∷ 0 ∷ 18 ∷ 6 ∷ 1 ∷ 1 ∷ 2 ∷ 0 ∷ 9 ∷ 21 ∷ 3 ∷ 21 ∷ 46 ∷ 0
+    ∷ 25 ∷ 20 ∷ 6 ∷ 1 ∷ 1 ∷ 2 ∷ 0 ∷ 1 ∷ 0 ∷ 20 ∷ 6 ∷ 1 ∷ 1 ∷ 2 ∷ 0 ∷ 1 ∷ 0 ∷ 4 ∷ 27 ∷ 17 ∷ 0 ∷ []) 4
+    ∷ reads (numbers (25 ∷ 16 ∷ 16 ∷ 5 ∷ 3 ∷ 3 ∷ 1 ∷ [])) (pos 0) (record { number = 0; kind = 5; row = 3; depth = 0; start = 0; end = 3 })
     ∷ reads (numbers (25 ∷ 16 ∷ 16 ∷ 6 ∷ 3 ∷ 3 ∷ 1 ∷ [])) (pos 0) (no-line 20)
     ∷ []
 
 trials-hold : map observed trials ≡ map expected trials
-unfolding trials observed expected numbers three-divisors nested-divisors division-in-choose division-in-if division-in-while division-after-assignment division-in-inner-while division-in-both-whiles division-in-annotations _⨾_ outcome-within outcome-for verdict-within length-test row-test-within script-test unlinked-test target-test reading-test nesting-test lowest row-fault-within linked misread misreads row row-of expr formula stmt expr-at formula-at stmt-at tree nesting conditions walk wp divisors divisorsᶠ subst-expr subst-formula list-words all-lines line-words expr-words formula-words read-expr-within read-formula-within spelled-within found-within line-before-within lines-before-within lines-within line-at-within
+unfolding trials observed expected numbers counted-down three-divisors nested-divisors division-in-choose division-in-if division-in-while division-after-assignment division-in-inner-while division-in-both-whiles division-in-annotations _⨾_ outcome-within outcome-for verdict-within length-test row-test-within script-test unlinked-test target-test reading-test nesting-test lowest row-fault-within linked misread misreads row row-of expr formula stmt expr-at formula-at stmt-at tree nesting conditions walk wp divisors divisorsᶠ subst-expr subst-formula list-words all-lines line-words expr-words formula-words read-expr-within read-formula-within spelled-within found-within line-before-within lines-before-within lines-within line-at-within
 trials-hold = refl

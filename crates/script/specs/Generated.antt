@@ -8,7 +8,7 @@ use lib.Dec.{ltb}
 use lib.ListN.{length, replicate}
 use Rattle.script.specs.declared.Answer.{Answer}
 use Rattle.script.specs.Conditions.{Condition, conditions}
-use Rattle.script.specs.Words.{list-words}
+use Rattle.script.specs.Words.{with-depth, list-words}
 use Rattle.script.specs.Trees.{tree}
 use Rattle.script.specs.Rows.{rows, variables}
 use Rattle.script.specs.Refusals.{accepted, refused, verdict-within}
@@ -29,11 +29,12 @@ refusal n r = record { number = n; row = r; conditions = 0; words = 0 }
 abbrev pub refuse : ℕ → ℕ → ℕ → ℕ → Outcome
 refuse n r list scratch = record { answer = refusal n r; list = zeros list; scratch = zeros scratch }
 
--- "After every call scratch is all zeros, and so is every list word past the last one used."
+-- "After every call scratch is all zeros, and so is every list word past the last one used." 02, P9: "Every trailer gains a fourth
+-- word"
 abbrev pub plan : List Condition → ℕ → ℕ → Outcome
 plan cs list scratch = record {
-  answer = record { number = 0; row = 0; conditions = length cs; words = length (list-words cs) };
-  list = list-words cs ++ zeros (list - length (list-words cs));
+  answer = record { number = 0; row = 0; conditions = length cs; words = length (list-words with-depth cs) };
+  list = list-words with-depth cs ++ zeros (list - length (list-words with-depth cs));
   scratch = zeros scratch;
 }
 
@@ -50,7 +51,7 @@ scratch-need table = 2 * rows table
 unfoldable pub outcome-for : ℕ → List Condition → ℕ → ℕ → Outcome
 outcome-for need cs list scratch =
     cond (ltb scratch need) (refuse 11 0 list scratch)
-    (cond (ltb (room list) (length (list-words cs))) (refuse 12 0 list scratch)
+    (cond (ltb (room list) (length (list-words with-depth cs))) (refuse 12 0 list scratch)
     (plan cs list scratch))
 
 -- where the variables are those below a limit

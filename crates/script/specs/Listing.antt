@@ -1,7 +1,7 @@
 -- 01, "Reading a finished list". In this order: a formula read from its first word, the condition that ends at a place, a
 -- whole list, the line at an index, the count, the reader that walks back; these with a limit in place of the number of variables
--- (`-within`), and at the end with that number. Assumes nothing.
-use Prim.Native.Nat.{ℕ, zero, suc, _-_}
+-- (`-within`), and at the end with that number. Both forms are read: 02, P9, "the reader, P1 and P6 take both forms". Assumes nothing.
+use Prim.Native.Nat.{ℕ, zero, suc, _+_, _-_}
 use mathlib.Core.Option.{Option, none, some}
 use mathlib.Core.List.{List, [], _∷_, _++_, map}
 use mathlib.Core.Bool.{Bool, true, false, cond, _&&_}
@@ -18,7 +18,7 @@ use Rattle.script.specs.declared.Rule.the-variants.{Exit, Floor, Step, M
 use Rattle.script.specs.declared.Line.{Line}
 use Rattle.script.specs.Syntax.{Expr, const, var, mark, arith, neg, choose, Formula, truth, cmp, not, join}
 use Rattle.script.specs.Conditions.{Condition, condition}
-use Rattle.script.specs.Words.{rule-number}
+use Rattle.script.specs.Words.{rule-number, Form, without-depth, with-depth}
 use Rattle.script.specs.Rows.{field-number, row-of, variables}
 
 infixl 10 _>>=_
@@ -131,6 +131,19 @@ rule-of n =
     (cond (eqb n 4) (some Main)
     (cond (eqb n 5) (some Guard) none))))
 
+-- 02, P9: "20 when the fourth word is not 0 to 7"
+abbrev pub depth-limit : ℕ
+depth-limit = 8
+
+-- the word that tells the depth: "The reader gives it beside the row, 0 for an old list"
+abbrev pub depth-word : Form → ℤ → ℤ
+depth-word without-depth w = pos 0
+depth-word with-depth w = w
+
+abbrev pub trailer-length : Form → ℕ
+trailer-length without-depth = 3
+trailer-length with-depth = 4
+
 -- a condition, and from where to where its formula stands
 pub record Found : Type 0 where
   pub condition : Condition
@@ -138,48 +151,75 @@ pub record Found : Type 0 where
   pub end : ℕ
 
 module _ (limit : ℕ) where
-  -- with the trailer k, r, n after a formula that ends at e: "a kind 1 to 4" or 5, "a row from 0 to 2,047 and the true length
-  -- of one whole formula"
-  unfoldable pub found-within : List ℤ → ℕ → ℤ → ℤ → ℤ → Option Found
-  found-within ws e k r n = do
+  -- with the trailer k, r, n, d after a formula that ends at e: "a kind 1 to 4" or 5, "a row from 0 to 2,047 and the true length
+  -- of one whole formula", and a depth
+  unfoldable pub found-within : List ℤ → ℕ → ℤ → ℤ → ℤ → ℤ → Option Found
+  found-within ws e k r n d = do
     rule ← rule-of (field-number k)
     row ← below row-limit r
     size ← below (suc e) n
+    depth ← below depth-limit d
     claim ← spelled-within limit (slice (e - size) e ws)
-    some (record { condition = condition rule row claim; start = e - size; end = e })
+    some (record { condition = condition rule row depth claim; start = e - size; end = e })
+
+  -- the condition whose formula ends at e, where its trailer begins
+  abbrev pub found-at-within : Form → List ℤ → ℕ → Option Found
+  found-at-within form ws e =
+      found-within ws e (getD ws e (pos 0)) (getD ws (e + 1) (pos 0)) (getD ws (e + 2) (pos 0)) (depth-word form (getD ws (e + 3) (pos 0)))
 
   -- the condition whose trailer ends at e
-  unfoldable pub line-before-within : List ℤ → ℕ → Option Found
-  line-before-within ws e =
-      guarded (leb 3 e && leb e (length ws))
-      (found-within ws (e - 3) (getD ws (e - 3) (pos 0)) (getD ws (e - 2) (pos 0)) (getD ws (e - 1) (pos 0)))
+  unfoldable pub line-before-within : Form → List ℤ → ℕ → Option Found
+  line-before-within form ws e =
+      guarded (leb (trailer-length form) e && leb e (length ws)) (found-at-within form ws (e - trailer-length form))
 
   -- ---- a whole list
 
   -- n conditions that end at e, first one first: "that many trailers", "nothing left at the front"
-  unfoldable pub lines-before-within : List ℤ → ℕ → ℕ → Option (List Found)
-  lines-before-within ws zero zero = some []
-  lines-before-within ws zero (suc e) = none
-  lines-before-within ws (suc n) e = do
-    last ← line-before-within ws e
-    front ← lines-before-within ws n (last .start)
+  unfoldable pub lines-before-within : Form → List ℤ → ℕ → ℕ → Option (List Found)
+  lines-before-within form ws zero zero = some []
+  lines-before-within form ws zero (suc e) = none
+  lines-before-within form ws (suc n) e = do
+    last ← line-before-within form ws e
+    front ← lines-before-within form ws n (last .start)
     some (front ++ (last ∷ []))
 
-  -- "A well-formed list has a count of 1 or more, at most 16,384 words"; "A list is read from the end back."
-  unfoldable pub lines-within : List ℤ → Option (List Found)
-  lines-within ws =
-      guarded (leb (length ws) 16384)
-      (natural (getD ws (length ws - 1) (pos 0)) >>= λ count. guarded (ltb 0 count) (lines-before-within ws count (length ws - 1)))
+-- 02, P9: "Such lists end in minus the count." So the last word tells the form and the count.
+abbrev pub last-word : List ℤ → ℤ
+last-word ws = getD ws (length ws - 1) (pos 0)
+
+abbrev pub form-told : ℤ → Form
+form-told (pos n) = without-depth
+form-told (negsuc n) = with-depth
+
+abbrev pub count-told : ℤ → ℕ
+count-told (pos n) = n
+count-told (negsuc n) = suc n
+
+abbrev pub form-of : List ℤ → Form
+form-of ws = form-told (last-word ws)
+
+-- "A well-formed list has a count of 1 or more, at most 16,384 words"; "A list is read from the end back."
+unfoldable pub lines-within : ℕ → List ℤ → Option (List Found)
+lines-within limit ws =
+    guarded (leb (length ws) 16384 && ltb 0 (count-told (last-word ws)))
+    (lines-before-within limit (form-of ws) ws (count-told (last-word ws)) (length ws - 1))
 
 -- ---- the line at an index
 
 -- "refused, kind and row are 0 with the empty part at the front"
 abbrev pub no-line : ℕ → Line
-no-line n = record { number = n; kind = 0; row = 0; start = 0; end = 0 }
+no-line n = record { number = n; kind = 0; row = 0; depth = 0; start = 0; end = 0 }
 
--- "it gives number 0, kind, row and the formula as the part of the caller's words where it stands"
+-- "it gives number 0, kind, row and the formula as the part of the caller's words where it stands", and the depth "beside the row"
 abbrev pub line : Found → Line
-line f = record { number = 0; kind = rule-number (f .condition .rule); row = f .condition .row; start = f .start; end = f .end }
+line f = record {
+  number = 0;
+  kind = rule-number (f .condition .rule);
+  row = f .condition .row;
+  depth = f .condition .depth;
+  start = f .start;
+  end = f .end;
+}
 
 -- 21: "index negative or not below the count"
 abbrev pub line-of : List Found → ℤ → Line
@@ -201,7 +241,7 @@ module _ (limit : ℕ) (ws : List ℤ) where
 -- ---- "A reader over a finished list keeps the words and its place, and walks back one condition at a time." Its place is
 -- where the conditions not yet read end.
 
--- no condition ends at 1: the place of a reader over words that are no list, which 01 calls torn
+-- in neither form a condition ends at 1: the place of a reader over words that are no list, which 01 calls torn
 abbrev pub malformed-place : ℕ
 malformed-place = 1
 
@@ -212,10 +252,10 @@ module _ (limit : ℕ) (ws : List ℤ) where
   -- "On a torn list each of its steps answers 20; once the first condition is passed, 21."
   unfoldable pub step-back-within : ℕ → Line
   step-back-within zero = no-line 21
-  step-back-within (suc e) = elim (line-before-within limit ws (suc e)) [ some f ↦ line f | none ↦ no-line 20 ]
+  step-back-within (suc e) = elim (line-before-within limit (form-of ws) ws (suc e)) [ some f ↦ line f | none ↦ no-line 20 ]
 
   unfoldable pub next-place-within : ℕ → ℕ
-  next-place-within e = elim (line-before-within limit ws e) [ some f ↦ f .start | none ↦ e ]
+  next-place-within e = elim (line-before-within limit (form-of ws) ws e) [ some f ↦ f .start | none ↦ e ]
 
 -- ---- with as many variables as there are
 
@@ -228,13 +268,13 @@ read-formula = read-formula-within variables
 abbrev pub spelled : List ℤ → Option Formula
 spelled = spelled-within variables
 
-abbrev pub found : List ℤ → ℕ → ℤ → ℤ → ℤ → Option Found
+abbrev pub found : List ℤ → ℕ → ℤ → ℤ → ℤ → ℤ → Option Found
 found = found-within variables
 
-abbrev pub line-before : List ℤ → ℕ → Option Found
+abbrev pub line-before : Form → List ℤ → ℕ → Option Found
 line-before = line-before-within variables
 
-abbrev pub lines-before : List ℤ → ℕ → ℕ → Option (List Found)
+abbrev pub lines-before : Form → List ℤ → ℕ → ℕ → Option (List Found)
 lines-before = lines-before-within variables
 
 abbrev pub lines : List ℤ → Option (List Found)

@@ -1,8 +1,9 @@
--- 01, "Conditions": how formulas, conditions and lists are spelled as words. Assumes nothing.
+-- 01, "Conditions": how formulas, conditions and lists are spelled as words; lists in the form of 01 and in that of 02, P9.
+-- Assumes nothing.
 use Prim.Native.Nat.{ℕ}
 use mathlib.Core.List.{List, [], _∷_, _++_}
 use mathlib.Core.Bool.{cond}
-use lib.IntN.{ℤ, pos}
+use lib.IntN.{ℤ, pos, negℤ}
 use lib.ListN.{length}
 use Rattle.script.specs.Syntax.{Expr, const, var, mark, arith, neg, choose, Formula, truth, cmp, not, join}
 use Rattle.script.specs.Conditions.{Condition}
@@ -58,18 +59,35 @@ rule-number Step = 3
 rule-number Main = 4
 rule-number Guard = 5
 
+-- 02, P9: "Every trailer gains a fourth word after the length", and lists from before stay. The form of a list:
+pub data Form : Type 0 where
+  -- that of 01, with trailers of three words
+  without-depth : Form
+  -- that of 02, P9, with trailers of four
+  with-depth : Form
+
+-- 02, P9: "a fourth word after the length: how many loops enclose the named one, 0 for main"
+abbrev pub depth-words : Form → ℕ → List ℤ
+depth-words without-depth d = []
+depth-words with-depth d = pos d ∷ []
+
 -- "After each formula stands its trailer, three words: condition kind (1 exit, 2 floor, 3 step, 4 main), row (of the while,
 -- or of the script), and length of the formula just before." 02, P5: "a condition of kind 5, guard"
-abbrev pub trailer : Condition → List ℤ
-trailer c = pos (rule-number (c .rule)) ∷ pos (c .row) ∷ pos (length (formula-words (c .claim))) ∷ []
+abbrev pub trailer : Form → Condition → List ℤ
+trailer form c =
+    pos (rule-number (c .rule)) ∷ pos (c .row) ∷ pos (length (formula-words (c .claim))) ∷ depth-words form (c .depth)
 
-unfoldable pub line-words : Condition → List ℤ
-line-words c = formula-words (c .claim) ++ trailer c
+unfoldable pub line-words : Form → Condition → List ℤ
+line-words form c = formula-words (c .claim) ++ trailer form c
 
-unfoldable pub all-lines : List Condition → List ℤ
-all-lines [] = []
-all-lines (c ∷ cs) = line-words c ++ all-lines cs
+unfoldable pub all-lines : Form → List Condition → List ℤ
+all-lines form [] = []
+all-lines form (c ∷ cs) = line-words form c ++ all-lines form cs
 
--- "The last word of the list is the number of conditions."
-unfoldable pub list-words : List Condition → List ℤ
-list-words cs = all-lines cs ++ (pos (length cs) ∷ [])
+-- "The last word of the list is the number of conditions." 02, P9: "Such lists end in minus the count."
+abbrev pub count-word : Form → ℕ → ℤ
+count-word without-depth n = pos n
+count-word with-depth n = negℤ (pos n)
+
+unfoldable pub list-words : Form → List Condition → List ℤ
+list-words form cs = all-lines form cs ++ (count-word form (length cs) ∷ [])

@@ -107,11 +107,12 @@ pub struct Answer {
     pub words: usize,
 }
 
-// A line of a list: a condition's kind and row, and where its formula starts and ends; or the number of a refusal.
+// A line of a list: a condition's kind, row and depth, and where its formula starts and ends; or the number of a refusal.
 pub struct Line {
     pub number: usize,
     pub kind: usize,
     pub row: usize,
+    pub depth: usize,
     pub start: usize,
     pub end: usize,
 }
