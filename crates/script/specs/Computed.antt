@@ -50,10 +50,11 @@ example-a = example (2, 0, 0, 0) (4, 11, 12, 0) (33, 0, 13, 0)
 unfoldable pub four-rows : List ℤ
 four-rows = (16, 0, 0, 0) ⨾ (32, 0, 0, 0) ⨾ (16, 0, 0, 0) ⨾ (48, 0, 1, 2) ⨾ []
 
--- skip; skip; skip: its list is as short, and its rows are twice as many
-unfoldable pub three-skips : List ℤ
-three-skips =
-    (16, 0, 0, 0) ⨾ (32, 0, 0, 0) ⨾ (32, 0, 0, 0) ⨾ (34, 1, 2, 0) ⨾ (32, 0, 0, 0) ⨾ (34, 3, 4, 0) ⨾ (16, 0, 0, 0) ⨾ (48, 0, 5, 6) ⨾ []
+-- skip; skip; skip; skip: its list is as short, and its rows are more than its words
+unfoldable pub four-skips : List ℤ
+four-skips =
+    (16, 0, 0, 0) ⨾ (32, 0, 0, 0) ⨾ (32, 0, 0, 0) ⨾ (34, 1, 2, 0) ⨾ (32, 0, 0, 0) ⨾ (34, 3, 4, 0) ⨾ (32, 0, 0, 0) ⨾ (34, 5, 6, 0)
+    ⨾ (16, 0, 0, 0) ⨾ (48, 0, 7, 8) ⨾ []
 
 -- true; if true then while true do skip (invariant true, variant 0) else while false do skip (true, 1); true
 unfoldable pub loops-in-branches : List ℤ
@@ -171,8 +172,8 @@ trials =
     ∷ generates four-rows 0 0 (refusal 11 0)
     ∷ generates four-rows 0 7 (refusal 11 0)
     ∷ generates four-rows 0 8 (refusal 12 0)
-    ∷ generates three-skips 8 15 (refusal 11 0)
-    ∷ generates three-skips 8 16 (planned 1 8)
+    ∷ generates four-skips 8 19 (refusal 11 0)
+    ∷ generates four-skips 8 20 (planned 1 8)
     ∷ generates [] 512 5120 (refusal 1 0)
     ∷ measures 8192 false
     ∷ measures 8196 true
@@ -261,7 +262,7 @@ trials =
     ∷ []
 
 trials-hold : map observed trials ≡ map expected trials
-unfolding trials observed expected names-in one-variable numbers counted-down example example-a four-rows three-skips loops-in-branches loops-in-sequence loop-in-loop branches nested _⨾_ outcome-within outcome-for verdict-within length-test row-test-within script-test unlinked-test target-test reading-test nesting-test lowest row-fault-within linked misread misreads row row-of expr formula stmt expr-at formula-at stmt-at tree nesting conditions walk wp divisors divisorsᶠ subst-expr subst-formula list-words all-lines line-words expr-words formula-words read-expr-within read-formula-within spelled-within found-within line-before-within lines-before-within lines-within line-at-within
+unfolding trials observed expected names-in one-variable numbers counted-down example example-a four-rows four-skips loops-in-branches loops-in-sequence loop-in-loop branches nested _⨾_ outcome-within outcome-for verdict-within length-test row-test-within script-test unlinked-test target-test reading-test nesting-test lowest row-fault-within linked misread misreads row row-of expr formula stmt expr-at formula-at stmt-at tree nesting conditions walk wp divisors divisorsᶠ subst-expr subst-formula list-words all-lines line-words expr-words formula-words read-expr-within read-formula-within spelled-within found-within line-before-within lines-before-within lines-within line-at-within
 trials-hold = refl
 
 -- ---- "With guard 0 ≤ x, variant x and body x := x − 1, a start at 0 makes one pass."

@@ -4,7 +4,7 @@
 -- conditions, a well-formed list, which is read as it was written (`planned-list`); the tree of an accepted table is well-scoped,
 -- and the rules are sound. Assumes nothing.
 use Prim.Native.Nat.{ℕ, _≤_, _<_}
-use mathlib.Core.Path.{_≡_, refl}
+use mathlib.Core.Path.{_≡_, refl, sym, ap, subst}
 use mathlib.Core.Logic.{_≢_}
 use mathlib.Core.Option.{some}
 use mathlib.Core.List.{List}
@@ -17,16 +17,16 @@ use Rattle.script.specs.Syntax.{Tree}
 use Rattle.script.specs.Meaning.{Arithmetic, State, whole, holds}
 use Rattle.script.specs.Run.{Total-correctness}
 use Rattle.script.specs.Conditions.{walk, conditions}
-use Rattle.script.specs.Words.{list-words}
+use Rattle.script.specs.Words.{with-depth, list-words}
 use Rattle.script.specs.Trees.{tree}
-use Rattle.script.specs.WellFormed.{Well-formed}
+use Rattle.script.specs.WellFormed.{All-in-range, Well-formed}
 use Rattle.script.specs.Listing.{read-list}
 use Rattle.script.specs.Refusals.{accepted, verdict}
 use Rattle.script.specs.Generated.{Outcome, refuse, plan, room, outcome}
 use Rattle.script.specs.Promise.{List-valid, Demand-3}
 use Rattle.theorems.specs.Outcomes.{outcome-cases}
 use Rattle.theorems.specs.Sound.{sound}
-use Rattle.theorems.specs.ReadBack.{read-written}
+use Rattle.theorems.specs.ReadBack.{form-written, read-written}
 use Rattle.theorems.specs.Scoped.{scoped}
 use Rattle.theorems.specs.InRange.{in-range-conditions}
 
@@ -34,12 +34,20 @@ use Rattle.theorems.specs.InRange.{in-range-conditions}
 
 some-conditions : (t : Tree) → 0 < length (conditions t)
 unfolding conditions
-some-conditions t = rw (length-append (walk (t .body) (t .post)) _) (omega linear)
+some-conditions t = rw (length-append (walk 0 (t .body) (t .post)) _) (omega linear)
 
-pub well-formed : (t : List ℤ) (list : ℕ) → verdict t ≡ accepted → length (list-words (conditions (tree t))) ≤ room list
-    → Well-formed (list-words (conditions (tree t))) (conditions (tree t))
+pub well-formed : (t : List ℤ) (list : ℕ) → verdict t ≡ accepted → length (list-words with-depth (conditions (tree t))) ≤ room list
+    → Well-formed (list-words with-depth (conditions (tree t))) (conditions (tree t))
 well-formed t list h fits =
-    record { spells = refl; short = omega linear; counted = some-conditions (tree t); ranges = in-range-conditions t h }
+    let cs = conditions (tree t) in
+    let many = some-conditions (tree t) in
+    let form = form-written with-depth cs many in
+    record {
+      spells = ap (λ f. list-words f cs) form;
+      short = omega linear;
+      counted = many;
+      ranges = subst (λ f. All-in-range f cs) (sym form) (in-range-conditions t h);
+    }
 
 -- ---- what is left where the number is 0
 
@@ -56,13 +64,13 @@ module _ (table : List ℤ) (list scratch : ℕ) where
   refused-planned : (n r : ℕ) → n ≢ 0 → If-planned (refuse n r list scratch)
   refused-planned n r h e = absurd (h e)
 
-  plan-planned : verdict table ≡ accepted → length (list-words (conditions (tree table))) ≤ room list
+  plan-planned : verdict table ≡ accepted → length (list-words with-depth (conditions (tree table))) ≤ room list
       → If-planned (plan (conditions (tree table)) list scratch)
   plan-planned h fits e =
       let cs = conditions (tree table) in
       record {
         accepts = h;
-        reads = rw take-append-seam (read-written (list-words cs) cs (well-formed table list h fits));
+        reads = rw take-append-seam (read-written (list-words with-depth cs) cs (well-formed table list h fits));
         counts = refl;
       }
 

@@ -23,7 +23,7 @@ use Rattle.script.specs.Syntax.{Expr, const, var, arith, neg, Formula, truth, c
 use Rattle.script.specs.Meaning.{eqZ, whole, value, holds, defined, definedᶠ}
 use Rattle.script.specs.Run.{zero-divisor, step, step-of, first-step, test, after}
 use Rattle.script.specs.Conditions.{Condition, conditions, walk, wp, divisors, divisorsᶠ, subst-expr, subst-formula}
-use Rattle.script.specs.Words.{list-words, all-lines, line-words, expr-words, formula-words}
+use Rattle.script.specs.Words.{with-depth, list-words, all-lines, line-words, expr-words, formula-words}
 use Rattle.script.specs.Rows.{row, row-of}
 use Rattle.script.specs.Trees.{expr, formula, stmt, expr-at, formula-at, stmt-at, tree, nesting}
 use Rattle.script.specs.Refusals.{lowest, row-fault-within, linked, misread, misreads, length-test, row-test-within, script-test, unlinked-test, target-test, reading-test, nesting-test, verdict-within}
@@ -85,11 +85,11 @@ after-pass =
     ⨾ (16, 0, 0, 0) ⨾ (2, 1, 0, 0) ⨾ (8, 19, 0, 0) ⨾ (37, 18, 20, 0) ⨾ (1, 1, 0, 0) ⨾ (33, 1, 22, 0) ⨾ (36, 17, 21, 23)
     ⨾ (16, 0, 0, 0) ⨾ (48, 4, 24, 25) ⨾ []
 
--- ---- 12 now: 7 words before, and 13 with D
+-- ---- 12 now: 8 words without D, and 14 with it
 
-pub fitted-before : (outcome₀ in-assignment 7 14 .answer ≡ planned 1 7)
-    × (outcome in-assignment 7 14 .answer ≡ refusal 12 0)
-    × (outcome in-assignment 13 26 .answer ≡ planned 1 13)
+pub fitted-before : (outcome₀ in-assignment 8 14 .answer ≡ planned 1 8)
+    × (outcome in-assignment 8 14 .answer ≡ refusal 12 0)
+    × (outcome in-assignment 14 26 .answer ≡ planned 1 14)
 unfolding in-assignment _⨾_ outcome-within outcome-for outcome₀ conditions₀ walk₀ wp₀ verdict-within length-test row-test-within script-test unlinked-test target-test reading-test nesting-test lowest row-fault-within linked misread misreads row row-of expr formula stmt expr-at formula-at stmt-at tree nesting conditions walk wp divisors divisorsᶠ subst-expr subst-formula list-words all-lines line-words expr-words formula-words
 fitted-before = (refl, refl, refl)
 
@@ -97,13 +97,13 @@ fitted-before = (refl, refl, refl)
 
 -- a body that lists the conditions `cs` of a script
 abbrev pub Lists-conditions : (Tree → List Condition) → Body → Type 0
-Lists-conditions cs f = Lists f (λ t. length (cs (tree t))) (λ t. list-words (cs (tree t)))
+Lists-conditions cs f = Lists f (λ t. length (cs (tree t))) (λ t. list-words with-depth (cs (tree t)))
 
 -- all that is listed for the table is true, and a run fails
 record Untold (cs : Tree → List Condition) (t : List ℤ) : Type 0 where
   fails : Failing t
-  fits : length (list-words (cs (tree t))) ≤ 512
-  listed : read-list (list-words (cs (tree t))) ≡ some (cs (tree t))
+  fits : length (list-words with-depth (cs (tree t))) ≤ 512
+  listed : read-list (list-words with-depth (cs (tree t))) ≡ some (cs (tree t))
   valid : All-valid whole (cs (tree t))
 
 by-3 : (cs : Tree → List Condition) (t : List ℤ) → Untold cs t → (f : Body) → Demanded f → Lists-conditions cs f → ⊥

@@ -104,10 +104,10 @@ module _ (𝔸 : Arithmetic) (s : State) where
   pub formula-worked : (f q : Formula) → T (holds 𝔸 s (divisorsᶠ f and q)) → T (definedᶠ 𝔸 s f) × T (holds 𝔸 s q)
   formula-worked f q h = let k = and-holds (divisorsᶠ f) q h in (subst T (divisors-sayᶠ f) (k .0), k .1)
 
-  guard-says : (m : ℕ) (i : Formula) (x : Option Formula) → All-valid 𝔸 (guard m i x) → T (holds 𝔸 s i) → T (says x)
-  guard-says m i none all h = tt
-  guard-says m i (some d) all h = hold-then 𝔸 s i d (all .0 s) h
+  guard-says : (m depth : ℕ) (i : Formula) (x : Option Formula) → All-valid 𝔸 (guard m depth i x) → T (holds 𝔸 s i) → T (says x)
+  guard-says m depth i none all h = tt
+  guard-says m depth i (some d) all h = hold-then 𝔸 s i d (all .0 s) h
 
   -- where the guard condition of a loop is valid, its guard is worked out wherever the invariant is true
-  pub guard-worked : (m : ℕ) (i b : Formula) → All-valid 𝔸 (guard m i (divisorsᶠ b)) → T (holds 𝔸 s i) → T (definedᶠ 𝔸 s b)
-  guard-worked m i b all h = subst T (divisors-sayᶠ b) (guard-says m i (divisorsᶠ b) all h)
+  pub guard-worked : (m depth : ℕ) (i b : Formula) → All-valid 𝔸 (guard m depth i (divisorsᶠ b)) → T (holds 𝔸 s i) → T (definedᶠ 𝔸 s b)
+  guard-worked m depth i b all h = subst T (divisors-sayᶠ b) (guard-says m depth i (divisorsᶠ b) all h)

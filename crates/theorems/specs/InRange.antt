@@ -17,6 +17,7 @@ use Rattle.script.specs.Rows.{row, rows, fields, parts, variables}
 use Rattle.script.specs.Trees.{no-tree, expr-node, formula-node, loop-node, stmt-node, script-node, expr-at, formula-at, stmt-at, tree}
 use Rattle.script.specs.Refusals.{accepted, all-below, in-range, verdict}
 use Rattle.script.specs.Conditions.{conditions}
+use Rattle.script.specs.Words.{with-depth}
 use Rattle.script.specs.WellFormed.{In-range, In-rangeᶠ, All-in-range}
 use Rattle.theorems.specs.Accepted.{Accepted, passed}
 use Rattle.theorems.specs.RowTrees.{below, lower₁, lower₂, lower₃, expr-is, formula-is, stmt-is, tree-is}
@@ -138,6 +139,6 @@ module _ (t : List ℤ) (ok : Accepted t) where
   script-in-range (Row.Note i v) e = none
   script-in-range Row.Unknown e = none
 
-pub in-range-conditions : (t : List ℤ) → verdict t ≡ accepted → All-in-range (conditions (tree t))
+pub in-range-conditions : (t : List ℤ) → verdict t ≡ accepted → All-in-range with-depth (conditions (tree t))
 in-range-conditions t h =
-    conditions-in-range (tree t) (rw (tree-is t refl) (script-in-range t (passed t h) (row t (rows t - 1)) refl))
+    conditions-in-range (tree t) (rw (tree-is t refl) (script-in-range t (passed t h) (row t (rows t - 1)) refl)) (passed t h .shallow)

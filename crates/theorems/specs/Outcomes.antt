@@ -11,15 +11,15 @@ use lib.Dec.{ltb}
 use lib.IntN.{ℤ}
 use lib.ListN.{length}
 use Rattle.script.specs.Conditions.{conditions}
-use Rattle.script.specs.Words.{list-words}
+use Rattle.script.specs.Words.{with-depth, list-words}
 use Rattle.script.specs.Trees.{tree}
 use Rattle.script.specs.Refusals.{Verdict, accepted, refused, verdict}
 use Rattle.script.specs.Generated.{Outcome, refuse, plan, room, scratch-need, outcome-for, outcome, outcome-within}
 use Rattle.theorems.specs.Numbers.{one-to-ten}
 
 module _ (P : Outcome → Type 0) (table : List ℤ) (list scratch : ℕ) (refusals : (n r : ℕ) → n ≢ 0 → P (refuse n r list scratch))
-    (planned : verdict table ≡ accepted → length (list-words (conditions (tree table))) ≤ room list → P (plan (conditions (tree table)) list scratch)) where
-  of-tests : verdict table ≡ accepted → (a b : Bool) → ltb (room list) (length (list-words (conditions (tree table)))) ≡ b
+    (planned : verdict table ≡ accepted → length (list-words with-depth (conditions (tree table))) ≤ room list → P (plan (conditions (tree table)) list scratch)) where
+  of-tests : verdict table ≡ accepted → (a b : Bool) → ltb (room list) (length (list-words with-depth (conditions (tree table)))) ≡ b
       → P (cond a (refuse 11 0 list scratch) (cond b (refuse 12 0 list scratch) (plan (conditions (tree table)) list scratch)))
   of-tests h true b e = refusals 11 0 (λ z. omega linear)
   of-tests h false true e = refusals 12 0 (λ z. omega linear)

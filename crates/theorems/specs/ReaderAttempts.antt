@@ -30,7 +30,7 @@ unfoldable two : List ℤ
 two = numbers (17 ∷ 1 ∷ 5 ∷ 1 ∷ 16 ∷ 4 ∷ 6 ∷ 1 ∷ 2 ∷ [])
 
 two-conditions : List Condition
-two-conditions = condition Exit 5 (truth false) ∷ condition Main 6 (truth true) ∷ []
+two-conditions = condition Exit 5 0 (truth false) ∷ condition Main 6 0 (truth true) ∷ []
 
 -- a count of 1, and no condition
 unfoldable torn : List ℤ
@@ -38,8 +38,8 @@ torn = numbers (1 ∷ [])
 
 record Facts : Type 0 where
   read : read-list two ≡ some two-conditions
-  first : line-at two (pos 0) ≡ record { number = 0; kind = 1; row = 5; start = 0; end = 1 }
-  second : line-at two (pos 1) ≡ record { number = 0; kind = 4; row = 6; start = 4; end = 5 }
+  first : line-at two (pos 0) ≡ record { number = 0; kind = 1; row = 5; depth = 0; start = 0; end = 1 }
+  second : line-at two (pos 1) ≡ record { number = 0; kind = 4; row = 6; depth = 0; start = 4; end = 5 }
   past : line-at two (pos 2) .number ≡ 21
   refused : line-at torn (pos 0) .number ≡ 20
   first-part : part-at two (pos 0) ≡ pos 17 ∷ []
@@ -49,9 +49,9 @@ record Facts : Type 0 where
   many : length two-conditions ≡ 2
   claimed : getD torn (length torn - 1) (pos 0) ≡ pos 1
   place : first-place two ≡ 8
-  last-step : step-back two 8 ≡ record { number = 0; kind = 4; row = 6; start = 4; end = 5 }
+  last-step : step-back two 8 ≡ record { number = 0; kind = 4; row = 6; depth = 0; start = 4; end = 5 }
   next : next-place two 8 ≡ 4
-  first-step : step-back two 4 ≡ record { number = 0; kind = 1; row = 5; start = 0; end = 1 }
+  first-step : step-back two 4 ≡ record { number = 0; kind = 1; row = 5; depth = 0; start = 0; end = 1 }
   torn-place : first-place torn ≡ 1
   torn-step : step-back torn 1 .number ≡ 20
 
@@ -192,13 +192,13 @@ module _ (g : List ℤ → ℕ) (s : List ℤ → ℕ → Line) (k : List ℤ �
   as-defined ws zero e = refl
   as-defined ws (suc n) e = rw (steps ws e, goes ws e, as-defined ws n (next-place ws e))
 
-  last-answer : s two (g two) ≡ record { number = 0; kind = 4; row = 6; start = 4; end = 5 }
+  last-answer : s two (g two) ≡ record { number = 0; kind = 4; row = 6; depth = 0; start = 4; end = 5 }
   last-answer = ap (s two) (starts two ∙ facts .place) ∙ steps two 8 ∙ facts .last-step
 
   next-is : k two (g two) ≡ 4
   next-is = ap (k two) (starts two ∙ facts .place) ∙ goes two 8 ∙ facts .next
 
-  first-answer : s two (k two (g two)) ≡ record { number = 0; kind = 1; row = 5; start = 0; end = 1 }
+  first-answer : s two (k two (g two)) ≡ record { number = 0; kind = 1; row = 5; depth = 0; start = 0; end = 1 }
   first-answer = ap (s two) next-is ∙ steps two 4 ∙ facts .first-step
 
   abbrev Of-every-list : (List ℤ → Type 0) → Type 0

@@ -16,12 +16,12 @@ use lib.Dec.{ltb}
 use lib.IntN.{ℤ}
 use lib.ListN.{length}
 use Rattle.script.specs.Conditions.{conditions, walk, wp, divisors, divisorsᶠ, subst-expr, subst-formula}
-use Rattle.script.specs.Words.{list-words, all-lines, line-words, expr-words, formula-words}
+use Rattle.script.specs.Words.{with-depth, list-words, all-lines, line-words, expr-words, formula-words}
 use Rattle.script.specs.Rows.{row, row-of}
 use Rattle.script.specs.Trees.{tree, nesting, expr, formula, stmt, expr-at, formula-at, stmt-at}
 use Rattle.script.specs.Refusals.{Verdict, accepted, refused, verdict, verdict-within, length-test, row-test-within, script-test, unlinked-test, target-test, reading-test, nesting-test, lowest, row-fault-within, linked, misread, misreads}
 use Rattle.script.specs.Generated.{Outcome, refuse, plan, room, scratch-need, outcome-for, outcome, outcome-within}
-use Rattle.script.specs.Computed.{_⨾_, example, example-a, four-rows, three-skips}
+use Rattle.script.specs.Computed.{_⨾_, example, example-a, four-rows, four-skips}
 use Rattle.theorems.specs.Accepted.{passed}
 use Rattle.theorems.specs.Numbers.{one-to-ten}
 use Rattle.theorems.specs.Unchanged.{Undivided, conditions₀}
@@ -58,7 +58,7 @@ module _ (table : List ℤ) (list scratch : ℕ) where
   by-room b = cond b (refuse 12 0 list scratch) (plan (conditions (tree table)) list scratch)
 
   abbrev too-long : Bool
-  too-long = ltb (room list) (length (list-words (conditions (tree table))))
+  too-long = ltb (room list) (length (list-words with-depth (conditions (tree table))))
 
   abbrev fitted : Outcome
   fitted = by-room too-long
@@ -232,17 +232,17 @@ abbrev pub numbers : List ℤ → ℕ → ℕ → ℕ × ℕ
 numbers table list scratch = (number (outcome₁ table list scratch), number (outcome table list scratch))
 
 pub record Moves : Type 0 where
-  pub from-11-to-plan : numbers example-a 94 281 ≡ (11, 0)
-  pub four-rows-from-11 : numbers four-rows 7 13 ≡ (11, 0)
-  pub from-11-to-12 : numbers example-a 93 278 ≡ (11, 12)
-  pub from-plan-to-11 : numbers three-skips 7 14 ≡ (0, 11)
+  pub from-11-to-plan : numbers example-a 98 281 ≡ (11, 0)
+  pub four-rows-from-11 : numbers four-rows 8 13 ≡ (11, 0)
+  pub from-11-to-12 : numbers example-a 97 278 ≡ (11, 12)
+  pub from-plan-to-11 : numbers four-skips 8 16 ≡ (0, 11)
   pub from-12-to-11 : numbers four-rows 0 0 ≡ (12, 11)
-  pub stays-11 : numbers example-a 94 39 ≡ (11, 11)
-  pub stays-planned : numbers example-a 94 282 ≡ (0, 0)
-  pub stays-12 : numbers example-a 93 279 ≡ (12, 12)
+  pub stays-11 : numbers example-a 98 39 ≡ (11, 11)
+  pub stays-planned : numbers example-a 98 294 ≡ (0, 0)
+  pub stays-12 : numbers example-a 97 291 ≡ (12, 12)
 
 pub moves : Moves
-unfolding outcome₁ example-a example four-rows three-skips _⨾_ outcome-within outcome-for verdict-within length-test row-test-within script-test unlinked-test target-test reading-test nesting-test lowest row-fault-within linked misread misreads row row-of expr formula stmt expr-at formula-at stmt-at tree nesting conditions walk wp divisors divisorsᶠ subst-expr subst-formula list-words all-lines line-words expr-words formula-words
+unfolding outcome₁ example-a example four-rows four-skips _⨾_ outcome-within outcome-for verdict-within length-test row-test-within script-test unlinked-test target-test reading-test nesting-test lowest row-fault-within linked misread misreads row row-of expr formula stmt expr-at formula-at stmt-at tree nesting conditions walk wp divisors divisorsᶠ subst-expr subst-formula list-words all-lines line-words expr-words formula-words
 moves = record {
   from-11-to-plan = refl;
   four-rows-from-11 = refl;

@@ -2,7 +2,7 @@
 -- Argument: a statement whose conditions are valid, begun where W of it holds, is run to its end with the
 -- postcondition met (`terminates`, by induction on the statement; for a loop it is `LoopRule.turn`). W of an assignment and
 -- of an if, and the guard condition of a loop, exclude a zero divisor (`Divisors`). Assumes nothing.
-use Prim.Native.Nat.{ℕ, zero}
+use Prim.Native.Nat.{ℕ, zero, suc}
 use mathlib.Core.Path.{_≡_, refl, _∙_, subst}
 use mathlib.Core.List.{List, [], _∷_}
 use mathlib.Core.Bool.{Bool, true, false, cond}
@@ -59,11 +59,11 @@ module _ (𝔸 : Arithmetic) where
   asserted a q k s h true y = still k s q (assert a) h
   asserted a q k s h false y = absurd y
 
-  terminates : (t : Stmt) (q : Formula) → Well-scoped t → All-valid 𝔸 (walk t q) → (k : List Frame) → Passes-bounded k
+  terminates : (depth : ℕ) (t : Stmt) (q : Formula) → Well-scoped t → All-valid 𝔸 (walk depth t q) → (k : List Frame) → Passes-bounded k
       → (s : State) → T (holds 𝔸 s (wp t q)) → Runs t q k s
   unfolding first-step test wp walk holds
-  terminates skip q tidy all k fair s h = still k s q skip h
-  terminates (assign v e) q tidy all k fair s h =
+  terminates depth skip q tidy all k fair s h = still k s q skip h
+  terminates depth (assign v e) q tidy all k fair s h =
       let w = expr-worked 𝔸 s e (subst-formula v e q) h in
       no-zero-terminates 𝔸 (assign v e) (defined 𝔸 s e) (w .0)
       (record {
@@ -72,30 +72,30 @@ module _ (𝔸 : Arithmetic) where
         leads = stay;
         kept = λ r l j g. refl;
       })
-  terminates (seq a b) q tidy all k fair s h =
+  terminates depth (seq a b) q tidy all k fair s h =
       in-turn a b q k fair s
-      (terminates a (wp b q) (tidy .0) (all-right 𝔸 (walk b q) (walk a (wp b q)) all) (begin b ∷ k) fair s h)
-      (λ s₁ h₁. terminates b q (tidy .1) (all-left 𝔸 (walk b q) (walk a (wp b q)) all) k fair s₁ h₁)
-  terminates (branch b x y) q tidy all k fair s h =
+      (terminates depth a (wp b q) (tidy .0) (all-right 𝔸 (walk depth b q) (walk depth a (wp b q)) all) (begin b ∷ k) fair s h)
+      (λ s₁ h₁. terminates depth b q (tidy .1) (all-left 𝔸 (walk depth b q) (walk depth a (wp b q)) all) k fair s₁ h₁)
+  terminates depth (branch b x y) q tidy all k fair s h =
       let w = formula-worked 𝔸 s b (join And (join Implies b (wp x q)) (join Implies (not b) (wp y q))) h in
       let hs = both-hold 𝔸 s (join Implies b (wp x q)) (join Implies (not b) (wp y q)) (w .1) in
-      let left = all-left 𝔸 (walk x q) (walk y q) all in
-      let right = all-right 𝔸 (walk x q) (walk y q) all in
+      let left = all-left 𝔸 (walk depth x q) (walk depth y q) all in
+      let right = all-right 𝔸 (walk depth x q) (walk depth y q) all in
       no-zero-terminates 𝔸 (branch b x y) (definedᶠ 𝔸 s b) (w .0)
       (either b x y q k fair s (holds 𝔸 s b)
-      (λ t. terminates x q (tidy .0) left k fair s (hold-then 𝔸 s b (wp x q) (hs .0) t))
-      (λ t. terminates y q (tidy .1) right k fair s (hold-then 𝔸 s (not b) (wp y q) (hs .1) t)))
-  terminates (loop m b i v x) q tidy all k fair s h =
+      (λ t. terminates depth x q (tidy .0) left k fair s (hold-then 𝔸 s b (wp x q) (hs .0) t))
+      (λ t. terminates depth y q (tidy .1) right k fair s (hold-then 𝔸 s (not b) (wp y q) (hs .1) t)))
+  terminates depth (loop m b i v x) q tidy all k fair s h =
       let top = above (value 𝔸 s v) in
-      let first = all-left 𝔸 (guard m i (divisorsᶠ b)) _ all in
-      let rest = all-right 𝔸 (guard m i (divisorsᶠ b)) _ all in
-      let inside = all-left 𝔸 (walk x (decreased m i v)) _ (rest .1 .1) in
-      let stepped = all-right 𝔸 (walk x (decreased m i v)) _ (rest .1 .1) .0 in
+      let first = all-left 𝔸 (guard m depth i (divisorsᶠ b)) _ all in
+      let rest = all-right 𝔸 (guard m depth i (divisorsᶠ b)) _ all in
+      let inside = all-left 𝔸 (walk (suc depth) x (decreased m i v)) _ (rest .1 .1) in
+      let stepped = all-right 𝔸 (walk (suc depth) x (decreased m i v)) _ (rest .1 .1) .0 in
       turn 𝔸 m b i v x q (tidy .0) (tidy .1) (tidy .2) (tidy .3)
-      (λ s₁ h₁. guard-worked 𝔸 s₁ m i b first h₁) (rest .0) (rest .1 .0) stepped
-      (λ k₁ fair₁ s₁ h₁. terminates x (decreased m i v) (tidy .4) inside k₁ fair₁ s₁ h₁)
+      (λ s₁ h₁. guard-worked 𝔸 s₁ m depth i b first h₁) (rest .0) (rest .1 .0) stepped
+      (λ k₁ fair₁ s₁ h₁. terminates (suc depth) x (decreased m i v) (tidy .4) inside k₁ fair₁ s₁ h₁)
       k fair (value 𝔸 s v) (top .0) zero s h (top .1) (room-start (value 𝔸 s v))
-  terminates (assert a) q tidy all k fair s h =
+  terminates depth (assert a) q tidy all k fair s h =
       let hs = both-hold 𝔸 s a q h in
       asserted a q k s (hs .1) (holds 𝔸 s a) (hs .0)
 
@@ -106,10 +106,10 @@ module _ (𝔸 : Arithmetic) where
       record { steps = n .0; end = r .end; ends = n .1; post = r .meets; good = good-after 𝔸 run (r .end) refl }
     where
       weakest : T (holds 𝔸 s (wp (t .body) (t .post)))
-      weakest = hold-then 𝔸 s (t .pre) (wp (t .body) (t .post)) (all-right 𝔸 (walk (t .body) (t .post)) _ all .0 s) h
+      weakest = hold-then 𝔸 s (t .pre) (wp (t .body) (t .post)) (all-right 𝔸 (walk 0 (t .body) (t .post)) _ all .0 s) h
 
       r : Runs (t .body) (t .post) [] s
-      r = terminates (t .body) (t .post) tidy (all-left 𝔸 (walk (t .body) (t .post)) _ all) [] tt s weakest
+      r = terminates 0 (t .body) (t .post) tidy (all-left 𝔸 (walk 0 (t .body) (t .post)) _ all) [] tt s weakest
 
       run : Trace 𝔸 (start t s) (at [] (r .end))
       run = go tt (r .leads)

@@ -17,8 +17,9 @@ use lib.Seq.{slice}
 use Rattle.script.specs.declared.Line.{Line}
 use Rattle.script.specs.Rows.{field-number, variables}
 use Rattle.script.specs.Syntax.{Expr, const, var, mark, arith, neg, choose, Formula, truth, cmp, not, join}
+use Rattle.script.specs.Words.{Form}
 use Rattle.script.specs.WellFormed.{In-range-within, In-rangeᶠ-within}
-use Rattle.script.specs.Listing.{row-limit, natural, below, rule-of, Found, no-line, line, line-of, malformed-place, spelled-within, found-within, line-before-within, lines-before-within, lines-within, lines, line-at-within, part-at-within, condition-count-within, first-place-within, step-back-within, next-place-within}
+use Rattle.script.specs.Listing.{row-limit, depth-limit, trailer-length, last-word, count-told, form-of, below, rule-of, Found, no-line, line, line-of, malformed-place, spelled-within, found-within, line-before-within, lines-before-within, lines-within, lines, line-at-within, part-at-within, condition-count-within, first-place-within, step-back-within, next-place-within}
 use Rattle.theorems.specs.Options.{none-is-not, some-inj, went-on, goes-on, held}
 use Rattle.theorems.specs.Spelling.{spelled-words, spelled-only}
 use Rattle.theorems.specs.StoredTables.{variables-before}
@@ -33,44 +34,44 @@ Each P (f ∷ fs) = P (f .condition .claim) × Each P fs
 -- what c spells and has the property, d spells
 module _ (c d : ℕ) (P : Formula → Type 0)
     (carried : (ws : List ℤ) (f : Formula) → spelled-within c ws ≡ some f → P f → spelled-within d ws ≡ some f) where
-  found-carries : (ws : List ℤ) (e : ℕ) (p r n : ℤ) (f : Found) → found-within c ws e p r n ≡ some f → P (f .condition .claim)
-      → found-within d ws e p r n ≡ some f
+  found-carries : (ws : List ℤ) (e : ℕ) (p r n m : ℤ) (f : Found) → found-within c ws e p r n m ≡ some f → P (f .condition .claim)
+      → found-within d ws e p r n m ≡ some f
   unfolding found-within
-  found-carries ws e p r n f q k =
+  found-carries ws e p r n m f q k =
       goes-on (rule-of (field-number p)) q λ rule q₁. goes-on (below row-limit r) q₁ λ row q₂. goes-on (below (suc e) n) q₂ λ size q₃.
-      let claim = went-on (spelled-within c (slice (e - size) e ws)) _ q₃ in
+      goes-on (below depth-limit m) q₃ λ depth q₄.
+      let claim = went-on (spelled-within c (slice (e - size) e ws)) _ q₄ in
       let has = subst (λ (x : Found). P (x .condition .claim)) (sym (some-inj (claim .2))) k in
       rw (carried (slice (e - size) e ws) (claim .0) (claim .1) has) (claim .2)
 
-  line-carries : (ws : List ℤ) (e : ℕ) (f : Found) → line-before-within c ws e ≡ some f → P (f .condition .claim)
-      → line-before-within d ws e ≡ some f
+  line-carries : (form : Form) (ws : List ℤ) (e : ℕ) (f : Found) → line-before-within c form ws e ≡ some f → P (f .condition .claim)
+      → line-before-within d form ws e ≡ some f
   unfolding line-before-within
-  line-carries ws e f q k =
-      let h = held (leb 3 e && leb e (length ws)) _ q in
-      rw (h .0) (found-carries ws (e - 3) _ _ _ f (h .1) k)
+  line-carries form ws e f q k =
+      let h = held (leb (trailer-length form) e && leb e (length ws)) _ q in
+      rw (h .0) (found-carries ws (e - trailer-length form) _ _ _ _ f (h .1) k)
 
   each-split : (fs : List Found) (f : Found) → Each P (fs ++ (f ∷ [])) → Each P fs × P (f .condition .claim)
   each-split [] f h = (tt, h .0)
   each-split (g ∷ fs) f h = let s = each-split fs f (h .1) in ((h .0, s .0), s .1)
 
-  lines-carry-before : (ws : List ℤ) (n e : ℕ) (fs : List Found) → lines-before-within c ws n e ≡ some fs → Each P fs
-      → lines-before-within d ws n e ≡ some fs
+  lines-carry-before : (form : Form) (ws : List ℤ) (n e : ℕ) (fs : List Found) → lines-before-within c form ws n e ≡ some fs → Each P fs
+      → lines-before-within d form ws n e ≡ some fs
   unfolding lines-before-within
-  lines-carry-before ws zero zero fs q k = q
-  lines-carry-before ws zero (suc e) fs q k = none-is-not q
-  lines-carry-before ws (suc n) e fs q k =
-      let last = went-on (line-before-within c ws e) _ q in
-      let front = went-on (lines-before-within c ws n (last .0 .start)) _ (last .2) in
+  lines-carry-before form ws zero zero fs q k = q
+  lines-carry-before form ws zero (suc e) fs q k = none-is-not q
+  lines-carry-before form ws (suc n) e fs q k =
+      let last = went-on (line-before-within c form ws e) _ q in
+      let front = went-on (lines-before-within c form ws n (last .0 .start)) _ (last .2) in
       let s = each-split (front .0) (last .0) (subst (Each P) (sym (some-inj (front .2))) k) in
-      rw (line-carries ws e (last .0) (last .1) (s .1), lines-carry-before ws n (last .0 .start) (front .0) (front .1) (s .0)) (front .2)
+      rw (line-carries form ws e (last .0) (last .1) (s .1), lines-carry-before form ws n (last .0 .start) (front .0) (front .1) (s .0)) (front .2)
 
   lines-carry : (ws : List ℤ) (fs : List Found) → lines-within c ws ≡ some fs → Each P fs → lines-within d ws ≡ some fs
   unfolding lines-within
   lines-carry ws fs q k =
-      let short = held (leb (length ws) 16384) _ q in
-      let count = went-on (natural (getD ws (length ws - 1) (pos 0))) _ (short .1) in
-      let many = held (ltb 0 (count .0)) _ (count .2) in
-      rw (short .0, count .1, many .0) (lines-carry-before ws (count .0) (length ws - 1) fs (many .1) k)
+      let count = count-told (last-word ws) in
+      let h = held (leb (length ws) 16384 && ltb 0 count) _ q in
+      rw (h .0) (lines-carry-before (form-of ws) ws count (length ws - 1) fs (h .1) k)
 
 -- ---- what is read within one limit and in range of the other
 
@@ -112,7 +113,7 @@ module _ (a b : ℕ) (ws : List ℤ) where
 
   -- the same of the condition that ends at a place
   abbrev pub Old-at : ℕ → Type 0
-  Old-at p = (f : Found) → line-before-within b ws p ≡ some f → In-rangeᶠ-within a (f .condition .claim)
+  Old-at p = (f : Found) → line-before-within b (form-of ws) ws p ≡ some f → In-rangeᶠ-within a (f .condition .claim)
 
   pub record Same-answers : Type 0 where
     pub lines : lines-within a ws ≡ lines-within b ws
@@ -133,15 +134,15 @@ module _ (a b : ℕ) (rises : a ≤ b) (small : b ≤ 4294967295) (ws : List ℤ
   any [] = tt
   any (f ∷ fs) = (tt, any fs)
 
-  pub line-stays : (e : ℕ) (f : Found) → line-before-within a ws e ≡ some f → line-before-within b ws e ≡ some f
-  line-stays e f q = line-carries a b (λ g. Unit {0}) grown ws e f q tt
+  pub line-stays : (e : ℕ) (f : Found) → line-before-within a (form-of ws) ws e ≡ some f → line-before-within b (form-of ws) ws e ≡ some f
+  line-stays e f q = line-carries a b (λ g. Unit {0}) grown (form-of ws) ws e f q tt
 
   pub lines-stay : (fs : List Found) → lines-within a ws ≡ some fs → lines-within b ws ≡ some fs
   lines-stay fs q = lines-carry a b (λ g. Unit {0}) grown ws fs q (any fs)
 
-  pub line-stood : (e : ℕ) (f : Found) → line-before-within b ws e ≡ some f → In-rangeᶠ-within a (f .condition .claim)
-      → line-before-within a ws e ≡ some f
-  line-stood = line-carries b a (In-rangeᶠ-within a) (spelled-in-range b a small) ws
+  pub line-stood : (e : ℕ) (f : Found) → line-before-within b (form-of ws) ws e ≡ some f → In-rangeᶠ-within a (f .condition .claim)
+      → line-before-within a (form-of ws) ws e ≡ some f
+  line-stood = line-carries b a (In-rangeᶠ-within a) (spelled-in-range b a small) (form-of ws) ws
 
   pub lines-stood : (fs : List Found) → lines-within b ws ≡ some fs → Each (In-rangeᶠ-within a) fs → lines-within a ws ≡ some fs
   lines-stood = lines-carry b a (In-rangeᶠ-within a) (spelled-in-range b a small) ws
@@ -171,10 +172,10 @@ module _ (a b : ℕ) (rises : a ≤ b) (small : b ≤ 4294967295) (ws : List ℤ
     next = ap (λ (o : Option Found). elim o [ some f ↦ f .start | none ↦ p ]) e;
   }
     where
-      e : line-before-within a ws p ≡ line-before-within b ws p
-      e = same (line-before-within a ws p) (line-before-within b ws p) (line-stays p) (λ f q. line-stood p f q (old f q))
+      e : line-before-within a (form-of ws) ws p ≡ line-before-within b (form-of ws) ws p
+      e = same (line-before-within a (form-of ws) ws p) (line-before-within b (form-of ws) ws p) (line-stays p) (λ f q. line-stood p f q (old f q))
 
-      step : (p : ℕ) → line-before-within a ws p ≡ line-before-within b ws p → step-back-within a ws p ≡ step-back-within b ws p
+      step : (p : ℕ) → line-before-within a (form-of ws) ws p ≡ line-before-within b (form-of ws) ws p → step-back-within a ws p ≡ step-back-within b ws p
       step zero e = refl
       step (suc p) e = ap (λ (o : Option Found). elim o [ some f ↦ line f | none ↦ no-line 20 ]) e
 

@@ -2,7 +2,7 @@
 -- whose guards and assigned expressions have none (`Undivided`) has the conditions that 01 gave it (`same-conditions`, with
 -- 01's W and walk stated again), and none of them ever fails to be worked out (`always-defined`). By induction.
 -- Assumes nothing.
-use Prim.Native.Nat.{ℕ}
+use Prim.Native.Nat.{ℕ, suc}
 use mathlib.Core.Path.{_≡_, refl, sym, ap, ap₂, _∙_}
 use mathlib.Core.Bool.{Bool, true, false, _||_, false≢true}
 use mathlib.Core.Option.{Option, none, some}
@@ -118,20 +118,20 @@ wp₀ (assert a) q = join And a q
 abbrev pub step₀ : ℕ → Formula → Formula → Expr → Stmt → Formula
 step₀ m b i v x = join Implies (join And (join And i b) (cmp Equal v (mark m))) (wp₀ x (decreased m i v))
 
-unfoldable pub walk₀ : Stmt → Formula → List Condition
-walk₀ skip q = []
-walk₀ (assign v e) q = []
-walk₀ (seq a b) q = walk₀ b q ++ walk₀ a (wp₀ b q)
-walk₀ (branch b x y) q = walk₀ x q ++ walk₀ y q
-walk₀ (loop m b i v x) q =
-    condition Exit m (exit b i q) ∷ condition Floor m (floor b i v)
-    ∷ (walk₀ x (decreased m i v) ++ (condition Step m (step₀ m b i v x) ∷ []))
-walk₀ (assert a) q = []
+unfoldable pub walk₀ : ℕ → Stmt → Formula → List Condition
+walk₀ depth skip q = []
+walk₀ depth (assign v e) q = []
+walk₀ depth (seq a b) q = walk₀ depth b q ++ walk₀ depth a (wp₀ b q)
+walk₀ depth (branch b x y) q = walk₀ depth x q ++ walk₀ depth y q
+walk₀ depth (loop m b i v x) q =
+    condition Exit m depth (exit b i q) ∷ condition Floor m depth (floor b i v)
+    ∷ (walk₀ (suc depth) x (decreased m i v) ++ (condition Step m depth (step₀ m b i v x) ∷ []))
+walk₀ depth (assert a) q = []
 
 unfoldable pub conditions₀ : Tree → List Condition
 conditions₀ t =
-    walk₀ (t .body) (t .post)
-    ++ (condition Main (t .row) (join Implies (t .pre) (wp₀ (t .body) (t .post))) ∷ [])
+    walk₀ 0 (t .body) (t .post)
+    ++ (condition Main (t .row) 0 (join Implies (t .pre) (wp₀ (t .body) (t .post))) ∷ [])
 
 -- ---- they are the conditions of a script whose guards and assigned expressions have no div or mod
 
@@ -152,16 +152,17 @@ same-wp (branch b x y) q u = rw (no-divisorsᶠ b (u .0), same-wp x q (u .1), sa
 same-wp (loop m b i v x) q u = refl
 same-wp (assert a) q u = refl
 
-pub same-walk : (t : Stmt) (q : Formula) → Undivided t → walk t q ≡ walk₀ t q
+pub same-walk : (depth : ℕ) (t : Stmt) (q : Formula) → Undivided t → walk depth t q ≡ walk₀ depth t q
 unfolding walk walk₀
-same-walk skip q u = refl
-same-walk (assign v e) q u = refl
-same-walk (seq a b) q u = ap₂ _++_ (same-walk b q (u .1)) (same-walk a (wp b q) (u .0) ∙ ap (λ f. walk₀ a f) (same-wp b q (u .1)))
-same-walk (branch b x y) q u = ap₂ _++_ (same-walk x q (u .1)) (same-walk y q (u .2))
-same-walk (loop m b i v x) q u =
-    rw (no-divisorsᶠ b (u .0), same-walk x (decreased m i v) (u .1), same-wp x (decreased m i v) (u .1))
-same-walk (assert a) q u = refl
+same-walk depth skip q u = refl
+same-walk depth (assign v e) q u = refl
+same-walk depth (seq a b) q u =
+    ap₂ _++_ (same-walk depth b q (u .1)) (same-walk depth a (wp b q) (u .0) ∙ ap (λ f. walk₀ depth a f) (same-wp b q (u .1)))
+same-walk depth (branch b x y) q u = ap₂ _++_ (same-walk depth x q (u .1)) (same-walk depth y q (u .2))
+same-walk depth (loop m b i v x) q u =
+    rw (no-divisorsᶠ b (u .0), same-walk (suc depth) x (decreased m i v) (u .1), same-wp x (decreased m i v) (u .1))
+same-walk depth (assert a) q u = refl
 
 pub same-conditions : (t : Tree) → Undivided (t .body) → conditions t ≡ conditions₀ t
 unfolding conditions conditions₀
-same-conditions t u = rw (same-walk (t .body) (t .post) u, same-wp (t .body) (t .post) u)
+same-conditions t u = rw (same-walk 0 (t .body) (t .post) u, same-wp (t .body) (t .post) u)

@@ -15,7 +15,7 @@ use borrow.Author.Tests.{ltb-true, lt-ltb}
 use Rattle.script.specs.Rows.{rows, row}
 use Rattle.script.specs.Trees.{tree, nesting}
 use Rattle.script.specs.Conditions.{conditions}
-use Rattle.script.specs.Words.{list-words}
+use Rattle.script.specs.Words.{with-depth, list-words}
 use Rattle.script.specs.Refusals.{Verdict, accepted, refused, _and-then_, length-test, row-test, script-test, unlinked-test, target-test, reading-test, nesting-test, verdict, verdict-within}
 use Rattle.script.specs.Generated.{Outcome, refuse, plan, room, scratch-need, outcome-for, outcome, outcome-within}
 use Rattle.theorems.specs.Lowest.{Says, Lowest}
@@ -40,7 +40,7 @@ occasions t list scratch =
     ∷ (λ k r. (k ≡ 9) × Lowest (Misplaced t) (rows t) r)
     ∷ (λ k r. (k ≡ 10) × (r ≡ 0) × (8 < nesting (tree t .body)))
     ∷ (λ k r. (k ≡ 11) × (r ≡ 0) × (scratch < scratch-need t))
-    ∷ (λ k r. (k ≡ 12) × (r ≡ 0) × (room list < length (list-words (conditions (tree t)))))
+    ∷ (λ k r. (k ≡ 12) × (r ≡ 0) × (room list < length (list-words with-depth (conditions (tree t)))))
     ∷ []
 
 -- an occasion of k with r arises, and none of an earlier test; where none arises at all, 0 with row 0
@@ -94,7 +94,7 @@ module _ (t : List ℤ) (list scratch : ℕ) where
   scratch-short = ltb scratch (scratch-need t)
 
   list-long : Bool
-  list-long = ltb (room list) (length (list-words (conditions (tree t))))
+  list-long = ltb (room list) (length (list-words with-depth (conditions (tree t))))
 
   buffers : Verdict
   buffers = cond scratch-short (refused 11 0) accepted and-then cond list-long (refused 12 0) accepted and-then accepted

@@ -17,12 +17,12 @@ use Rattle.script.specs.Trees.{expr, formula, stmt, expr-at, formula-at, stmt-a
 use Rattle.script.specs.Computed.{_⨾_}
 use Rattle.script.specs.DivisionFigures.{three-divisors, nested-divisors, division-in-choose, division-in-if, division-in-while, division-after-assignment, division-in-annotations}
 use Rattle.theorems.specs.WrongItems.{Items, divisors-by, divisors-byᶠ, right-items}
-use Rattle.theorems.specs.WrongRules.{Weakest, Rules, right-weakest, right-listed, wp-by, walk-by, lines-by, conditions-by, list-by, Wrong, wrong, Other-words, all-told}
+use Rattle.theorems.specs.WrongRules.{Weakest, Rules, right-weakest, right-listed, right-depths, wp-by, walk-by, lines-by, conditions-by, list-by, Wrong, wrong, Other-words, all-told}
 
 -- ---- wrong divisors: "for div and mod the divisor unequal to 0"
 
 abbrev with-items : Items → Rules
-with-items i = record { items = i; weakest = right-weakest; listed = right-listed }
+with-items i = record { items = i; weakest = right-weakest; listed = right-listed; depths = right-depths }
 
 abbrev with-divisor : (Operator → Expr → Option Formula) → Rules
 with-divisor d = with-items (record {
@@ -136,7 +136,7 @@ first-side-only = with-sides (λ c f x y. x)
 -- ---- wrong uses of D in W
 
 abbrev with-weakest : Weakest → Rules
-with-weakest w = record { items = right-items; weakest = w; listed = right-listed }
+with-weakest w = record { items = right-items; weakest = w; listed = right-listed; depths = right-depths }
 
 abbrev with-assigned : (Option Formula → ℕ → Expr → Formula → Formula) → Rules
 with-assigned a = with-weakest (record {
@@ -187,7 +187,7 @@ assertion-divided = with-weakest (record {
 
 -- ---- wrong conditions of kind 5: "a loop whose guard divides lists first a condition of kind 5, guard: I implies D(B)"
 
-abbrev with-guard : (ℕ → Formula → Formula → Option Formula → List Condition)
+abbrev with-guard : (ℕ → ℕ → Formula → Formula → Option Formula → List Condition)
     → (List Condition → Condition → Condition → List Condition → Condition → List Condition) → Rules
 with-guard g l = record {
   items = right-items;
@@ -200,10 +200,11 @@ with-guard g l = record {
     within = right-listed .within;
     trailed = right-listed .trailed;
   };
+  depths = right-depths;
 }
 
 abbrev pub guard-lost : Rules
-guard-lost = with-guard (λ m b i d. []) (right-listed .looped)
+guard-lost = with-guard (λ m n b i d. []) (right-listed .looped)
 
 -- no condition of kind 5, and D(B) in W: asked for where the loop is arrived at, and at no later test of its guard
 abbrev pub asked-on-arrival : Rules
@@ -216,11 +217,12 @@ asked-on-arrival = record {
     arrived = λ d i. d and i;
   };
   listed = guard-lost .listed;
+  depths = right-depths;
 }
 
 -- (I and B) implies D(B)
 abbrev pub guard-behind-itself : Rules
-guard-behind-itself = with-guard (λ m b i d. guard m (join And i b) d) (right-listed .looped)
+guard-behind-itself = with-guard (λ m n b i d. guard m n (join And i b) d) (right-listed .looped)
 
 abbrev pub guard-last : Rules
 guard-last = with-guard (right-listed .guarded) (λ g e f x s. e ∷ f ∷ (x ++ (s ∷ g)))

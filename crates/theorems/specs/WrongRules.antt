@@ -1,8 +1,8 @@
--- The rules of 01 and of 02, P5, with what a wrong turn changes as fields (`Rules`: of D, of W, of the walk and its words); with
--- the right fields it is the list defined (`right-list`). A wrong turn is a change of one field of one of these three
+-- The rules of 01 and of 02, P5 and P9, with what a wrong turn changes as fields (`Rules`: of D, of W, of the walk and its words, of
+-- depths); with the right fields it is the list defined (`right-list`). A wrong turn is a change of one field of one of these four
 -- (`WrongTurns`, `WrongDivisors`; of two fields, where D is asked for at another place), and is told from the list defined by
 -- giving other words for one table (`Other-words`). Assumes nothing.
-use Prim.Native.Nat.{ℕ}
+use Prim.Native.Nat.{ℕ, suc}
 use mathlib.Core.Path.{_≡_, refl, ap, _∙_}
 use mathlib.Core.Logic.{_≢_}
 use mathlib.Core.Bool.{Bool, true, _&&_}
@@ -17,7 +17,7 @@ use Rattle.script.specs.declared.Rule.the-variants.{Exit, Floor, Step, Main}
 use Rattle.script.specs.declared.Relation.the-variants.{Equal}
 use Rattle.script.specs.Syntax.{Expr, mark, Formula, cmp, not, join, Stmt, skip, assign, seq, branch, loop, assert, Tree}
 use Rattle.script.specs.Conditions.{Condition, condition, _and_, decreased, exit, floor, guard, conditions, walk, wp, subst-formula}
-use Rattle.script.specs.Words.{trailer, line-words, all-lines, list-words, formula-words}
+use Rattle.script.specs.Words.{with-depth, trailer, line-words, all-lines, count-word, list-words, formula-words}
 use Rattle.script.specs.Trees.{tree}
 use Rattle.theorems.specs.Truths.{both}
 use Rattle.theorems.specs.Differ.{other, told}
@@ -42,18 +42,28 @@ pub record Listed : Type 0 where
   pub sequence : List Condition → List Condition → List Condition
   -- of those of then and of else
   pub branches : List Condition → List Condition → List Condition
-  -- the condition of kind 5, from the loop's row, B, I and D(B)
-  pub guarded : ℕ → Formula → Formula → Option Formula → List Condition
+  -- the condition of kind 5, from the loop's row and depth, B, I and D(B)
+  pub guarded : ℕ → ℕ → Formula → Formula → Option Formula → List Condition
   -- of guard, exit, floor, the conditions of the body, and step
   pub looped : List Condition → Condition → Condition → List Condition → Condition → List Condition
   -- what the body is walked with, of Q and (I and (V less m))
   pub within : Formula → Formula → Formula
   pub trailed : Condition → List ℤ
 
+-- of the depth, and of the last word
+pub record Depths : Type 0 where
+  -- of what stands in a branch, from that of the branch
+  pub in-branch : ℕ → ℕ
+  -- of what stands in a loop's body, from that of the loop
+  pub in-body : ℕ → ℕ
+  -- the last word, from the number of conditions
+  pub ended : ℕ → ℤ
+
 pub record Rules : Type 0 where
   pub items : Items
   pub weakest : Weakest
   pub listed : Listed
+  pub depths : Depths
 
 module _ (R : Rules) where
   unfoldable pub wp-by : Stmt → Formula → Formula
@@ -68,25 +78,25 @@ module _ (R : Rules) where
   abbrev step-by : ℕ → Formula → Formula → Expr → Stmt → Formula
   step-by m b i v x = join Implies (join And (join And i b) (cmp Equal v (mark m))) (wp-by x (decreased m i v))
 
-  unfoldable pub walk-by : Stmt → Formula → List Condition
-  walk-by skip q = []
-  walk-by (assign v e) q = []
-  walk-by (seq a b) q = R .listed .sequence (walk-by a (wp-by b q)) (walk-by b q)
-  walk-by (branch b x y) q = R .listed .branches (walk-by x q) (walk-by y q)
-  walk-by (loop m b i v x) q =
-      R .listed .looped (R .listed .guarded m b i (divisors-byᶠ (R .items) b)) (condition Exit m (exit b i q)) (condition Floor m (floor b i v))
-      (walk-by x (R .listed .within q (decreased m i v))) (condition Step m (step-by m b i v x))
-  walk-by (assert a) q = []
+  unfoldable pub walk-by : ℕ → Stmt → Formula → List Condition
+  walk-by n skip q = []
+  walk-by n (assign v e) q = []
+  walk-by n (seq a b) q = R .listed .sequence (walk-by n a (wp-by b q)) (walk-by n b q)
+  walk-by n (branch b x y) q = R .listed .branches (walk-by (R .depths .in-branch n) x q) (walk-by (R .depths .in-branch n) y q)
+  walk-by n (loop m b i v x) q =
+      R .listed .looped (R .listed .guarded m n b i (divisors-byᶠ (R .items) b)) (condition Exit m n (exit b i q)) (condition Floor m n (floor b i v))
+      (walk-by (R .depths .in-body n) x (R .listed .within q (decreased m i v))) (condition Step m n (step-by m b i v x))
+  walk-by n (assert a) q = []
 
   unfoldable pub lines-by : List Condition → List ℤ
   lines-by [] = []
   lines-by (c ∷ cs) = (formula-words (c .claim) ++ R .listed .trailed c) ++ lines-by cs
 
   unfoldable pub conditions-by : Tree → List Condition
-  conditions-by t = walk-by (t .body) (t .post) ++ (condition Main (t .row) (join Implies (t .pre) (wp-by (t .body) (t .post))) ∷ [])
+  conditions-by t = walk-by 0 (t .body) (t .post) ++ (condition Main (t .row) 0 (join Implies (t .pre) (wp-by (t .body) (t .post))) ∷ [])
 
   unfoldable pub list-by : Tree → List ℤ
-  list-by t = lines-by (conditions-by t) ++ (pos (length (conditions-by t)) ∷ [])
+  list-by t = lines-by (conditions-by t) ++ (R .depths .ended (length (conditions-by t)) ∷ [])
 
 abbrev pub right-weakest : Weakest
 right-weakest = record {
@@ -100,14 +110,17 @@ abbrev pub right-listed : Listed
 right-listed = record {
   sequence = λ a b. b ++ a;
   branches = λ x y. x ++ y;
-  guarded = λ m b i d. guard m i d;
+  guarded = λ m n b i d. guard m n i d;
   looped = λ g e f x s. g ++ (e ∷ f ∷ (x ++ (s ∷ [])));
   within = λ q d. d;
-  trailed = trailer;
+  trailed = trailer with-depth;
 }
 
+abbrev pub right-depths : Depths
+right-depths = record { in-branch = λ n. n; in-body = λ n. suc n; ended = count-word with-depth }
+
 abbrev pub right : Rules
-right = record { items = right-items; weakest = right-weakest; listed = right-listed }
+right = record { items = right-items; weakest = right-weakest; listed = right-listed; depths = right-depths }
 
 right-wp : (x : Stmt) (q : Formula) → wp-by right x q ≡ wp x q
 unfolding wp-by wp
@@ -118,23 +131,23 @@ right-wp (branch b x y) q = rw (right-divisorsᶠ b, right-wp x q, right-wp y q)
 right-wp (loop m b i v x) q = refl
 right-wp (assert a) q = refl
 
-right-walk : (x : Stmt) (q : Formula) → walk-by right x q ≡ walk x q
+right-walk : (n : ℕ) (x : Stmt) (q : Formula) → walk-by right n x q ≡ walk n x q
 unfolding walk-by walk
-right-walk skip q = refl
-right-walk (assign v e) q = refl
-right-walk (seq a b) q = rw (right-wp b q, right-walk b q, right-walk a (wp b q))
-right-walk (branch b x y) q = rw (right-walk x q, right-walk y q)
-right-walk (loop m b i v x) q = rw (right-divisorsᶠ b, right-walk x (decreased m i v), right-wp x (decreased m i v))
-right-walk (assert a) q = refl
+right-walk n skip q = refl
+right-walk n (assign v e) q = refl
+right-walk n (seq a b) q = rw (right-wp b q, right-walk n b q, right-walk n a (wp b q))
+right-walk n (branch b x y) q = rw (right-walk n x q, right-walk n y q)
+right-walk n (loop m b i v x) q = rw (right-divisorsᶠ b, right-walk (suc n) x (decreased m i v), right-wp x (decreased m i v))
+right-walk n (assert a) q = refl
 
-right-lines : (cs : List Condition) → lines-by right cs ≡ all-lines cs
+right-lines : (cs : List Condition) → lines-by right cs ≡ all-lines with-depth cs
 unfolding lines-by all-lines line-words
 right-lines [] = refl
-right-lines (c ∷ cs) = ap (λ (l : List ℤ). (formula-words (c .claim) ++ trailer c) ++ l) (right-lines cs)
+right-lines (c ∷ cs) = ap (λ (l : List ℤ). (formula-words (c .claim) ++ trailer with-depth c) ++ l) (right-lines cs)
 
-pub right-list : (t : Tree) → list-by right t ≡ list-words (conditions t)
+pub right-list : (t : Tree) → list-by right t ≡ list-words with-depth (conditions t)
 unfolding list-by conditions-by list-words conditions
-right-list t = rw (right-walk (t .body) (t .post), right-wp (t .body) (t .post), right-lines)
+right-list t = rw (right-walk 0 (t .body) (t .post), right-wp (t .body) (t .post), right-lines)
 
 -- ---- a wrong turn, with a table
 
@@ -148,7 +161,7 @@ wrong R t = record { rules = R; table = t }
 -- each gives other words than those of the list defined
 abbrev pub Other-words : List Wrong → Type 0
 Other-words [] = Unit {0}
-Other-words (w ∷ ws) = (list-by (w .rules) (tree (w .table)) ≢ list-words (conditions (tree (w .table)))) × Other-words ws
+Other-words (w ∷ ws) = (list-by (w .rules) (tree (w .table)) ≢ list-words with-depth (conditions (tree (w .table)))) × Other-words ws
 
 abbrev as-words : List ℤ → List ℤ
 as-words l = l
@@ -156,10 +169,10 @@ as-words l = l
 -- tested, for all of them
 abbrev pub differ : List Wrong → Bool
 differ [] = true
-differ (w ∷ ws) = other as-words (list-by (w .rules) (tree (w .table))) (list-words (conditions (tree (w .table)))) && differ ws
+differ (w ∷ ws) = other as-words (list-by (w .rules) (tree (w .table))) (list-words with-depth (conditions (tree (w .table)))) && differ ws
 
 pub all-told : (ws : List Wrong) → T (differ ws) → Other-words ws
 all-told [] h = tt
 all-told (w ∷ ws) h =
-    let k = both (other as-words (list-by (w .rules) (tree (w .table))) (list-words (conditions (tree (w .table))))) (differ ws) h in
+    let k = both (other as-words (list-by (w .rules) (tree (w .table))) (list-words with-depth (conditions (tree (w .table))))) (differ ws) h in
     (told as-words _ _ (k .0), all-told ws (k .1))

@@ -21,7 +21,7 @@ use Rattle.script.specs.Run.{Frame, begin, again, Config, at, failed, first-ste
 use Rattle.script.specs.Run as Run
 use Rattle.script.specs.Rows.{rows, row, row-of}
 use Rattle.script.specs.Conditions.{Condition, _and_, conditions, walk, wp, divisors, divisorsᶠ, subst-expr, subst-formula}
-use Rattle.script.specs.Words.{rule-number, line-words, all-lines, list-words, expr-words, formula-words}
+use Rattle.script.specs.Words.{rule-number, without-depth, trailer, count-word, line-words, all-lines, list-words, expr-words, formula-words}
 use Rattle.script.specs.Trees.{expr, formula, stmt, expr-at, formula-at, stmt-at, tree}
 use Rattle.script.specs.Refusals.{misread-node, misread, misreads}
 use Rattle.script.specs.Promise.{All-valid}
@@ -29,12 +29,12 @@ use Rattle.script.specs.Computed.{_⨾_, example, example-a, loops-in-branches,
 use Rattle.theorems.specs.Tests.{equal-numbers}
 use Rattle.theorems.specs.Truths.{implies-true}
 use Rattle.theorems.specs.WrongItems.{divisors-by, divisors-byᶠ, right-items}
-use Rattle.theorems.specs.WrongRules.{Listed, Rules, right-weakest, right-listed, wp-by, walk-by, lines-by, conditions-by, list-by, Wrong, wrong, Other-words, all-told}
+use Rattle.theorems.specs.WrongRules.{Listed, Depths, Rules, right-weakest, right-listed, right-depths, wp-by, walk-by, lines-by, conditions-by, list-by, Wrong, wrong, Other-words, all-told}
 
 -- ---- the wrong rules of the walk and of its words, each with the table of a trial row
 
 abbrev walked : Listed → Rules
-walked l = record { items = right-items; weakest = right-weakest; listed = l }
+walked l = record { items = right-items; weakest = right-weakest; listed = l; depths = right-depths }
 
 -- with the parts joined so: sequence, branches, loop
 abbrev parts-joined : (List Condition → List Condition → List Condition) → (List Condition → List Condition → List Condition)
@@ -87,6 +87,7 @@ replaced-twice = record {
     arrived = right-weakest .arrived;
   };
   listed = right-listed;
+  depths = right-depths;
 }
 
 abbrev pub without-row : Rules
@@ -96,8 +97,49 @@ without-row = walked (record {
   guarded = right-listed .guarded;
   looped = right-listed .looped;
   within = right-listed .within;
-  trailed = λ c. pos (rule-number (c .rule)) ∷ pos (length (formula-words (c .claim))) ∷ [];
+  trailed = λ c. pos (rule-number (c .rule)) ∷ pos (length (formula-words (c .claim))) ∷ pos (c .depth) ∷ [];
 })
+
+-- ---- wrong turns of 02, P9
+
+-- with trailers so
+abbrev trailed-by : (Condition → List ℤ) → Rules
+trailed-by t = walked (record {
+  sequence = right-listed .sequence;
+  branches = right-listed .branches;
+  guarded = right-listed .guarded;
+  looped = right-listed .looped;
+  within = right-listed .within;
+  trailed = t;
+})
+
+-- "after the length", not before it
+abbrev pub depth-before-length : Rules
+depth-before-length =
+    trailed-by (λ c. pos (rule-number (c .rule)) ∷ pos (c .row) ∷ pos (c .depth) ∷ pos (length (formula-words (c .claim))) ∷ [])
+
+-- the loop itself is counted among those that enclose it
+abbrev pub itself-counted : Rules
+itself-counted =
+    trailed-by (λ c. pos (rule-number (c .rule)) ∷ pos (c .row) ∷ pos (length (formula-words (c .claim))) ∷ pos (suc (c .depth)) ∷ [])
+
+-- the form of 01 with the last word of the new one
+abbrev pub depth-lost : Rules
+depth-lost = trailed-by (trailer without-depth)
+
+abbrev with-depths : Depths → Rules
+with-depths d = record { items = right-items; weakest = right-weakest; listed = right-listed; depths = d }
+
+abbrev pub branches-counted : Rules
+branches-counted = with-depths (record { in-branch = λ n. suc n; in-body = right-depths .in-body; ended = right-depths .ended })
+
+abbrev pub bodies-uncounted : Rules
+bodies-uncounted = with-depths (record { in-branch = right-depths .in-branch; in-body = λ n. n; ended = right-depths .ended })
+
+-- the last word as in the form of 01
+abbrev pub count-not-negated : Rules
+count-not-negated =
+    with-depths (record { in-branch = right-depths .in-branch; in-body = right-depths .in-body; ended = count-word without-depth })
 
 pub wrongs : List Wrong
 wrongs =
@@ -109,6 +151,12 @@ wrongs =
     ∷ wrong body-with-post loop-in-loop
     ∷ wrong replaced-twice example-a
     ∷ wrong without-row example-a
+    ∷ wrong depth-before-length example-a
+    ∷ wrong itself-counted example-a
+    ∷ wrong depth-lost example-a
+    ∷ wrong branches-counted loops-in-branches
+    ∷ wrong bodies-uncounted loop-in-loop
+    ∷ wrong count-not-negated example-a
     ∷ []
 
 pub other-words : Other-words wrongs
