@@ -68,6 +68,7 @@ pub mod WholeAnswer
 pub mod ScratchRules
 pub mod Demand
 pub mod Depths
+pub mod FormerReader
 pub mod StoredTables
 pub mod StoredLists
 -- ---- wrong answers: bodies, readers, rules, reads
