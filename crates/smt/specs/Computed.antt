@@ -1,5 +1,6 @@
--- The figures of 02, P1, P2 and P5 (kind 5), as rows of a single statement that the prover settles by computing the definitions:
--- example A's four scripts; constants, operators, names; 20, 21 and 30 in their order. Then answers of a writer that these rule out.
+-- The figures of 02, P1, P2, P5 (kind 5) and P9 (depths), as rows of a single statement that the prover settles by computing the
+-- definitions: example A's four scripts, from its list in either form; constants, operators, names; kinds and fourth words; 20, 21 and
+-- 30 in their order. Then answers of a writer that these rule out.
 -- Assumes nothing.
 use Prim.Native.Nat.{ℕ}
 use Prim.Native.String.{String}
@@ -12,7 +13,7 @@ use Rattle.script.specs.Computed.{_⨾_, example, example-a}
 use Rattle.script.specs.Rows.{row, row-of}
 use Rattle.script.specs.Trees.{expr, formula, stmt, expr-at, formula-at, stmt-at, tree}
 use Rattle.script.specs.Conditions.{conditions, walk, wp, divisors, divisorsᶠ, subst-expr, subst-formula}
-use Rattle.script.specs.Words.{list-words, all-lines, line-words, expr-words, formula-words}
+use Rattle.script.specs.Words.{Form, without-depth, with-depth, list-words, all-lines, line-words, expr-words, formula-words}
 use Rattle.script.specs.Listing.{read-expr-within, read-formula-within, spelled-within, found-within, line-before-within, lines-before-within, lines-within}
 use Rattle.text.specs.Ascii.{bytes}
 use Rattle.text.specs.Decimal.{digits, decimal}
@@ -30,13 +31,21 @@ text s zeros = record { number = 0; used = length (bytes s); buffer = bytes s ++
 
 -- ---- lists
 
--- the list of example A
-list-a : List ℤ
-list-a = list-words (conditions (tree example-a))
+-- the list of example A, in either form
+list-in : Form → List ℤ
+list-in form = list-words form (conditions (tree example-a))
 
--- a list of one condition, of a kind and with row 0
+-- as the generator writes it
+list-a : List ℤ
+list-a = list-in with-depth
+
+-- a list of one condition, of a kind and with row 0, in the form of 01
 of-kind : ℕ → List ℤ → List ℤ
 of-kind k ws = ws ++ (pos k ∷ pos 0 ∷ pos (length ws) ∷ pos 1 ∷ [])
+
+-- in that of 02, P9, with this fourth word
+with-fourth : ℤ → ℕ → List ℤ → List ℤ
+with-fourth d k ws = ws ++ (pos k ∷ pos 0 ∷ pos (length ws) ∷ d ∷ negsuc 0 ∷ [])
 
 -- main
 one : List ℤ → List ℤ
@@ -77,25 +86,33 @@ division-in-divisor = one (pos 20 ∷ pos 7 ∷ pos 1 ∷ negsuc 6 ∷ pos 6 ∷
 nonzero : List ℤ
 nonzero = pos 25 ∷ pos 16 ∷ pos 21 ∷ pos 2 ∷ pos 0 ∷ pos 1 ∷ pos 0 ∷ []
 
+nonzero-text : Written
+nonzero-text = text "(set-logic QF_NIA)\n(declare-const v0 Int)\n(assert (not (=> true (distinct v0 0))))\n(check-sat)\n" 0
+
 -- ---- figures
 
-figures : List (Call × Written)
-figures =
-    ((list-a, pos 0, 120), text "(set-logic QF_NIA)\n(declare-const v0 Int)\n(assert (not (=> (and (<= 0 v0) (not (< 0 v0))) (= v0 0))))\n(check-sat)\n" 6)
-    ∷ ((list-a, pos 1, 109), text "(set-logic QF_NIA)\n(declare-const v0 Int)\n(assert (not (=> (and (<= 0 v0) (< 0 v0)) (<= 0 v0))))\n(check-sat)\n" 0)
-    ∷ ((list-a, pos 1, 108), refuse 30 108)
+-- of the list of example A: 02, P9, "the reader, P1 and P6 take both forms", and the texts from either are the same
+of-example : List ℤ → List (Call × Written)
+of-example a =
+    ((a, pos 0, 120), text "(set-logic QF_NIA)\n(declare-const v0 Int)\n(assert (not (=> (and (<= 0 v0) (not (< 0 v0))) (= v0 0))))\n(check-sat)\n" 6)
+    ∷ ((a, pos 1, 109), text "(set-logic QF_NIA)\n(declare-const v0 Int)\n(assert (not (=> (and (<= 0 v0) (< 0 v0)) (<= 0 v0))))\n(check-sat)\n" 0)
+    ∷ ((a, pos 1, 108), refuse 30 108)
     ∷ (
-      (list-a, pos 2, 180),
+      (a, pos 2, 180),
       text
           "(set-logic QF_NIA)\n(declare-const v0 Int)\n(declare-const m15 Int)\n(assert (not (=> (and (and (<= 0 v0) (< 0 v0)) (= v0 m15)) (and (<= 0 (- v0 1)) (< (- v0 1) m15)))))\n(check-sat)\n"
           1,
     )
-    ∷ ((list-a, pos 3, 95), text "(set-logic QF_NIA)\n(declare-const v0 Int)\n(assert (not (=> (<= 0 v0) (<= 0 v0))))\n(check-sat)\n" 1)
-    ∷ ((list-a, pos 3, 0), refuse 30 0)
-    ∷ ((list-a, pos 4, 500), refuse 21 500)
-    ∷ ((list-a, negsuc 0, 0), refuse 21 0)
-    ∷ ((pos 7 ∷ list-a, pos 4, 0), refuse 20 0)
-    ∷ ((constants, pos 0, 99), text "(set-logic QF_NIA)\n(assert (not (and (< (- 1) (- 5)) (<= (- 2147483648) 2147483647))))\n(check-sat)\n" 0)
+    ∷ ((a, pos 3, 95), text "(set-logic QF_NIA)\n(declare-const v0 Int)\n(assert (not (=> (<= 0 v0) (<= 0 v0))))\n(check-sat)\n" 1)
+    ∷ ((a, pos 3, 0), refuse 30 0)
+    ∷ ((a, pos 4, 500), refuse 21 500)
+    ∷ ((a, negsuc 0, 0), refuse 21 0)
+    ∷ ((pos 7 ∷ a, pos 4, 0), refuse 20 0)
+    ∷ []
+
+others : List (Call × Written)
+others =
+    ((constants, pos 0, 99), text "(set-logic QF_NIA)\n(assert (not (and (< (- 1) (- 5)) (<= (- 2147483648) 2147483647))))\n(check-sat)\n" 0)
     ∷ (
       (divisions, pos 0, 191),
       text
@@ -127,18 +144,23 @@ figures =
           "(set-logic QF_NIA)\n(declare-const v0 Int)\n(assert (not (= (ite (= (ite (= (- 2) 0) 0 (div v0 (- 2))) 0) (- 7) (mod (- 7) (ite (= (- 2) 0) 0 (div v0 (- 2))))) 0)))\n(check-sat)\n"
           0,
     )
-    ∷ (
-      (of-kind 5 nonzero, pos 0, 95),
-      text "(set-logic QF_NIA)\n(declare-const v0 Int)\n(assert (not (=> true (distinct v0 0))))\n(check-sat)\n" 0,
-    )
+    ∷ ((of-kind 5 nonzero, pos 0, 95), nonzero-text)
     ∷ ((of-kind 6 nonzero, pos 0, 95), refuse 20 95)
+    ∷ ((with-fourth (pos 0) 5 nonzero, pos 0, 95), nonzero-text)
+    ∷ ((with-fourth (pos 7) 5 nonzero, pos 0, 95), nonzero-text)
+    ∷ ((with-fourth (pos 8) 5 nonzero, pos 0, 95), refuse 20 95)
+    ∷ ((with-fourth (negsuc 0) 5 nonzero, pos 0, 95), refuse 20 95)
+    ∷ ((with-fourth (pos 0) 6 nonzero, pos 0, 95), refuse 20 95)
     ∷ ((sums, pos 2147483647, 1), refuse 21 1)
     ∷ ((sums, negsuc 2147483647, 1), refuse 21 1)
     ∷ (([], negsuc 0, 3), refuse 20 3)
     ∷ []
 
+figures : List (Call × Written)
+figures = of-example list-a ++ (of-example (list-in without-depth) ++ others)
+
 figures-hold : map (λ (f : Call × Written). written (f .0 .0) (f .0 .1) (f .0 .2)) figures ≡ map (λ (f : Call × Written). f .1) figures
-unfolding figures list-a of-kind one constants divisions choice sums ends past-ends past-marks division-in-divisor nonzero text example-a example _⨾_ row row-of expr formula stmt expr-at formula-at stmt-at tree conditions walk wp divisors divisorsᶠ subst-expr subst-formula list-words all-lines line-words expr-words formula-words read-expr-within read-formula-within spelled-within found-within line-before-within lines-before-within lines-within decimal digits term claim references occurring script-within sexp-text term-sexp command-sexp script-text written-within
+unfolding figures of-example others list-in list-a of-kind with-fourth one constants divisions choice sums ends past-ends past-marks division-in-divisor nonzero nonzero-text text example-a example _⨾_ row row-of expr formula stmt expr-at formula-at stmt-at tree conditions walk wp divisors divisorsᶠ subst-expr subst-formula list-words all-lines line-words expr-words formula-words read-expr-within read-formula-within spelled-within found-within line-before-within lines-before-within lines-within decimal digits term claim references occurring script-within sexp-text term-sexp command-sexp script-text written-within
 figures-hold = refl
 
 -- ---- what a writer cannot do
@@ -146,7 +168,7 @@ figures-hold = refl
 -- example A's first condition and its last, and one past it
 facts : (written list-a (pos 0) 114 .used ≡ 114) × (written list-a (pos 3) 114 .number ≡ 0) × (written list-a (pos 3) 114 .used ≡ 94)
     × (written list-a (pos 4) 114 .number ≡ 21)
-unfolding list-a one example-a example _⨾_ row row-of expr formula stmt expr-at formula-at stmt-at tree conditions walk wp divisors divisorsᶠ subst-expr subst-formula list-words all-lines line-words expr-words formula-words read-expr-within read-formula-within spelled-within found-within line-before-within lines-before-within lines-within decimal digits term claim references occurring script-within sexp-text term-sexp command-sexp script-text written-within
+unfolding list-in list-a one example-a example _⨾_ row row-of expr formula stmt expr-at formula-at stmt-at tree conditions walk wp divisors divisorsᶠ subst-expr subst-formula list-words all-lines line-words expr-words formula-words read-expr-within read-formula-within spelled-within found-within line-before-within lines-before-within lines-within decimal digits term claim references occurring script-within sexp-text term-sexp command-sexp script-text written-within
 facts = (refl, refl, refl, refl)
 
 -- a writer that always answers what is defined

@@ -25,11 +25,12 @@ pub mod Blanks
 pub mod Atoms
 pub mod TermBack
 pub mod ReadBack
--- ---- from verdicts to runs; stored lists (02, P2)
+-- ---- from verdicts to runs; stored lists (02, P2), and lists in two forms (P9)
 
 pub mod Verdicts
 pub mod Refutations
 pub mod StoredScripts
+pub mod Forms
 -- ---- pieces and figures
 
 pub mod Pieces

@@ -1,4 +1,4 @@
--- The hypotheses of `verdicts-to-runs` can hold, with a loop whose body is begun: 01's example A is planned in 94 words, and its
+-- The hypotheses of `verdicts-to-runs` can hold, with a loop whose body is begun: 01's example A is planned in 98 words, and its
 -- four conditions are true in all states (`valid`), so for each of them a text is written whose script has no model (`refuted`).
 -- So every run from a start with 0 <= v0 keeps the promise (`runs`); from the start with v0 = 1 the body is begun (`run`).
 -- Assumes nothing.
@@ -48,16 +48,16 @@ body = assign 0 (arith Minus (var 0) (const (pos 1)))
 
 abbrev pub claims : List Condition
 claims =
-    condition Exit 15 (exit guard invariant (cmp Equal (var 0) (const (pos 0))))
-    ∷ condition Floor 15 (floor guard invariant (var 0))
-    ∷ condition Step 15 (step 15 guard invariant (var 0) body)
-    ∷ condition Main 19 (join Implies invariant invariant) ∷ []
+    condition Exit 15 0 (exit guard invariant (cmp Equal (var 0) (const (pos 0))))
+    ∷ condition Floor 15 0 (floor guard invariant (var 0))
+    ∷ condition Step 15 0 (step 15 guard invariant (var 0) body)
+    ∷ condition Main 19 0 (join Implies invariant invariant) ∷ []
 
 -- the words left
 abbrev pub words : List ℤ
-words = take (outcome example-a 94 282 .answer .words) (outcome example-a 94 282 .list)
+words = take (outcome example-a 98 282 .answer .words) (outcome example-a 98 282 .list)
 
-pub planned : (outcome example-a 94 282 .answer .number ≡ 0) × (outcome example-a 94 282 .answer .conditions ≡ 4)
+pub planned : (outcome example-a 98 282 .answer .number ≡ 0) × (outcome example-a 98 282 .answer .conditions ≡ 4)
     × (read-list words ≡ some claims)
 unfolding example-a example _⨾_ outcome-within outcome-for verdict-within length-test row-test-within script-test unlinked-test target-test reading-test nesting-test lowest row-fault-within linked misread misreads nesting row row-of expr formula stmt expr-at formula-at stmt-at tree conditions walk wp divisors divisorsᶠ subst-expr subst-formula list-words all-lines line-words expr-words formula-words read-expr-within read-formula-within spelled-within found-within line-before-within lines-before-within lines-within read-list
 planned = (refl, refl, refl)
@@ -103,11 +103,11 @@ list-valid cs r = subst (All-valid whole) (some-inj (sym (planned .2) ∙ r)) va
 
 -- ---- so each is refuted, and the promise is kept
 
-pub refuted : (i : ℕ) → i < outcome example-a 94 282 .answer .conditions → Refuted words i
+pub refuted : (i : ℕ) → i < outcome example-a 98 282 .answer .conditions → Refuted words i
 refuted i l = refuted-iff words claims (planned .2) .1 valid i (rw (planned .1) at l)
 
 pub runs : (s : State) → T (holds whole s (tree example-a .pre)) → Total-correctness whole (tree example-a) s
-runs = verdicts-to-runs example-a 94 282 (planned .0) refuted
+runs = verdicts-to-runs example-a 98 282 (planned .0) refuted
 
 -- ---- with a start, from which the body is begun
 

@@ -14,7 +14,7 @@ use lib.ListN.{length, replicate, getElem?, take, length-append, length-replicat
 use borrow.Author.Tests.{ltb-false}
 use lib.Seq.{take-append-seam}
 use Rattle.script.specs.Rows.{variables}
-use Rattle.script.specs.Listing.{Found, lines, lines-within, read-list}
+use Rattle.script.specs.Listing.{Found, form-of, lines, lines-within, read-list}
 use Rattle.script.specs.WellFormed.{In-rangeᶠ}
 use Rattle.theorems.specs.Options.{none-is-not}
 use Rattle.theorems.specs.ReadBack.{conditions-of, written-read as well-formed}
@@ -111,7 +111,7 @@ pub record Text-of (ws : List ℤ) (i : ℤ) (w : Written) : Type 0 where
 range-found : (ws : List ℤ) (fs : List Found) (i : ℤ) → lines ws ≡ some fs → (f : Found) → found-at fs i ≡ some f → In-rangeᶠ (f .condition .claim)
 unfolding read-list
 range-found ws fs (pos k) p f q =
-    range-at (conditions-of fs) k (well-formed ws (conditions-of fs) (rw (p, read-list)) .ranges) (condition-of fs k q)
+    range-at (form-of ws) (conditions-of fs) k (well-formed ws (conditions-of fs) (rw (p, read-list)) .ranges) (condition-of fs k q)
 range-found ws fs (negsuc k) p f q = none-is-not q
 
 pub written-read : (ws : List ℤ) (i : ℤ) (room : ℕ) → written ws i room .number ≡ 0 → Text-of ws i (written ws i room)
