@@ -128,11 +128,11 @@ fn the_readme_tells_what_is_saved_of_the_examples() {
     };
     let mut texts = planned();
     texts.retain(|file| file.extension().is_some_and(|end| end == "script"));
-    let both = texts
-        .iter()
-        .map(|file| [bytes(&[], file), bytes(&["--short"], file)]);
-    let sum = |[own, short]: [usize; 2], more: [usize; 2]| [own + more[0], short + more[1]];
-    assert_eq!(both.fold([0, 0], sum), [40_142, 39_708]);
+    let total = |arguments: &[&str]| {
+        let bytes = texts.iter().map(|file| bytes(arguments, file));
+        bytes.sum::<usize>()
+    };
+    assert_eq!([total(&["--short"]), total(&[])], [39_708, 40_142]);
     let bill = top().join("examples/oil-bill.script");
     assert_eq!(bytes(&[], &bill) - bytes(&["--short"], &bill), 256);
 

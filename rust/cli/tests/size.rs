@@ -263,16 +263,14 @@ fn the_readme_shows_what_is_lent() {
 /// Of branches in a row, and of as many in one another.
 #[test]
 fn the_readme_tells_how_long_lists_get() {
-    let length = |script: &str| {
-        Json::read(&sized(&["--json"], script))
-            .number("list")
-            .to_string()
-    };
     let last = "if v1 < 3 then v0 := v0 + 1 else v0 := v0 + 2 end".to_string();
     let around = |inner: String, _| format!("if v1 < 3 then v0 := v0 + 1 else {inner} end");
     let nested = format!("pre 0 <= v0; {}; post 0 <= v0", (1..8).fold(last, around));
-    let lengths = [&branches(4), &branches(8), &nested].map(|script| length(script));
-    assert_eq!(lengths, ["493", "11005", "195"]);
+    let lists = [branches(4), branches(8), nested].map(|script| {
+        let json = Json::read(&sized(&["--json"], &script));
+        json.number("list").to_string()
+    });
+    assert_eq!(lists, ["493", "11005", "195"]);
 
     let readme = on_one_line(&text(&top().join("README.md")));
     for told in [
