@@ -168,7 +168,7 @@ fn rooms_between_both_needs() {
     for (name, rows, conditions, old_need) in [
         ("four rows", FOUR_ROWS.to_vec(), 1, 7),
         ("example A", EXAMPLE_A.to_vec(), 4, 94),
-        ("every kind", EVERY_KIND.to_vec(), 7, 286),
+        ("every kind", EVERY_KIND.to_vec(), 7, 268),
         ("8 whiles", nested(0, 8), 25, 335),
     ] {
         let (table, scratch) = (rows.concat(), 2 * rows.len());
