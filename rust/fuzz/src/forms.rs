@@ -22,13 +22,7 @@ pub fn count_of(list: &[i32]) -> i32 {
 }
 
 /// A trailer of any kind, with any depth where the form has one.
-pub fn push_trailer(
-    words: &mut Vec<i32>,
-    form: Form,
-    row: i32,
-    length: usize,
-    random: &mut Prng,
-) {
+pub fn push_trailer(words: &mut Vec<i32>, form: Form, row: i32, length: usize, random: &mut Prng) {
     words.extend([random.between(1, 5), row, length as i32]);
     if form == Form::WithDepth {
         words.push(random.between(0, 7));

@@ -10,7 +10,7 @@ use fuzz::small::every_small_change;
 use fuzz::texts::text_need;
 use fuzz::{compare_counting, compare_input, seed_from_environment, tell, Input, Prng, Tally};
 use leqwarti::{Plan, Refusal};
-use reference::{listed, lines, need, spell_list, Form, Line, Outcome, LONGEST_LIST};
+use reference::{lines, listed, need, spell_list, Form, Line, Outcome, LONGEST_LIST};
 
 /// Two in three are tables, lists and bytes for the program; one is a list, an
 /// index and a room for the text of a condition.
@@ -206,9 +206,7 @@ fn every_number_in_place_of_a_variable() {
 #[test]
 fn every_number_in_place_of_a_variable_of_a_list() {
     let list = |number, end: &[i32]| {
-        let front = [
-            23, 20, 2, number, 2, 256, 20, 2, 255, 2, number, 4, 3, 11,
-        ];
+        let front = [23, 20, 2, number, 2, 256, 20, 2, 255, 2, number, 4, 3, 11];
         Input::List([&front, end].concat())
     };
     compare_all(VARIABLE_NUMBERS.map(|number| list(number, &[1])));

@@ -89,7 +89,11 @@ fn expect_torn_but_for_steps(short_list: &[i32], depth: usize) {
         end: PAST + 3,
     };
     let behind = short_list.len() - 1;
-    let steps = [(PAST + behind, main), (PAST, torn), (2 * PAST + behind, torn)];
+    let steps = [
+        (PAST + behind, main),
+        (PAST, torn),
+        (2 * PAST + behind, torn),
+    ];
     for (place, expected) in steps {
         let mut moved = place;
         assert_eq!(entries::step(list, &mut moved), expected);
