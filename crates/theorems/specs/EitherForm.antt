@@ -93,6 +93,10 @@ reads-either form t h short = read-written _ _ (well-formed-either form t h shor
 
 -- ---- validity, and runs
 
+-- what is read from the words is one list of conditions
+pub valid-of : (𝔸 : Arithmetic) (ws : List ℤ) (cs : List Condition) → read-list ws ≡ some cs → List-valid 𝔸 ws ↔ All-valid 𝔸 cs
+valid-of 𝔸 ws cs e = (λ h. h cs e, λ h ds q. subst (All-valid 𝔸) (some-inj (sym e ∙ q)) h)
+
 valid-told : (𝔸 : Arithmetic) (form : Form) (cs : List Condition) → All-valid 𝔸 (all-told-in form cs) ↔ All-valid 𝔸 cs
 valid-told 𝔸 form cs = (out cs, back cs)
   where
@@ -107,11 +111,7 @@ valid-told 𝔸 form cs = (out cs, back cs)
 pub conditions-valid : (𝔸 : Arithmetic) (form : Form) (t : List ℤ) → verdict t ≡ accepted → length (table-list form t) ≤ 16384
     → List-valid 𝔸 (table-list form t) ↔ All-valid 𝔸 (conditions (tree t))
 conditions-valid 𝔸 form t h short =
-    let cs = conditions (tree t) in
-    let r = reads-either form t h short in (
-      λ valid. valid-told 𝔸 form cs .0 (valid _ r),
-      λ all ds q. subst (All-valid 𝔸) (some-inj (sym r ∙ q)) (valid-told 𝔸 form cs .1 all),
-    )
+    Iff·trans (valid-of 𝔸 (table-list form t) _ (reads-either form t h short)) (valid-told 𝔸 form (conditions (tree t)))
 
 pub valid-either : (𝔸 : Arithmetic) (f g : Form) (t : List ℤ) → verdict t ≡ accepted → length (table-list f t) ≤ 16384
     → length (table-list g t) ≤ 16384 → List-valid 𝔸 (table-list f t) ↔ List-valid 𝔸 (table-list g t)
