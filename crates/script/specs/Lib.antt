@@ -1,5 +1,5 @@
 -- Document 01, and what 02 changed in it, as definitions, in the order in which they are best read, up to `Promise`. Then 01's trial rows
--- and the figures of 02, P5, by computation; last laws that the code's proofs cite.
+-- and the figures of 02, P5 and P9, by computation; last laws that the code's proofs cite.
 pub mod Rows
 pub mod Syntax
 pub mod Meaning
@@ -15,4 +15,5 @@ pub mod Promise
 pub mod Computed
 pub mod DivisionFigures
 pub mod DivisionRuns
+pub mod DepthFigures
 pub mod Laws

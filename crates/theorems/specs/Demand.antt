@@ -51,9 +51,11 @@ well-formed t list h fits =
 
 -- ---- what is left where the number is 0
 
--- the check accepts the table, the words left are read as its conditions, and the answer tells how many these are
+-- the check accepts the table, the words left are the list of its conditions and read as these, and the answer tells how many
+-- they are
 pub record Planned-list (table : List ℤ) (o : Outcome) : Type 0 where
   pub accepts : verdict table ≡ accepted
+  pub words : take (o .answer .words) (o .list) ≡ list-words with-depth (conditions (tree table))
   pub reads : read-list (take (o .answer .words) (o .list)) ≡ some (conditions (tree table))
   pub counts : o .answer .conditions ≡ length (conditions (tree table))
 
@@ -70,6 +72,7 @@ module _ (table : List ℤ) (list scratch : ℕ) where
       let cs = conditions (tree table) in
       record {
         accepts = h;
+        words = take-append-seam (list-words with-depth cs) _;
         reads = rw take-append-seam (read-written (list-words with-depth cs) cs (well-formed table list h fits));
         counts = refl;
       }

@@ -1,6 +1,6 @@
 -- Theorems that speak of the definitions of `script` alone; docs/CLAIMS.md has the sentence that each proves. First small laws that
 -- many cite; then the rules' soundness; division by zero; what the refusals of a table mean, and what an accepted table has; lists;
--- the whole answer and demand 3; last the wrong answers, each refuted.
+-- the whole answer, demand 3 and depths; last the wrong answers, each refuted.
 
 -- ---- small laws
 
@@ -61,12 +61,14 @@ pub mod Spelling
 pub mod Line
 pub mod ReadBack
 pub mod Lookup
--- ---- the whole answer, demand 3, the rules for scratch (02, P8), and stored tables and lists (02, P2)
+-- ---- the whole answer, demand 3, the rules for scratch (02, P8), depths (02, P9), and stored tables and lists (02, P2 and P9)
 
 pub mod Outcomes
 pub mod WholeAnswer
 pub mod ScratchRules
 pub mod Demand
+pub mod Depths
+pub mod FormerReader
 pub mod StoredTables
 pub mod StoredLists
 -- ---- wrong answers: bodies, readers, rules, reads

@@ -63,7 +63,7 @@ line-before-is form ws m h =
     let first : m + t - t ≡ m = omega linear in
     rw (le-leb t (m + t) (omega linear), le-leb (m + t) (length ws) h, first)
 
-word-after : (front part ys : List ℤ) (i : ℕ) → getD (front ++ (part ++ ys)) (length front + length part + i) (pos 0) ≡ getD ys i (pos 0)
+pub word-after : (front part ys : List ℤ) (i : ℕ) → getD (front ++ (part ++ ys)) (length front + length part + i) (pos 0) ≡ getD ys i (pos 0)
 word-after front part ys i =
     ap (λ n. getD (front ++ (part ++ ys)) n (pos 0)) (add-assoc (length front) (length part) i)
     ∙ getD-append-add front (part ++ ys) (length part + i) (pos 0)

@@ -94,20 +94,27 @@ line-at-malformed ws q i = rw (stopped (lines ws) conditions-of q, line-at-withi
 regroup : (a b c d e : List ℤ) → (a ++ ((b ++ c) ++ d)) ++ e ≡ a ++ (b ++ (c ++ (d ++ e)))
 regroup a b c d e = simp append-assoc
 
+-- the line of the condition at an index stands behind the lines of those before it
+pub laid-out : (ws : List ℤ) (cs : List Condition) → Well-formed ws cs → (i : ℕ) (c : Condition) → getElem? cs i ≡ some c
+    → all-lines (form-of ws) (take i cs)
+    ++ (formula-words (c .claim)
+    ++ (trailer (form-of ws) c ++ (all-lines (form-of ws) (drop (suc i) cs) ++ (count-word (form-of ws) (length cs) ∷ []))))
+    ≡ ws
+unfolding list-words line-words
+laid-out ws cs w i c q =
+    let form = form-of ws in
+    let last = count-word form (length cs) ∷ [] in
+    sym (regroup (all-lines form (take i cs)) (formula-words (c .claim)) (trailer form c) (all-lines form (drop (suc i) cs)) last)
+    ∙ ap (λ l. l ++ last) (split-lines form cs i c q)
+    ∙ w .spells
+
 pub part-at-index : (ws : List ℤ) (cs : List Condition) → Well-formed ws cs → (i : ℕ) (c : Condition) → getElem? cs i ≡ some c
     → part-at ws (pos i) ≡ formula-words (c .claim)
-unfolding list-words line-words
 part-at-index ws cs w i c q =
-    let form = form-of ws in
-    let before = all-lines form (take i cs) in
+    let before = all-lines (form-of ws) (take i cs) in
     let part = formula-words (c .claim) in
-    let last = count-word form (length cs) ∷ [] in
-    let after = all-lines form (drop (suc i) cs) in
-    let grouped = regroup before part (trailer form c) after last in
-    let whole : before ++ (part ++ (trailer form c ++ (after ++ last))) ≡ ws =
-    sym grouped ∙ ap (λ l. l ++ last) (split-lines form cs i c q) ∙ w .spells in
-    let here = slice-part before part (trailer form c ++ (after ++ last)) in
-    rw (line-at-index ws cs w i c q) (ap (λ l. slice (length before) (length before + length part) l) (sym whole) ∙ here)
+    let here = slice-part before part _ in
+    rw (line-at-index ws cs w i c q) (ap (λ l. slice (length before) (length before + length part) l) (sym (laid-out ws cs w i c q)) ∙ here)
 
 -- ---- the reader that walks back
 

@@ -15,15 +15,15 @@ use Rattle.script.specs.declared.Line.{Line}
 use Rattle.script.specs.declared.Rule.the-variants.{Exit, Main}
 use Rattle.script.specs.Syntax.{truth}
 use Rattle.script.specs.Conditions.{Condition, condition}
-use Rattle.script.specs.Words.{rule-number, formula-words}
+use Rattle.script.specs.Words.{Form, without-depth, with-depth, rule-number, formula-words}
 use Rattle.script.specs.WellFormed.{Well-formed}
 use Rattle.script.specs.Rows.{row-of}
-use Rattle.script.specs.Listing.{Found, no-line, line, read-expr-within, read-formula-within, spelled-within, found-within, line-before-within, lines-before-within, lines, lines-within, read-list, line-at, line-at-within, part-at, condition-count, condition-count-within, first-place, first-place-within, step-back, step-back-within, next-place, next-place-within}
-use Rattle.script.specs.Computed.{numbers}
+use Rattle.script.specs.Listing.{form-of, Found, no-line, line, read-expr-within, read-formula-within, spelled-within, found-within, line-before-within, lines-before-within, lines, lines-within, read-list, line-at, line-at-within, part-at, condition-count, condition-count-within, first-place, first-place-within, step-back, step-back-within, next-place, next-place-within}
+use Rattle.script.specs.Computed.{numbers, counted-down}
 use Rattle.theorems.specs.ReadBack.{tested, written-read}
 use Rattle.theorems.specs.Lookup.{count-written, line-at-index, part-at-index, walk-back, walk-back-list, walk-back-malformed}
 
--- ---- a list of two conditions, and words that are none
+-- ---- a list of two conditions in each form, and words that are none
 
 -- false for the loop at row 5 (exit), true for the script at row 6 (main)
 unfoldable two : List ℤ
@@ -31,6 +31,13 @@ two = numbers (17 ∷ 1 ∷ 5 ∷ 1 ∷ 16 ∷ 4 ∷ 6 ∷ 1 ∷ 2 ∷ [])
 
 two-conditions : List Condition
 two-conditions = condition Exit 5 0 (truth false) ∷ condition Main 6 0 (truth true) ∷ []
+
+-- the same with depths, 1 for the loop
+unfoldable deep : List ℤ
+deep = counted-down (17 ∷ 1 ∷ 5 ∷ 1 ∷ 1 ∷ 16 ∷ 4 ∷ 6 ∷ 1 ∷ 0 ∷ []) 2
+
+deep-conditions : List Condition
+deep-conditions = condition Exit 5 1 (truth false) ∷ condition Main 6 0 (truth true) ∷ []
 
 -- a count of 1, and no condition
 unfoldable torn : List ℤ
@@ -54,9 +61,17 @@ record Facts : Type 0 where
   first-step : step-back two 4 ≡ record { number = 0; kind = 1; row = 5; depth = 0; start = 0; end = 1 }
   torn-place : first-place torn ≡ 1
   torn-step : step-back torn 1 .number ≡ 20
+  two-form : form-of two ≡ without-depth
+  deep-form : form-of deep ≡ with-depth
+  deep-read : read-list deep ≡ some deep-conditions
+  deep-many : length deep-conditions ≡ 2
+  deep-first : line-at deep (pos 0) ≡ record { number = 0; kind = 1; row = 5; depth = 1; start = 0; end = 1 }
+  deep-place : first-place deep ≡ 10
+  deep-step : step-back deep 10 ≡ record { number = 0; kind = 4; row = 6; depth = 0; start = 5; end = 6 }
+  deep-next : next-place deep 10 ≡ 5
 
 facts : Facts
-unfolding two two-conditions torn numbers row-of read-expr-within read-formula-within spelled-within found-within line-before-within lines-before-within lines-within read-list line-at-within condition-count-within first-place-within step-back-within next-place-within
+unfolding two two-conditions deep deep-conditions torn numbers counted-down row-of read-expr-within read-formula-within spelled-within found-within line-before-within lines-before-within lines-within read-list line-at-within condition-count-within first-place-within step-back-within next-place-within
 facts = record {
   read = refl;
   first = refl;
@@ -75,14 +90,30 @@ facts = record {
   first-step = refl;
   torn-place = refl;
   torn-step = refl;
+  two-form = refl;
+  deep-form = refl;
+  deep-read = refl;
+  deep-many = refl;
+  deep-first = refl;
+  deep-place = refl;
+  deep-step = refl;
+  deep-next = refl;
 }
 
 two-formed : Well-formed two two-conditions
 two-formed = written-read two two-conditions (facts .read)
 
+deep-formed : Well-formed deep deep-conditions
+deep-formed = written-read deep deep-conditions (facts .deep-read)
+
 -- at every index of every well-formed list
 abbrev pub Everywhere : (List ℤ → List Condition → ℕ → Type 0) → Type 0
 Everywhere P = (ws : List ℤ) (cs : List Condition) → Well-formed ws cs → (i : ℕ) → i < length cs → P ws cs i
+
+-- of every well-formed list in one form
+abbrev pub Everywhere-in : Form → (List ℤ → List Condition → ℕ → Type 0) → Type 0
+Everywhere-in form P =
+    (ws : List ℤ) (cs : List Condition) → Well-formed ws cs → form-of ws ≡ form → (i : ℕ) → i < length cs → P ws cs i
 
 abbrev kind-of : Line → ℕ
 kind-of l = l .kind
@@ -101,6 +132,23 @@ module _ (l : List ℤ → ℤ → Line) (meets : (ws : List ℤ) (i : ℤ) → 
 
   pub refuses-all-lines : Everywhere (λ ws cs i. l ws (pos i) .number ≢ 0) → ⊥
   refuses-all-lines h = at-second _ h (ap (λ (x : Line). x .number) (meets two (pos 1) ∙ facts .second))
+
+  -- "take both forms"
+  pub refuses-old-lists : Everywhere-in without-depth (λ ws cs i. l ws (pos i) .number ≢ 0) → ⊥
+  refuses-old-lists h =
+      h two two-conditions two-formed (facts .two-form) 1 (omega (linear, facts .many))
+      (ap (λ (x : Line). x .number) (meets two (pos 1) ∙ facts .second))
+
+  pub refuses-new-lists : Everywhere-in with-depth (λ ws cs i. l ws (pos i) .number ≢ 0) → ⊥
+  refuses-new-lists h =
+      h deep deep-conditions deep-formed (facts .deep-form) 0 (omega (linear, facts .deep-many))
+      (ap (λ (x : Line). x .number) (meets deep (pos 0) ∙ facts .deep-first))
+
+  pub tells-no-depth : Everywhere (λ ws cs i. l ws (pos i) .depth ≡ 0) → ⊥
+  tells-no-depth h =
+      let a = h deep deep-conditions deep-formed 0 (omega (linear, facts .deep-many)) in
+      let b : l deep (pos 0) .depth ≡ 1 = ap (λ (x : Line). x .depth) (meets deep (pos 0) ∙ facts .deep-first) in
+      omega linear
 
   pub accepts-all-words : ((ws : List ℤ) (i : ℤ) → l ws i .number ≢ 20) → ⊥
   accepts-all-words h = h torn (pos 0) (ap (λ (x : Line). x .number) (meets torn (pos 0)) ∙ facts .refused)
@@ -136,6 +184,16 @@ module _ (l : List ℤ → ℤ → Line) (meets : (ws : List ℤ) (i : ℤ) → 
 
     pub invents-row : l ws (pos i) .row ≢ c .row → ⊥
     invents-row h = h (ap (λ (x : Line). x .row) (meets ws (pos i) ∙ line-at-index ws cs w i c q))
+
+    -- "The reader gives it beside the row"
+    pub invents-depth : l ws (pos i) .depth ≢ c .depth → ⊥
+    invents-depth h = h (ap (λ (x : Line). x .depth) (meets ws (pos i) ∙ line-at-index ws cs w i c q))
+
+  -- "0 for an old list"
+  pub invents-old-depth : Everywhere-in without-depth (λ ws cs i. l ws (pos i) .depth ≢ 0) → ⊥
+  invents-old-depth h =
+      h two two-conditions two-formed (facts .two-form) 1 (omega (linear, facts .many))
+      (ap (λ (x : Line). x .depth) (meets two (pos 1) ∙ facts .second))
 
 -- ---- the part
 
@@ -216,6 +274,17 @@ module _ (g : List ℤ → ℕ) (s : List ℤ → ℕ → Line) (k : List ℤ �
       let a = h two two-conditions two-formed in
       let z : _≡_ {A = ℕ} 1 4 = sym (ap kind-of first-answer) ∙ ap kind-of (a .1) ∙ sym (ap kind-of (a .0)) ∙ ap kind-of last-answer in
       omega linear
+
+  -- it steps back over the words of the old form, whatever the form is
+  pub steps-as-before : Of-every-list (λ ws. k ws (g ws) + s ws (g ws) .end + 3 ≡ g ws + s ws (g ws) .start) → ⊥
+  steps-as-before h =
+      let a = h deep deep-conditions deep-formed in
+      let last : s deep (g deep) ≡ record { number = 0; kind = 4; row = 6; depth = 0; start = 5; end = 6 } =
+      ap (s deep) (starts deep ∙ facts .deep-place) ∙ steps deep 10 ∙ facts .deep-step in
+      let b : s deep (g deep) .start ≡ 5 = ap (λ (x : Line). x .start) last in
+      let c : s deep (g deep) .end ≡ 6 = ap (λ (x : Line). x .end) last in
+      let d : k deep (g deep) ≡ 5 = ap (k deep) (starts deep ∙ facts .deep-place) ∙ goes deep 10 ∙ facts .deep-next in
+      omega (linear, starts deep, facts .deep-place)
 
   -- only the last one is found: the reader stays, or is at the front at once
   pub stays : Of-every-list (λ ws. k ws (g ws) ≡ g ws) → ⊥

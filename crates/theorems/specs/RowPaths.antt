@@ -102,7 +102,7 @@ scriptless (Row.Script p s q) = tt
 scriptless Row.Unknown = tt
 
 module _ (t : List ℤ) where
-  link-low : (r k i : ℕ) (ps : List Part) → Link k i ps → T (all-below t r ps) → k < r
+  pub link-low : (r k i : ℕ) (ps : List Part) → Link k i ps → T (all-below t r ps) → k < r
   link-low r k zero (p ∷ ps) (here e) b = rw e at (ltb→lt (p .at) r (both (ltb (p .at) r) (all-below t r ps) b .0))
   link-low r k (suc i) (p ∷ ps) (there l) b = link-low r k i ps l (both (ltb (p .at) r) (all-below t r ps) b .1)
 
