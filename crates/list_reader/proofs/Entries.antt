@@ -5,53 +5,33 @@ use native.Mathlib.Omega.{arith as linear}
 use mathlib.Core.Path.{_≡_, refl, sym, ap, _∙_}
 use mathlib.Core.Option.{Option, none, some}
 use mathlib.Core.List.{List, [], _∷_}
-use mathlib.Core.Bool.{Bool, true, false, cond}
+use mathlib.Core.Bool.{Bool, true, false, cond, _&&_}
 use lib.IntN.{ℤ, pos, negsuc}
-use lib.Signed.{ltZ, mag}
+use lib.Signed.{mag}
 use lib.Dec.{eqb, ltb, leb}
-use lib.ListN.{length, getD, getElem?}
-use borrow.Author.Tests.{eqb-true, eqb-false, ltb-true, lt-ltb, le-leb, lt-leb}
+use lib.ListN.{length, getElem?}
+use borrow.Author.Tests.{eqb-true, eqb-false, lt-ltb, le-leb, lt-leb}
 use Rattle.script.specs.declared.Line.{Line}
 use Rattle.script.specs.Rows.{field-number}
-use Rattle.script.specs.Listing.{_>>=_, guarded, natural, Found, lines-before, lines, lines-within, line, line-at, line-at-within, no-line, first-place, first-place-within, malformed-place, condition-count, condition-count-within}
-use Rattle.list_reader.specs.Lines.{is-some, line-among, or-zero, claimed, Claimed}
+use Rattle.script.specs.Listing.{guarded, Found, last-word, count-told, lines, lines-within, line, line-at, line-at-within, no-line}
+use Rattle.script.specs.Listing.{first-place, first-place-within, malformed-place, condition-count, condition-count-within}
+use Rattle.list_reader.specs.Lines.{is-some, lines-ending, line-among, claimed, Claimed}
 use Rattle.list_reader.proofs.Walking.{lines-length}
 
 -- ---- the count
 
-pub claimed-none : (ws : List ℤ) → length ws ≡ 0 → Claimed ws 0
-unfolding claimed
-claimed-none [] h = record { is = refl; small = omega linear }
-claimed-none (w ∷ ws) h = absurd (omega linear)
+count-small : (w : ℤ) → mag w < 2 ^ 31 → count-told w < 4294967295
+count-small (pos n) h = omega linear
+count-small (negsuc n) h = omega linear
 
 pub claimed-long : (ws : List ℤ) → 16384 < length ws → Claimed ws 0
 unfolding claimed
 claimed-long ws h = record { is = rw (lt-leb (length ws) 16384 h); small = omega linear }
 
-claimed-is : (ws : List ℤ) → length ws ≤ 16384 → claimed ws ≡ or-zero (natural (getD ws (length ws - 1) (pos 0)))
+pub claimed-told : (ws : List ℤ) {w : ℤ} {n : ℕ} → length ws ≤ 16384 → w ≡ last-word ws → mag w < 2 ^ 31 → n ≡ count-told w → Claimed ws n
 unfolding claimed
-claimed-is ws h = rw (le-leb (length ws) 16384 h)
-
-negative : (w : ℤ) → ltZ w (pos 0) ≡ true → 0 ≡ or-zero (natural w)
-negative (pos n) h = absurd (let l : n < 0 = ltb-true n 0 h in omega linear)
-negative (negsuc n) h = refl
-
-natural-is : (w : ℤ) → ltZ w (pos 0) ≡ false → field-number w ≡ or-zero (natural w)
-natural-is (pos n) h = refl
-natural-is (negsuc n) h = let z : _≡_ {A = ℕ} 0 1 = cc in absurd (omega linear)
-
-natural-small : (w : ℤ) → ltZ w (pos 0) ≡ false → mag w < 2 ^ 31 → field-number w < 4294967295
-natural-small (pos n) h l = omega linear
-natural-small (negsuc n) h l = let z : _≡_ {A = ℕ} 0 1 = cc in absurd (omega linear)
-
-module _ (ws : List ℤ) {w : ℤ} (short : length ws ≤ 16384) (last : w ≡ getD ws (length ws - 1) (pos 0)) where
-  pub claimed-negative : ltZ w (pos 0) ≡ true → Claimed ws 0
-  claimed-negative h = record { is = negative w h ∙ ap (λ (z : ℤ). or-zero (natural z)) last ∙ sym (claimed-is ws short); small = omega linear }
-
-  pub claimed-natural : {n : ℕ} → ltZ w (pos 0) ≡ false → mag w < 2 ^ 31 → n ≡ field-number w → Claimed ws n
-  claimed-natural h l q =
-      record
-      { is = q ∙ natural-is w h ∙ ap (λ (z : ℤ). or-zero (natural z)) last ∙ sym (claimed-is ws short); small = rw q (natural-small w h l) }
+claimed-told ws {w} h last l q =
+    record { is = rw (le-leb (length ws) 16384 h) (q ∙ ap count-told last); small = rw q (count-small w l) }
 
 pub claimed-nonempty : (ws : List ℤ) {n : ℕ} → Claimed ws n → (n ≡ 0 → ⊥) → 0 < length ws
 unfolding claimed
@@ -60,21 +40,20 @@ claimed-nonempty (w ∷ ws) c h = omega linear
 
 -- ---- the list
 
-counted : {A : Type 0} (b : Bool) (o : Option ℕ) (f : ℕ → Option A)
-    → guarded b (o >>= λ n. guarded (ltb 0 n) (f n)) ≡ guarded (ltb 0 (cond b (or-zero o) 0)) (f (cond b (or-zero o) 0))
-counted true none f = refl
-counted true (some n) f = refl
-counted false o f = refl
+counted : {A : Type 0} (b : Bool) (n : ℕ) (f : ℕ → Option A)
+    → guarded (b && ltb 0 n) (f n) ≡ guarded (ltb 0 (cond b n 0)) (f (cond b n 0))
+counted true n f = refl
+counted false n f = refl
 
-pub lines-are : (ws : List ℤ) → lines ws ≡ guarded (ltb 0 (claimed ws)) (lines-before ws (claimed ws) (length ws - 1))
+pub lines-are : (ws : List ℤ) → lines ws ≡ guarded (ltb 0 (claimed ws)) (lines-ending ws (claimed ws) (length ws - 1))
 unfolding lines-within claimed
-lines-are ws = counted (leb (length ws) 16384) (natural (getD ws (length ws - 1) (pos 0))) λ n. lines-before ws n (length ws - 1)
+lines-are ws = counted (leb (length ws) 16384) (count-told (last-word ws)) λ n. lines-ending ws n (length ws - 1)
 
 module _ (ws : List ℤ) {n : ℕ} (c : Claimed ws n) where
   pub no-lines : n ≡ 0 → lines ws ≡ none
   no-lines h = lines-are ws ∙ rw (← c .is, h)
 
-  pub some-lines : (n ≡ 0 → ⊥) → lines ws ≡ lines-before ws n (length ws - 1)
+  pub some-lines : (n ≡ 0 → ⊥) → lines ws ≡ lines-ending ws n (length ws - 1)
   some-lines h = lines-are ws ∙ rw (← c .is, lt-ltb 0 n (omega linear))
 
 -- ---- the line at an index
@@ -99,10 +78,10 @@ module _ (ws : List ℤ) {n : ℕ} (c : Claimed ws n) where
   unfolding line-at-within
   no-line-at h i = rw (no-lines ws c h, line-at-within)
 
-  pub line-at-is : (n ≡ 0 → ⊥) → (i : ℤ) → line-among (lines-before ws n (length ws - 1)) (pos (field-number i)) ≡ line-at ws i
+  pub line-at-is : (n ≡ 0 → ⊥) → (i : ℤ) → line-among (lines-ending ws n (length ws - 1)) (pos (field-number i)) ≡ line-at ws i
   unfolding line-at-within
   line-at-is h i =
-      index-read (lines-before ws n (length ws - 1)) i (λ fs q. omega (linear, c .small, lines-length ws n (length ws - 1) fs q))
+      index-read (lines-ending ws n (length ws - 1)) i (λ fs q. omega (linear, c .small, lines-length ws n (length ws - 1) fs q))
       ∙ ap (λ (o : Option (List Found)). line-among o i) (sym (some-lines ws c h))
 
 -- ---- what the line at index -1 tells

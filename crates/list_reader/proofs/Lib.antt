@@ -11,6 +11,7 @@ mod NodeKinds
 mod KindWords
 -- the line that ends at a place
 mod Tests
+mod Forms
 mod Trailers
 pub mod Part
 mod Stepping

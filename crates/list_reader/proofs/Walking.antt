@@ -10,8 +10,8 @@ use lib.IntN.{ℤ, pos}
 use lib.Dec.{eqb, eqb·zero-suc, eqb·suc-suc}
 use lib.ListN.{length, getElem?, length-append}
 use Rattle.script.specs.declared.Line.{Line}
-use Rattle.script.specs.Listing.{_>>=_, Found, line-before, lines-before, lines-before-within, line, no-line}
-use Rattle.list_reader.specs.Lines.{line-among}
+use Rattle.script.specs.Listing.{_>>=_, Found, lines-before-within, line, no-line}
+use Rattle.list_reader.specs.Lines.{line-ending, lines-ending, line-among}
 
 -- ---- the walk: n lines end at e, the line at the index i is looked for, kept is what was found of it so far
 
@@ -22,24 +22,24 @@ walk-on (some x) f = f x
 unfoldable pub walk : List ℤ → ℕ → Line → ℕ → ℕ → Line
 walk ws i kept zero zero = kept
 walk ws i kept zero (suc e) = no-line 20
-walk ws i kept (suc n) e = walk-on (line-before ws e) λ f. walk ws i (cond (eqb n i) (line f) kept) n (f .start)
+walk ws i kept (suc n) e = walk-on (line-ending ws e) λ f. walk ws i (cond (eqb n i) (line f) kept) n (f .start)
 
 -- ---- the steps of the walk, in the order of the code
 
 module _ (ws : List ℤ) (i : ℕ) (kept : Line) (e : ℕ) where
-  walk-malformed : (n : ℕ) → line-before ws e ≡ none → walk ws i kept (suc n) e ≡ no-line 20
+  walk-malformed : (n : ℕ) → line-ending ws e ≡ none → walk ws i kept (suc n) e ≡ no-line 20
   unfolding walk
   walk-malformed n q = rw q
 
-  walk-turn : (n : ℕ) (f : Found) → line-before ws e ≡ some f → walk ws i kept (suc n) e ≡ walk ws i (cond (eqb n i) (line f) kept) n (f .start)
+  walk-turn : (n : ℕ) (f : Found) → line-ending ws e ≡ some f → walk ws i kept (suc n) e ≡ walk ws i (cond (eqb n i) (line f) kept) n (f .start)
   unfolding walk
   walk-turn n f q = rw q
 
-  pub malformed-step : (n : ℕ) → 0 < n → line-before ws e ≡ none → walk ws i kept n e ≡ no-line 20
+  pub malformed-step : (n : ℕ) → 0 < n → line-ending ws e ≡ none → walk ws i kept n e ≡ no-line 20
   malformed-step zero h q = absurd (omega linear)
   malformed-step (suc n) h q = walk-malformed n q
 
-  pub step : (n : ℕ) (f : Found) → 0 < n → line-before ws e ≡ some f
+  pub step : (n : ℕ) (f : Found) → 0 < n → line-ending ws e ≡ some f
       → walk ws i kept n e ≡ walk ws i (cond (eqb (n - 1) i) (line f) kept) (n - 1) (f .start)
   step zero f h q = absurd (omega linear)
   step (suc n) f h q =
@@ -64,16 +64,16 @@ one-more : (n : ℕ) (f : Found) (fs : List Found) (o : Option (List Found)) →
 one-more n f fs none h q = let z : _≡_ {A = ℕ} 0 1 = cc in absurd (omega linear)
 one-more n f fs (some gs) h q = let z : gs ++ (f ∷ []) ≡ fs = cc in rw (← z, length-append) (omega (linear, h gs refl))
 
-pub lines-length : (ws : List ℤ) (n e : ℕ) (fs : List Found) → lines-before ws n e ≡ some fs → length fs ≡ n
+pub lines-length : (ws : List ℤ) (n e : ℕ) (fs : List Found) → lines-ending ws n e ≡ some fs → length fs ≡ n
 unfolding lines-before-within
 lines-length ws zero zero fs q = let z : [] ≡ fs = cc in ap length (sym z)
 lines-length ws zero (suc e) fs q = let z : _≡_ {A = ℕ} 0 1 = cc in absurd (omega linear)
-lines-length ws (suc n) e fs q = go (line-before ws e) (λ f gs. lines-length ws n (f .start) gs) q
+lines-length ws (suc n) e fs q = go (line-ending ws e) (λ f gs. lines-length ws n (f .start) gs) q
   where
-    go : (o : Option Found) → ((f : Found) (gs : List Found) → lines-before ws n (f .start) ≡ some gs → length gs ≡ n)
-        → (o >>= λ last. lines-before ws n (last .start) >>= λ front. some (front ++ (last ∷ []))) ≡ some fs → length fs ≡ suc n
+    go : (o : Option Found) → ((f : Found) (gs : List Found) → lines-ending ws n (f .start) ≡ some gs → length gs ≡ n)
+        → (o >>= λ last. lines-ending ws n (last .start) >>= λ front. some (front ++ (last ∷ []))) ≡ some fs → length fs ≡ suc n
     go none h q = let z : _≡_ {A = ℕ} 0 1 = cc in absurd (omega linear)
-    go (some f) h q = one-more n f fs (lines-before ws n (f .start)) (h f) q
+    go (some f) h q = one-more n f fs (lines-ending ws n (f .start)) (h f) q
 
 -- ---- the walk gives the line at the index
 
@@ -97,18 +97,18 @@ last-found : (kept : Line) (i n : ℕ) (f : Found) (o : Option (List Found)) →
 last-found kept i n f none h = refl
 last-found kept i n f (some gs) h = rw (← h gs refl) (last-line kept f gs i)
 
-walk-is : (ws : List ℤ) (i : ℕ) (n : ℕ) (kept : Line) (e : ℕ) → walk ws i kept n e ≡ among kept i (lines-before ws n e)
+walk-is : (ws : List ℤ) (i : ℕ) (n : ℕ) (kept : Line) (e : ℕ) → walk ws i kept n e ≡ among kept i (lines-ending ws n e)
 unfolding walk lines-before-within
 walk-is ws i zero kept zero = refl
 walk-is ws i zero kept (suc e) = refl
-walk-is ws i (suc n) kept e = go (line-before ws e) (λ k x. walk-is ws i n k x)
+walk-is ws i (suc n) kept e = go (line-ending ws e) (λ k x. walk-is ws i n k x)
   where
-    go : (o : Option Found) → ((k : Line) (x : ℕ) → walk ws i k n x ≡ among k i (lines-before ws n x))
+    go : (o : Option Found) → ((k : Line) (x : ℕ) → walk ws i k n x ≡ among k i (lines-ending ws n x))
         → walk-on o (λ f. walk ws i (cond (eqb n i) (line f) kept) n (f .start))
-        ≡ among kept i (o >>= λ last. lines-before ws n (last .start) >>= λ front. some (front ++ (last ∷ [])))
+        ≡ among kept i (o >>= λ last. lines-ending ws n (last .start) >>= λ front. some (front ++ (last ∷ [])))
     go none h = refl
     go (some f) h =
-        h (cond (eqb n i) (line f) kept) (f .start) ∙ last-found kept i n f (lines-before ws n (f .start)) (lines-length ws n (f .start))
+        h (cond (eqb n i) (line f) kept) (f .start) ∙ last-found kept i n f (lines-ending ws n (f .start)) (lines-length ws n (f .start))
 
 among-is : (o : Option (List Found)) (i : ℕ) → among (no-line 21) i o ≡ line-among o (pos i)
 among-is none i = refl
@@ -118,5 +118,5 @@ among-is (some fs) i = go (getElem? fs i)
     go none = refl
     go (some f) = refl
 
-pub walk-finds : (ws : List ℤ) (i n e : ℕ) → walk ws i (no-line 21) n e ≡ line-among (lines-before ws n e) (pos i)
-walk-finds ws i n e = walk-is ws i n (no-line 21) e ∙ among-is (lines-before ws n e) i
+pub walk-finds : (ws : List ℤ) (i n e : ℕ) → walk ws i (no-line 21) n e ≡ line-among (lines-ending ws n e) (pos i)
+walk-finds ws i n e = walk-is ws i n (no-line 21) e ∙ among-is (lines-ending ws n e) i

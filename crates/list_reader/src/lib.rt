@@ -6,19 +6,21 @@ mod lines;
 
 pub use formulas::expression_end;
 pub use formulas::formula_end;
+use lines::last_word;
 pub use lines::line_before;
 use lines::line_told;
 use lines::no_line;
 pub use lines::place_after;
 use lines::start_before;
+pub use lines::trailer_length;
 use script::Line;
 ghost use mathlib.Core.Path.{_≡_};
 ghost use mathlib.Core.Bool.{cond};
 ghost use Prim.Native.Nat.{_+_, _*_};
 ghost use lib.IntN.{pos};
 ghost use denote.Ref.{ptr};
-ghost use Rattle.script.specs.Listing.{lines-before, lines, line-at, part-at, first-place, condition-count};
-ghost use Rattle.list_reader.specs.Lines.{is-some, line-among, Claimed};
+ghost use Rattle.script.specs.Listing.{count-told, lines, line-at, part-at, first-place, condition-count};
+ghost use Rattle.list_reader.specs.Lines.{is-some, lines-ending, line-among, Claimed};
 
 fn chosen(take: bool, place: usize, kept: usize) -> usize
     ensures { λ r. ⌜ r ≡ cond take place kept ⌝ }
@@ -28,13 +30,14 @@ fn chosen(take: bool, place: usize, kept: usize) -> usize
 
 // The line at an index of the count lines that end at a place, walked from the end back: its own place is kept on the way.
 fn walked(words: &[i32], count: usize, last: usize, index: usize) -> Line
-    ensures { λ r. ⌜ r ≡ line-among (lines-before (now (words .entry)) count last) (pos index) ⌝ }
+    ensures { λ r. ⌜ r ≡ line-among (lines-ending (now (words .entry)) count last) (pos index) ⌝ }
 {
+    let tail = trailer_length(words);
     let mut left = count;
     let mut end = last;
     let mut kept: usize = 0;
     while 0 < left {
-        let start = start_before(words, end);
+        let start = start_before(words, tail, end);
         if words.len() < start {
             return no_line(20);
         }
@@ -43,28 +46,31 @@ fn walked(words: &[i32], count: usize, last: usize, index: usize) -> Line
         end = start;
     }
     if end == 0 {
-        line_told(words, kept)
+        line_told(words, tail, kept)
     } else {
         no_line(20)
     }
 }
 
-// The count that the last word gives; 0 for no list.
+// The count that a last word tells: the word itself, or minus it. The least word has no opposite among the words.
+fn count_told(word: i32) -> usize
+    ensures { λ r. ⌜ r ≡ count-told word ⌝ }
+{
+    if word < 0 {
+        script::field_number(-1 - word) + 1
+    } else {
+        script::field_number(word)
+    }
+}
+
+// The count that the last word tells; 0 for no list.
 fn claimed(words: &[i32]) -> usize
     ensures { λ r. ⌜ Claimed (now (words .entry)) r ⌝ }
 {
-    let n = words.len();
-    if n == 0 {
-        0
-    } else if 16384 < n {
+    if 16384 < words.len() {
         0
     } else {
-        let count = words[n - 1];
-        if count < 0 {
-            0
-        } else {
-            script::field_number(count)
-        }
+        count_told(last_word(words))
     }
 }
 

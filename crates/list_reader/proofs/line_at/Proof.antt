@@ -5,8 +5,7 @@ use lib.IntN.{pos}
 use lib.ListN.{length}
 use mir.Facts.{toZ-ofZ}
 use Rattle.script.specs.Rows.{field-number}
-use Rattle.script.specs.Listing.{lines-before}
-use Rattle.list_reader.specs.Lines.{line-among}
+use Rattle.list_reader.specs.Lines.{lines-ending, line-among}
 use Rattle.list_reader.proofs.Entries.{claimed-nonempty, no-line-at, line-at-is}
 use borrow.Author.Needs.{needs}
 use Rattle.list_reader.proofs.line_at.Statement.{statement}
@@ -36,7 +35,7 @@ returns-2 : tie.Need-returns-2
 returns-2 c =
     let a = c .before .before .before .before .args in
     c .walked .ensures
-    ∙ ap (λ (m : ℕ). line-among (lines-before (a .words .now) (c .before .before .before .claimed .result) (length (a .words .now) - 1)) (pos m))
+    ∙ ap (λ (m : ℕ). line-among (lines-ending (a .words .now) (c .before .before .before .claimed .result) (length (a .words .now) - 1)) (pos m))
     (c .before .field-number .ensures ∙ ap field-number (toZ-ofZ (c .before .before .before .before .fits .index)))
     ∙ line-at-is (a .words .now) (c .before .before .before .claimed .ensures) (c .before .before .if1 .left) (a .index)
 

@@ -1,6 +1,5 @@
 -- `list_reader::lines::line_told` meets its contract, by where the place is. Assumes nothing.
 use mathlib.Core.Path.{_∙_}
-use Rattle.script.specs.Laws.{back}
 use Rattle.list_reader.proofs.Telling.{told-inside, told-short, told-long}
 use borrow.Author.Needs.{needs}
 use Rattle.list_reader.proofs.lines.line_told.Statement.{statement}
@@ -9,7 +8,7 @@ use Rattle.list_reader.proofs.lines.line_told.Tie as tie
 returns : tie.Need-returns
 returns c =
     let s = c .before .before in
-    c .no-line .ensures ∙ told-short (s .args .words .now) (s .args .end) (c .before .if1 .taken)
+    c .no-line .ensures ∙ told-short (s .args .words .now) (s .pre) (s .args .end) (c .before .if1 .taken)
 
 returns-2 : tie.Need-returns-2
 returns-2 c =
@@ -18,28 +17,13 @@ returns-2 c =
 
 returns-3 : tie.Need-returns-3
 returns-3 c =
-    let far = c .before .before .before .before in
-    let a = far .before .before .args in
+    let read = c .before in
+    let s = read .before .before .before in
     c .trailer-line .ensures
-    ∙ told-inside (a .words .now) (a .end) (far .before .if1 .left) (far .if2 .left) (back (c .before .before .before .trailer-line-arg .given))
-    (back (c .before .before .trailer-line-arg2 .given))
-    (back (c .before .trailer-line-arg3 .given))
+    ∙ told-inside (s .args .words .now) (s .pre) (s .args .end) (read .before .before .if1 .left) (read .before .if2 .left)
+    (read .trailer-at .ensures)
 
 pub line-told-spec : {M : Type 1} → statement M
 line-told-spec =
     tie.close
-    (tie.spec
-    (λ c κs. search needs)
-    (λ c κs. search needs)
-    (λ c. search needs)
-    (λ c. search needs)
-    (λ c. search needs)
-    (λ c. search needs)
-    (λ c. search needs)
-    (λ c. search needs)
-    (λ c. search needs)
-    (λ c. search needs)
-    (λ c κs. search needs)
-    returns
-    returns-2
-    returns-3)
+    (tie.spec (λ c κs. search needs) (λ c κs. search needs) (λ c κs. search needs) (λ c κs. search needs) returns returns-2 returns-3)
