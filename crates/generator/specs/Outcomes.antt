@@ -11,7 +11,7 @@ use lib.IntN.{ℤ, pos}
 use lib.ListN.{length, take, drop, length-append, length-drop, length-replicate, replicate-append-replicate}
 use lib.Seq.{sets, sets-eq, length-take-le, length-sets}
 use Rattle.script.specs.Conditions.{Condition, conditions}
-use Rattle.script.specs.Words.{list-words}
+use Rattle.script.specs.Words.{with-depth, list-words}
 use Rattle.script.specs.Trees.{tree}
 use Rattle.script.specs.Refusals.{verdict, accepted, refused}
 use Rattle.script.specs.declared.Answer.{Answer}
@@ -22,7 +22,7 @@ use Rattle.script.specs.Generated.{Outcome, zeros, refusal, refuse, plan, room,
 
 -- where scratch is long enough: 12 or the list
 unfoldable pub fitted : List Condition → ℕ → ℕ → Outcome
-fitted cs list scratch = cond (ltb (room list) (length (list-words cs))) (refuse 12 0 list scratch) (plan cs list scratch)
+fitted cs list scratch = cond (ltb (room list) (length (list-words with-depth cs))) (refuse 12 0 list scratch) (plan cs list scratch)
 
 -- an answer and what is left in the list: where scratch is long enough, and for every table and length; scratch is cleared last
 abbrev pub Fitted : List ℤ → ℕ → Answer → List ℤ → Type 0
@@ -32,13 +32,13 @@ abbrev pub Answered : List ℤ → ℕ → ℕ → Answer → List ℤ → Type 
 Answered t list scratch a l = (a ≡ outcome t list scratch .answer) × (l ≡ outcome t list scratch .list)
 
 module _ (cs : List Condition) (list scratch : ℕ) where
-  no-room : room list < length (list-words cs) → fitted cs list scratch ≡ refuse 12 0 list scratch
+  no-room : room list < length (list-words with-depth cs) → fitted cs list scratch ≡ refuse 12 0 list scratch
   unfolding fitted
-  no-room h = rw (lt-ltb (room list) (length (list-words cs)) h)
+  no-room h = rw (lt-ltb (room list) (length (list-words with-depth cs)) h)
 
-  with-room : length (list-words cs) ≤ room list → fitted cs list scratch ≡ plan cs list scratch
+  with-room : length (list-words with-depth cs) ≤ room list → fitted cs list scratch ≡ plan cs list scratch
   unfolding fitted
-  with-room h = rw (le-ltb (room list) (length (list-words cs)) h)
+  with-room h = rw (le-ltb (room list) (length (list-words with-depth cs)) h)
 
 -- ---- the list, cleared and then written from its front
 
@@ -77,9 +77,9 @@ module _ (t l : List ℤ) (n : ℕ) (cleared : l ≡ zeros (length l)) (roomy : 
   pub planned : {p : Progress} {l′ : List ℤ} → Whole (take n l) (conditions (tree t)) p l′ → p .at ≤ n
       → Fitted t (length l) (record { number = 0; row = 0; conditions = p .count; words = p .at }) (l′ ++ drop n l)
   planned (whole h e c s) a =
-      let k : length (list-words (conditions (tree t))) ≤ n = omega (arith, front) in
+      let k : length (list-words with-depth (conditions (tree t))) ≤ n = omega (arith, front) in
       let f = with-room (conditions (tree t)) (length l) 0 (omega arith) in
-      (rw (f, e, c), rw (f, s) (front-written l n (length l) (list-words (conditions (tree t))) cleared in-list k))
+      (rw (f, e, c), rw (f, s) (front-written l n (length l) (list-words with-depth (conditions (tree t))) cleared in-list k))
   planned (cut h e s) a = absurd (omega (arith, front))
 
   pub unwritten : {p : Progress} {l′ : List ℤ} → Whole (take n l) (conditions (tree t)) p l′ → n < p .at → Fitted t (length l) (refusal 12 0) (zeros (length l))
@@ -89,7 +89,8 @@ module _ (t l : List ℤ) (n : ℕ) (cleared : l ≡ zeros (length l)) (roomy : 
       (rw f, rw f)
 
   pub kept-length : {p : Progress} {l′ : List ℤ} → Whole (take n l) (conditions (tree t)) p l′ → length (l′ ++ drop n l) ≡ length l
-  kept-length (whole h e c s) = rw (s, length-append) (omega (arith, length-sets (take n l) 0 (list-words (conditions (tree t))), front, length-drop n l))
+  kept-length (whole h e c s) =
+      rw (s, length-append) (omega (arith, length-sets (take n l) 0 (list-words with-depth (conditions (tree t))), front, length-drop n l))
   kept-length (cut h e s) = rw length-append (omega (arith, front, length-drop n l))
 
 -- ---- 11, and what follows where scratch is long enough
@@ -104,7 +105,7 @@ same-answer false cs list scratch = (refl, refl)
 fitted-same : (cs : List Condition) (list scratch : ℕ)
     → (fitted cs list scratch .answer ≡ fitted cs list 0 .answer) × (fitted cs list scratch .list ≡ fitted cs list 0 .list)
 unfolding fitted
-fitted-same cs list scratch = same-answer (ltb (room list) (length (list-words cs))) cs list scratch
+fitted-same cs list scratch = same-answer (ltb (room list) (length (list-words with-depth cs))) cs list scratch
 
 module _ (t : List ℤ) (list scratch : ℕ) where
   pub outcome-refused : {n r : ℕ} → verdict t ≡ refused n r → outcome t list scratch ≡ refuse n r list scratch

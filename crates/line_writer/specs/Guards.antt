@@ -31,24 +31,25 @@ use Rattle.line_writer.specs.Listed.{Listed, listed-none}
 use Rattle.line_writer.specs.Spelled.{Finished, line-finished}
 use Rattle.line_writer.specs.Loops.{nothing-passed, plain-formula}
 
-abbrev pub guard-lines : List ℤ → ℕ → List Condition
-guard-lines t k = guard k (invariant-at t k) (divisorsᶠ (guard-at t k))
+abbrev pub guard-lines : List ℤ → ℕ → ℕ → List Condition
+guard-lines t depth k = guard k depth (invariant-at t k) (divisorsᶠ (guard-at t k))
 
 pub record GuardReady (t : List ℤ) (k : ℕ) (follow : List ℤ) : Type 0 where
   pub loops : Loop t k
   pub divided : Divided t follow
   pub long : rows t ≤ length follow
 
-guard-is : (k : ℕ) (i : Formula) (x : Option Formula) → stands x ≡ true → {l l₁ l₂ l₃ l₄ : List ℤ} {start : Progress} {p₁ p₂ past : ℕ} {q : Progress}
+guard-is : (k depth : ℕ) (i : Formula) (x : Option Formula) → stands x ≡ true
+    → {l l₁ l₂ l₃ l₄ : List ℤ} {start : Progress} {p₁ p₂ past : ℕ} {q : Progress}
     → Wrote l (start .at) (pos 25 ∷ []) p₁ l₁ → Wrote l₁ p₁ (formula-words i) p₂ l₂ → Wrote l₂ p₂ (item-words x) past l₃
-    → Finished l₃ start past Guard k q l₄ → Listed l start (guard k i x) q l₄
+    → Finished l₃ start past Guard k depth q l₄ → Listed l start (guard k depth i x) q l₄
 unfolding formula-words
-guard-is k i none h w₁ w₂ w₃ f = absurd (false≢true h)
-guard-is k i (some d) h w₁ w₂ w₃ f = line-finished Guard k (join Implies i d) (then w₁ (then w₂ w₃)) f
+guard-is k depth i none h w₁ w₂ w₃ f = absurd (false≢true h)
+guard-is k depth i (some d) h w₁ w₂ w₃ f = line-finished Guard k depth (join Implies i d) (then w₁ (then w₂ w₃)) f
 
-guard-none : (k : ℕ) (i : Formula) (x : Option Formula) → stands x ≡ false → (l : List ℤ) (p : Progress) → Listed l p (guard k i x) p l
-guard-none k i none h l p = listed-none l p
-guard-none k i (some d) h l p = absurd (false≢true (sym h))
+guard-none : (k depth : ℕ) (i : Formula) (x : Option Formula) → stands x ≡ false → (l : List ℤ) (p : Progress) → Listed l p (guard k depth i x) p l
+guard-none k depth i none h l p = listed-none l p
+guard-none k depth i (some d) h l p = absurd (false≢true (sym h))
 
 module _ (t : List ℤ) (k : ℕ) (follow : List ℤ) (g : GuardReady t k follow) {b : ℕ} (eb : b ≡ guard-row t k) where
   guard-sort : T (same-sort (sort-of (row t b)) Sort.Formula)
@@ -78,14 +79,14 @@ module _ (t : List ℤ) (k : ℕ) (follow : List ℤ) (g : GuardReady t k follow
   guard-stands e = ap stands (sym guard-D) ∙ (sym (marked-stands t follow b (g .divided) guard-inside (formula-is-node t b guard-sort)) ∙ sym e)
 
   module _ {d : Bool} (is : d ≡ marked follow b) where
-    pub guard-listed : (path : List ℤ) {i : ℕ} {l l₁ l₂ l₃ l₄ : List ℤ} {start : Progress} {p₁ p₂ past : ℕ} {q : Progress} → d ≡ true
+    pub guard-listed : (path : List ℤ) {i depth : ℕ} {l l₁ l₂ l₃ l₄ : List ℤ} {start : Progress} {p₁ p₂ past : ℕ} {q : Progress} → d ≡ true
         → i ≡ invariant-row t k
         → Wrote l (start .at) (pos 25 ∷ []) p₁ l₁ → Wrote l₁ p₁ (formula-under t path 0 i) p₂ l₂ → Wrote l₂ p₂ (divisor-words t path 0 b) past l₃
-        → Finished l₃ start past Guard k q l₄ → Listed l start (guard-lines t k) q l₄
-    guard-listed path h ei w₁ w₂ w₃ f =
-        guard-is k (invariant-at t k) (divisorsᶠ (guard-at t k)) (guard-stands is ∙ h) w₁
+        → Finished l₃ start past Guard k depth q l₄ → Listed l start (guard-lines t depth k) q l₄
+    guard-listed path {depth = depth} h ei w₁ w₂ w₃ f =
+        guard-is k depth (invariant-at t k) (divisorsᶠ (guard-at t k)) (guard-stands is ∙ h) w₁
         (plain-formula t path (invariant-row t k) ei w₂)
         (wrote-as (divisor-words-first t path b ∙ ap item-words guard-D) w₃) f
 
-    pub guard-unlisted : d ≡ false → (l : List ℤ) (p : Progress) → Listed l p (guard-lines t k) p l
-    guard-unlisted h l p = guard-none k (invariant-at t k) (divisorsᶠ (guard-at t k)) (guard-stands is ∙ h) l p
+    pub guard-unlisted : d ≡ false → (depth : ℕ) (l : List ℤ) (p : Progress) → Listed l p (guard-lines t depth k) p l
+    guard-unlisted h depth l p = guard-none k depth (invariant-at t k) (divisorsᶠ (guard-at t k)) (guard-stands is ∙ h) l p

@@ -8,13 +8,13 @@ use native.Mathlib.Omega.{arith as linear}
 use lib.IntN.{ℤ}
 use lib.ListN.{length, length-append}
 use Rattle.script.specs.Conditions.{Condition}
-use Rattle.script.specs.Words.{formula-words, trailer, line-words, all-lines}
+use Rattle.script.specs.Words.{Form, with-depth, formula-words, trailer, line-words, all-lines}
 use Rattle.theorems.specs.Writing.{Wrote, fitted, stopped, then, wrote-length, wrote-nothing}
 use Rattle.line_writer.specs.declared.Progress.{Progress}
 
 -- The conditions cs were to be listed from p on, in the list l; q is past them, and l′ is what is left.
 pub record Listed (l : List ℤ) (p : Progress) (cs : List Condition) (q : Progress) (l′ : List ℤ) : Type 0 where
-  pub words : Wrote l (p .at) (all-lines cs) (q .at) l′
+  pub words : Wrote l (p .at) (all-lines with-depth cs) (q .at) l′
   -- where there was room, the count rose by their number
   pub count : q .at ≤ length l → q .count ≡ p .count + length cs
 
@@ -25,23 +25,26 @@ pub record InRoom (l : List ℤ) (p : Progress) : Type 0 where
 
 -- ---- lines of conditions
 
-pub all-lines-append : (xs ys : List Condition) → all-lines (xs ++ ys) ≡ all-lines xs ++ all-lines ys
-unfolding all-lines
-all-lines-append [] ys = refl
-all-lines-append (x ∷ xs) ys = ap (λ (z : List ℤ). line-words x ++ z) (all-lines-append xs ys) ∙ sym (append-assoc (line-words x) (all-lines xs) (all-lines ys))
+module _ (form : Form) where
+  all-lines-append : (xs ys : List Condition) → all-lines form (xs ++ ys) ≡ all-lines form xs ++ all-lines form ys
+  unfolding all-lines
+  all-lines-append [] ys = refl
+  all-lines-append (x ∷ xs) ys =
+      ap (λ (z : List ℤ). line-words form x ++ z) (all-lines-append xs ys)
+      ∙ sym (append-assoc (line-words form x) (all-lines form xs) (all-lines form ys))
 
-line-long : (c : Condition) → 1 ≤ length (line-words c)
-unfolding line-words
-line-long c = let e = length-append (formula-words (c .claim)) (trailer c) in omega linear
+  line-long : (c : Condition) → 1 ≤ length (line-words form c)
+  unfolding line-words
+  line-long c = let e = length-append (formula-words (c .claim)) (trailer form c) in omega linear
 
-lines-long : (cs : List Condition) → length cs ≤ length (all-lines cs)
-unfolding all-lines
-lines-long [] = omega linear
-lines-long (c ∷ cs) =
-    let a = line-long c in
-    let b = lines-long cs in
-    let e = length-append (line-words c) (all-lines cs) in
-    omega linear
+  lines-long : (cs : List Condition) → length cs ≤ length (all-lines form cs)
+  unfolding all-lines
+  lines-long [] = omega linear
+  lines-long (c ∷ cs) =
+      let a = line-long c in
+      let b = lines-long cs in
+      let e = length-append (line-words form c) (all-lines form cs) in
+      omega linear
 
 -- ---- where there was room
 
@@ -55,7 +58,7 @@ pub listed-then : {l l′ l″ : List ℤ} {xs ys : List Condition} {p q r : Pro
 listed-then {xs = xs} {ys = ys} a b =
     let m = wrote-length (a .words) in
     record {
-      words = rw (all-lines-append xs ys) (then (a .words) (b .words));
+      words = rw (all-lines-append with-depth xs ys) (then (a .words) (b .words));
       count = λ h.
           let w = went (b .words) (omega linear) in
           let x = a .count (omega linear) in
@@ -90,7 +93,7 @@ in-room-on {cs = cs} g w =
       few = λ h.
           let x = went (w .words) (omega linear) in
           let y = w .count (omega linear) in
-          let z = lines-long cs in
+          let z = lines-long with-depth cs in
           let u = g .few (omega linear) in
           omega linear;
     }

@@ -33,19 +33,20 @@ use Rattle.line_writer.specs.declared.Progress.{Progress}
 use Rattle.line_writer.specs.Listed.{Listed}
 use Rattle.line_writer.specs.Spelled.{Finished, line-finished}
 
--- ---- the conditions of the loop at row k, met with what follows it and the formula at the end; and of the script at row r
+-- ---- the conditions of the loop at row k, which so many loops enclose, met with what follows it and the formula at the end; and of the
+-- script at row r
 
-abbrev pub exit-line : List ℤ → List ℤ → ℕ → ℕ → Condition
-exit-line t follow end k = condition Exit k (exit (guard-at t k) (invariant-at t k) (before-end t follow (next t follow k) end))
+abbrev pub exit-line : List ℤ → List ℤ → ℕ → ℕ → ℕ → Condition
+exit-line t follow end depth k = condition Exit k depth (exit (guard-at t k) (invariant-at t k) (before-end t follow (next t follow k) end))
 
-abbrev pub floor-line : List ℤ → ℕ → Condition
-floor-line t k = condition Floor k (floor (guard-at t k) (invariant-at t k) (variant-at t k))
+abbrev pub floor-line : List ℤ → ℕ → ℕ → Condition
+floor-line t depth k = condition Floor k depth (floor (guard-at t k) (invariant-at t k) (variant-at t k))
 
-abbrev pub step-line : List ℤ → ℕ → Condition
-step-line t k = condition Step k (step k (guard-at t k) (invariant-at t k) (variant-at t k) (body-at t k))
+abbrev pub step-line : List ℤ → ℕ → ℕ → Condition
+step-line t depth k = condition Step k depth (step k (guard-at t k) (invariant-at t k) (variant-at t k) (body-at t k))
 
 abbrev pub main-line : List ℤ → ℕ → Condition
-main-line t r = condition Main r (join Implies (formula-at t (pre-row t r)) (wp (stmt-at t (statement-row t r)) (end-formula t r)))
+main-line t r = condition Main r 0 (join Implies (formula-at t (pre-row t r)) (wp (stmt-at t (statement-row t r)) (end-formula t r)))
 
 -- ---- what is asked
 
@@ -70,10 +71,11 @@ pub record Lined (t path : List ℤ) (cs : List Condition) (l : List ℤ) (p q :
   pub kept : Same (rows t) 0 path path′
 
 -- a line whose formula ends with what was walked
-pub line-walked : (rule : Rule) (row : ℕ) (f : Formula) {t path path′ l l₁ l₂ l₃ : List ℤ} {g : Formula} {start : Progress} {p₁ past : ℕ} {q : Progress}
-    → Walked t path 0 g l₁ p₁ past l₂ path′ → Wrote l (start .at) (formula-words f) past l₂ → Finished l₂ start past rule row q l₃
-    → Lined t path (condition rule row f ∷ []) l start q l₃ path′
-line-walked rule row f w v e = record { lines = line-finished rule row f v e; kept = w .kept }
+pub line-walked : (rule : Rule) (row depth : ℕ) (f : Formula)
+    {t path path′ l l₁ l₂ l₃ : List ℤ} {g : Formula} {start : Progress} {p₁ past : ℕ} {q : Progress}
+    → Walked t path 0 g l₁ p₁ past l₂ path′ → Wrote l (start .at) (formula-words f) past l₂ → Finished l₂ start past rule row depth q l₃
+    → Lined t path (condition rule row depth f ∷ []) l start q l₃ path′
+line-walked rule row depth f w v e = record { lines = line-finished rule row depth f v e; kept = w .kept }
 
 -- ---- no assignment was passed
 

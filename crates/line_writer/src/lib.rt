@@ -7,6 +7,7 @@ use script::field;
 use script::kinds;
 ghost use mathlib.Core.Path.{_≡_};
 ghost use mathlib.Core.List.{[], _∷_};
+ghost use Prim.Native.Nat.{_<_};
 ghost use lib.IntN.{pos};
 ghost use Rattle.script.specs.declared.Connective.the-variants.{And};
 ghost use Rattle.script.specs.Syntax.{join};
@@ -39,16 +40,18 @@ fn rule_word(rule: Rule) -> i32
     }
 }
 
-// Writes the trailer of the formula that was written from `start` to `past`.
+// Writes the trailer of the formula that was written from `start` to `past`: rule, row, length, and how many loops enclose the
+// one at the row, or 0 for main (02, P9).
 fn finish_line(
     list: &mut [i32],
     start: Progress,
     past: usize,
     rule: Rule,
     row: RowNumber,
+    depth: usize,
 ) -> Progress
-    requires { ⌜ Finishing (now list) start past (row .0) ⌝ }
-    ensures { λ q. ⌜ Finished (now (list .entry)) start past rule (row .0) q (now (list .exit)) ⌝ }
+    requires { ⌜ Finishing (now list) start past (row .0) depth ⌝ }
+    ensures { λ q. ⌜ Finished (now (list .entry)) start past rule (row .0) depth q (now (list .exit)) ⌝ }
 {
     let from = start.at;
     let count = start.count;
@@ -56,7 +59,8 @@ fn finish_line(
         return Progress { at: past, count };
     }
     let p1 = formula_writer::push_two(list, past, rule_word(rule), row.0 as i32);
-    let p2 = formula_writer::push(list, p1, (past - from) as i32);
+    let length = past - from;
+    let p2 = formula_writer::push_two(list, p1, length as i32, depth as i32);
     Progress {
         at: p2,
         count: count + 1,
@@ -67,12 +71,13 @@ fn finish_line(
 pub fn write_guard(
     table: &[i32],
     k: RowNumber,
+    depth: usize,
     scratch: &[i32],
     list: &mut [i32],
     at: Progress,
 ) -> Progress
-    requires { ⌜ GuardReady (now table) (k .0) (follow-in (now table) (now scratch)) × InRoom (now list) at ⌝ }
-    ensures { λ q. ⌜ Listed (now (list .entry)) at (guard-lines (now (table .entry)) (k .0)) q (now (list .exit)) ⌝ }
+    requires { ⌜ GuardReady (now table) (k .0) (follow-in (now table) (now scratch)) × InRoom (now list) at × (depth < 2048) ⌝ }
+    ensures { λ q. ⌜ Listed (now (list .entry)) at (guard-lines (now (table .entry)) depth (k .0)) q (now (list .exit)) ⌝ }
 {
     let guard = RowNumber(field(table, k.0, 1));
     let rows = table.len() / 4;
@@ -88,7 +93,7 @@ pub fn write_guard(
             p1,
         );
         let p3 = divisor_writer::write_divisors(table, guard, follow, list, scratch, 0, p2);
-        return finish_line(list, at, p3, Rule::Guard, k);
+        return finish_line(list, at, p3, Rule::Guard, k, depth);
     }
     at
 }
@@ -97,14 +102,16 @@ pub fn write_guard(
 pub fn write_exit(
     table: &[i32],
     k: RowNumber,
+    depth: usize,
     scratch: &mut [i32],
     list: &mut [i32],
     end: RowNumber,
     at: Progress,
 ) -> Progress
-    requires { ⌜ Loop (now table) (k .0) × (Before (now table) (follow-in (now table) (now scratch)) (now scratch) 0 (end .0) (k .0) × InRoom (now list) at) ⌝ }
+    requires { ⌜ Loop (now table) (k .0) × Before (now table) (follow-in (now table) (now scratch)) (now scratch) 0 (end .0) (k .0)
+        × InRoom (now list) at × (depth < 2048) ⌝ }
     ensures { λ q. ⌜ Lined (now (table .entry)) (now (scratch .entry))
-        (exit-line (now (table .entry)) (follow-in (now (table .entry)) (now (scratch .entry))) (end .0) (k .0) ∷ [])
+        (exit-line (now (table .entry)) (follow-in (now (table .entry)) (now (scratch .entry))) (end .0) depth (k .0) ∷ [])
         (now (list .entry)) at q (now (list .exit)) (now (scratch .exit)) ⌝ }
 {
     let row = k.0;
@@ -123,7 +130,7 @@ pub fn write_exit(
     let p4 = formula_writer::push_kind(list, p3, kinds::NOT);
     let p5 = formula_writer::write_formula(table, guard, list, scratch, 0, p4);
     let p6 = wp_writer::write_before(table, next, scratch, 0, list, end, p5);
-    finish_line(list, at, p6, Rule::Exit, k)
+    finish_line(list, at, p6, Rule::Exit, k, depth)
 }
 
 // Writes (I and B), which holds where the body of a loop begins.
@@ -150,12 +157,13 @@ fn write_entered(table: &[i32], k: RowNumber, path: &[i32], list: &mut [i32], at
 pub fn write_floor(
     table: &[i32],
     k: RowNumber,
+    depth: usize,
     path: &[i32],
     list: &mut [i32],
     at: Progress,
 ) -> Progress
-    requires { ⌜ Loop (now table) (k .0) × InRoom (now list) at ⌝ }
-    ensures { λ q. ⌜ Listed (now (list .entry)) at (floor-line (now (table .entry)) (k .0) ∷ []) q (now (list .exit)) ⌝ }
+    requires { ⌜ Loop (now table) (k .0) × InRoom (now list) at × (depth < 2048) ⌝ }
+    ensures { λ q. ⌜ Listed (now (list .entry)) at (floor-line (now (table .entry)) depth (k .0) ∷ []) q (now (list .exit)) ⌝ }
 {
     let p1 = formula_writer::push_kind(list, at.at, kinds::IMPLIES);
     let p2 = write_entered(table, k, path, list, p1);
@@ -169,19 +177,20 @@ pub fn write_floor(
         0,
         p4,
     );
-    finish_line(list, at, p5, Rule::Floor, k)
+    finish_line(list, at, p5, Rule::Floor, k, depth)
 }
 
 // "((I and B) and (V equal m)) implies W(body, I and (V less m))"
 pub fn write_step(
     table: &[i32],
     k: RowNumber,
+    depth: usize,
     scratch: &mut [i32],
     list: &mut [i32],
     at: Progress,
 ) -> Progress
-    requires { ⌜ StepReady (now table) (k .0) (follow-in (now table) (now scratch)) (now scratch) × InRoom (now list) at ⌝ }
-    ensures { λ q. ⌜ Lined (now (table .entry)) (now (scratch .entry)) (step-line (now (table .entry)) (k .0) ∷ [])
+    requires { ⌜ StepReady (now table) (k .0) (follow-in (now table) (now scratch)) (now scratch) × InRoom (now list) at × (depth < 2048) ⌝ }
+    ensures { λ q. ⌜ Lined (now (table .entry)) (now (scratch .entry)) (step-line (now (table .entry)) depth (k .0) ∷ [])
         (now (list .entry)) at q (now (list .exit)) (now (scratch .exit)) ⌝ }
 {
     let body = field(table, k.0, 3);
@@ -199,7 +208,7 @@ pub fn write_step(
     );
     let p6 = formula_writer::push_mark(list, p5, k);
     let p7 = wp_writer::write_before(table, body, scratch, 0, list, k, p6);
-    finish_line(list, at, p7, Rule::Step, k)
+    finish_line(list, at, p7, Rule::Step, k, depth)
 }
 
 // "P implies W(S, Q)", of the script at a row.
@@ -219,10 +228,10 @@ pub fn write_main(
     let p1 = formula_writer::push_kind(list, at.at, kinds::IMPLIES);
     let p2 = formula_writer::write_formula(table, pre, list, scratch, 0, p1);
     let p3 = wp_writer::write_before(table, statement, scratch, 0, list, row, p2);
-    finish_line(list, at, p3, Rule::Main, row)
+    finish_line(list, at, p3, Rule::Main, row, 0)
 }
 
-// Writes the last word of a list, the number of its conditions.
+// Writes the last word of a list, minus the number of its conditions (02, P9).
 pub fn write_count(list: &mut [i32], at: Progress) -> Progress
     requires { ⌜ InRoom (now list) at ⌝ }
     ensures { λ q. ⌜ Counted (now (list .entry)) at q (now (list .exit)) ⌝ }
@@ -233,7 +242,7 @@ pub fn write_count(list: &mut [i32], at: Progress) -> Progress
         return at;
     }
     Progress {
-        at: formula_writer::push(list, place, count as i32),
+        at: formula_writer::push(list, place, 0 - (count as i32)),
         count,
     }
 }

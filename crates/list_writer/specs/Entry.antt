@@ -69,25 +69,26 @@ module _ (t : List ℤ) (ok : verdict t ≡ accepted) where
     ready e = record { scripts = script-here; followed = k; divided = d; long = e .long ∙ b; noted = e .behind }
 
     module _ {s : ℕ} (part : s ≡ statement-row t last) {l : List ℤ} (h : length l ≤ 16384) where
-      pub first-walking : Walking t (follow-in t path) path last s l front
+      pub first-walking : Walking t (follow-in t path) path last 0 s l front
       first-walking = record {
         before = main-before t last (follow-in t path) path (ready (same-refl (rows t) 0 path)) part;
         here = rw part (statement-linked t last script-here .0);
+        shallow = let h = statement-linked t last script-here .0 in let m = passed t ok .short in omega linear;
         room = record { short = h; few = λ i. omega linear };
       }
 
-      module _ {path₁ l₁ : List ℤ} {p₁ : Progress} (walked : Lined t path (walk-at t (follow-in t path) last s) l front p₁ l₁ path₁) where
+      module _ {path₁ l₁ : List ℤ} {p₁ : Progress} (walked : Lined t path (walk-at t (follow-in t path) last 0 s) l front p₁ l₁ path₁) where
         after-statement : InRoom l₁ p₁
         after-statement = in-room-on (first-walking .room) (walked .lines)
 
         pub main-ready : MainReady t last (follow-in t path₁) path₁ × InRoom l₁ p₁
         main-ready = (rw (ready (walked .kept) .noted) (ready (walked .kept)), after-statement)
 
-        script-walk : walk-at t (follow-in t path) last s ≡ walk (stmt-at t (statement-row t last)) (end-formula t last)
+        script-walk : walk-at t (follow-in t path) last 0 s ≡ walk 0 (stmt-at t (statement-row t last)) (end-formula t last)
         script-walk =
             let end = k .at last (script-here .inside) (script-is t last script-here) in
-            ap (λ (r : ℕ). walk-at t (follow-in t path) last r) part
-            ∙ ap (walk (stmt-at t (statement-row t last)))
+            ap (λ (r : ℕ). walk-at t (follow-in t path) last 0 r) part
+            ∙ ap (walk 0 (stmt-at t (statement-row t last)))
             (after-end t (follow-in t path) (next t (follow-in t path) (statement-row t last)) (end-formula t last) end)
 
         module _ {path₂ l₂ : List ℤ} {p₂ : Progress} (main : Lined t path₁ (main-line t last ∷ []) l₁ p₁ p₂ l₂ path₂) where

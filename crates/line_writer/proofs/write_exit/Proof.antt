@@ -18,7 +18,7 @@ field-requires c κs =
 next-requires : tie.Need-next-requires
 next-requires c κs =
     let start = c .before .before in
-    in-scratch _ _ _ _ (start .pre .0) (start .pre .1 .0)
+    in-scratch _ _ _ _ (start .pre .0) (start .pre .1)
 
 write-formula-requires : tie.Need-write-formula-requires
 write-formula-requires c κs =
@@ -36,7 +36,7 @@ write-before-requires : tie.Need-write-before-requires
 write-before-requires c κs =
     let next = c .before .before .before .before .before .before .before .before .before .before .before .before .before .before .before .before .before .before .before .before in
     let start = next .before .before .before in
-    exit-before _ _ _ _ (start .pre .0) (start .pre .1 .0) (next .next .ensures)
+    exit-before _ _ _ _ (start .pre .0) (start .pre .1) (next .next .ensures)
 
 finish-line-requires : tie.Need-finish-line-requires
 finish-line-requires c κs =
@@ -48,7 +48,7 @@ finish-line-requires c κs =
     let opened = and .before .before .before in
     let start = opened .before .before .before .before .before in
     let w = then (then (opened .push-kind .ensures) (and .push-kind2 .ensures)) (then (i .write-formula .ensures) (then (not .push-kind3 .ensures) (b .write-formula2 .ensures))) in
-    finishing _ (start .pre .0 .table) (start .pre .0 .inside) (start .pre .1 .1) (then w (walked .write-before .ensures .words))
+    finishing _ (start .pre .0 .table) (start .pre .0 .inside) (start .pre .3) (start .pre .2) (then w (walked .write-before .ensures .words))
 
 returns : tie.Need-returns
 returns c =
@@ -64,11 +64,11 @@ returns c =
     let guard = next .before .before in
     let start = guard .before in
     let q =
-    exit-walked _ _ _ _ (start .pre .0) (start .pre .1 .0) (next .next .ensures) (walked .write-before .ensures) in
+    exit-walked _ _ _ _ (start .pre .0) (start .pre .1) (next .next .ensures) (walked .write-before .ensures) in
     let w =
     wrote-exit _ _ _ _ (guard .field .ensures) (row .invariant .ensures) (then (opened .push-kind .ensures) (and .push-kind2 .ensures)) (i .write-formula .ensures) (not .push-kind3 .ensures)
     (b .write-formula2 .ensures) (q .words) in
-    line-walked _ _ _ q w (finished .finish-line .ensures)
+    line-walked _ _ _ _ q w (finished .finish-line .ensures)
 
 same-length-2 : tie.Need-same-length-2
 same-length-2 c =

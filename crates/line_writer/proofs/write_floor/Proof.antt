@@ -24,7 +24,7 @@ finish-line-requires c κs =
     let opened = entered .before .before .before in
     let start = opened .before .before in
     let w = then (opened .push-kind .ensures) (then (entered .write-entered .ensures) (then (least .push-kind2 .ensures) (then (zero .push-constant .ensures) (v .write-expression .ensures)))) in
-    finishing _ (start .pre .0 .table) (start .pre .0 .inside) (start .pre .1) w
+    finishing _ (start .pre .0 .table) (start .pre .0 .inside) (start .pre .2) (start .pre .1) w
 
 returns : tie.Need-returns
 returns c =
@@ -38,7 +38,7 @@ returns c =
     let w =
     wrote-floor _ _ _ (row .variant .ensures) (opened .push-kind .ensures) (entered .write-entered .ensures) (least .push-kind2 .ensures) (zero .push-constant .ensures)
     (v .write-expression .ensures) in
-    line-finished _ _ _ w (finished .finish-line .ensures)
+    line-finished _ _ _ _ w (finished .finish-line .ensures)
 
 pub write-floor-spec : {M : Type 1} → statement M
 write-floor-spec =

@@ -44,7 +44,7 @@ finish-line-requires c κs =
     let i = D .before .before .before in
     let opened = i .before .before .before .before in
     let start = opened .before .before .before .before .before .before in
-    finishing _ (start .pre .0 .loops .table) (start .pre .0 .loops .inside) (start .pre .1)
+    finishing _ (start .pre .0 .loops .table) (start .pre .0 .loops .inside) (start .pre .2) (start .pre .1)
     (then (opened .push-kind .ensures) (then (i .write-formula .ensures) (D .write-divisors .ensures)))
 
 returns : tie.Need-returns
@@ -67,7 +67,7 @@ returns-2 : tie.Need-returns-2
 returns-2 c =
     let divides = c .before in
     let guard = divides .before .before in
-    guard-unlisted _ _ _ (ready (guard .before)) (guard .field .ensures) (divides .divides .ensures) (c .if1 .left) _ _
+    guard-unlisted _ _ _ (ready (guard .before)) (guard .field .ensures) (divides .divides .ensures) (c .if1 .left) _ _ _
 
 pub write-guard-spec : {M : Type 1} → statement M
 write-guard-spec =

@@ -38,7 +38,8 @@ finish-line-requires c κs =
     let opened = p .before .before .before .before in
     let start = opened .before .before .before .before in
     let o = start .pre .0 .scripts in
-    finishing _ (o .table) (o .inside) (start .pre .1) (then (opened .push-kind .ensures) (then (p .write-formula .ensures) (walked .write-before .ensures .words)))
+    finishing _ (o .table) (o .inside) (lit≤ tt) (start .pre .1)
+    (then (opened .push-kind .ensures) (then (p .write-formula .ensures) (walked .write-before .ensures .words)))
 
 returns : tie.Need-returns
 returns c =
@@ -52,7 +53,7 @@ returns c =
     let w =
     wrote-main _ _ _ _ (start .pre .0) (statement .field2 .ensures) (pre .field .ensures) (opened .push-kind .ensures) (p .write-formula .ensures)
     (walked .write-before .ensures) in
-    line-walked _ _ _ (walked .write-before .ensures) w (finished .finish-line .ensures)
+    line-walked _ _ _ _ (walked .write-before .ensures) w (finished .finish-line .ensures)
 
 pub write-main-spec : {M : Type 1} → statement M
 write-main-spec =

@@ -54,7 +54,8 @@ finish-line-requires c κs =
     let start = opened .before .before .before in
     let w = then (then (opened .push-kind .ensures) (and .push-kind2 .ensures)) (then (entered .write-entered .ensures) (then (equal .push-kind3 .ensures) (v .write-expression .ensures))) in
     let o = start .pre .0 .loops in
-    finishing _ (o .table) (o .inside) (start .pre .1) (then w (then (mark .push-mark .ensures) (walked .write-before .ensures .words)))
+    finishing _ (o .table) (o .inside) (start .pre .2) (start .pre .1)
+    (then w (then (mark .push-mark .ensures) (walked .write-before .ensures .words)))
 
 returns : tie.Need-returns
 returns c =
@@ -72,7 +73,7 @@ returns c =
     let w =
     wrote-step _ _ _ (start .pre .0) (body .field .ensures) (row .variant .ensures) (then (opened .push-kind .ensures) (and .push-kind2 .ensures)) (entered .write-entered .ensures)
     (equal .push-kind3 .ensures) (v .write-expression .ensures) (mark .push-mark .ensures) (walked .write-before .ensures) in
-    line-walked _ _ _ (walked .write-before .ensures) w (finished .finish-line .ensures)
+    line-walked _ _ _ _ (walked .write-before .ensures) w (finished .finish-line .ensures)
 
 same-length-2 : tie.Need-same-length-2
 same-length-2 c =

@@ -38,10 +38,11 @@ abbrev below : ℕ → In 3 kinds.ps
 below t = and 3 kinds.ps (falls 3 kinds.ps _<_ μ t) reads.Pre
 
 abbrev kept : lts.InvT-loop
-kept table first scratch₀ list₀ end s₀ p₀ scratch list s p = Turned table (follow-in table scratch₀) (end .0) s₀ p₀ scratch₀ list₀ s p scratch list
+kept table first depth scratch₀ list₀ end s₀ p₀ scratch list s p =
+    Turned table (follow-in table scratch₀) (end .0) depth s₀ p₀ scratch₀ list₀ s p scratch list
 
 abbrev falling : lts.MeasureT-loop
-falling table first scratch₀ list₀ end s₀ p₀ scratch list s p = s
+falling table first depth scratch₀ list₀ end s₀ p₀ scratch list s p = s
 
 abbrev claims : ℕ → lts.Claims
 claims t = (
@@ -71,8 +72,8 @@ module _ (t : ℕ) where
   table c = loop c .before .args .table .now
 
   turned : (c : Read) → Turned (table c) (follow-in (table c) (loop c .before .args .scratch .now)) (loop c .before .args .end .0)
-      (loop c .before .args .first) (loop c .before .args .at) (loop c .before .args .scratch .now) (loop c .before .args .list .now)
-      (loop c .loop .s) (loop c .loop .p) (loop c .loop .scratch) (loop c .loop .list)
+      (loop c .before .args .depth) (loop c .before .args .first) (loop c .before .args .at) (loop c .before .args .scratch .now)
+      (loop c .before .args .list .now) (loop c .loop .s) (loop c .loop .p) (loop c .loop .scratch) (loop c .loop .list)
   turned c = loop c .loop .inv
 
   -- where the fields were read too
@@ -100,7 +101,7 @@ module _ (t : ℕ) where
   if-here c = if-row _ _ (if-read c .field .ensures) (c .before .before .match .keys2) refl (c .before .field4 .ensures) (c .field5 .ensures)
 
   loop-holds : lts.Need-loop-holds (claims t) (at t) reads.Post kept falling
-  loop-holds c = begun _ _ _ (c .pre .1)
+  loop-holds c = begun _ _ _ _ (c .pre .1)
 
   -- ---- no room
 
@@ -112,7 +113,7 @@ module _ (t : ℕ) where
   returns : lts.Need-returns (claims t) (at t) reads.Post kept falling
   returns c =
       let loop = c .before .before in
-      listed-at-full _ _ _ (loop .loop .inv) (c .if1 .taken)
+      listed-at-full _ _ _ _ (loop .loop .inv) (c .if1 .taken)
 
   same-length-2 : lts.Need-same-length-2 (claims t) (at t) reads.Post kept falling
   same-length-2 c = listed-length (returns c .lines)
@@ -120,85 +121,85 @@ module _ (t : ℕ) where
   field-requires : lts.Need-field-requires (claims t) (at t) reads.Post kept falling
   field-requires c κs =
       let loop = c .before .before in
-      (in-table _ _ _ (loop .loop .inv), omega arith)
+      (in-table _ _ _ _ (loop .loop .inv), omega arith)
 
   -- ---- a sequence
 
   field-requires-2 : lts.Need-field-requires-2 (claims t) (at t) reads.Post kept falling
   field-requires-2 c κs =
       let arm = c .before in
-      (in-table _ _ _ (turned arm), omega arith)
+      (in-table _ _ _ _ (turned arm), omega arith)
 
   field-requires-3 : lts.Need-field-requires-3 (claims t) (at t) reads.Post kept falling
   field-requires-3 c κs =
       let arm = c .before .before in
-      (in-table _ _ _ (turned arm), omega arith)
+      (in-table _ _ _ _ (turned arm), omega arith)
 
   list-conditions-requires : lts.Need-list-conditions-requires (claims t) (at t) reads.Post kept falling
   list-conditions-requires c κs =
       let read = c .before .before in
       let arm = sequence-read read in
-      second-walking _ _ _ (turned arm) (sequence-here read) (loop arm .before .pre .0)
+      second-walking _ _ _ _ (turned arm) (sequence-here read) (loop arm .before .pre .0)
 
   loop-less : lts.Need-loop-less (claims t) (at t) reads.Post kept falling
   loop-less c =
       let read = c .before .before .before .before .before in
-      first-lower _ _ _ (turned (sequence-read read)) (sequence-here read)
+      first-lower _ _ _ _ (turned (sequence-read read)) (sequence-here read)
 
   loop-again : lts.Need-loop-again (claims t) (at t) reads.Post kept falling
   loop-again c =
       let listed = c .before .before in
       let read = listed .before .before .before in
-      first-turned _ _ _ (turned (sequence-read read)) (sequence-here read) (listed .list-conditions .ensures)
+      first-turned _ _ _ _ (turned (sequence-read read)) (sequence-here read) (listed .list-conditions .ensures)
 
   -- ---- a branch
 
   field-requires-4 : lts.Need-field-requires-4 (claims t) (at t) reads.Post kept falling
   field-requires-4 c κs =
       let arm = c .before in
-      (in-table _ _ _ (turned arm), omega arith)
+      (in-table _ _ _ _ (turned arm), omega arith)
 
   field-requires-5 : lts.Need-field-requires-5 (claims t) (at t) reads.Post kept falling
   field-requires-5 c κs =
       let arm = c .before .before in
-      (in-table _ _ _ (turned arm), omega arith)
+      (in-table _ _ _ _ (turned arm), omega arith)
 
   list-conditions-requires-2 : lts.Need-list-conditions-requires-2 (claims t) (at t) reads.Post kept falling
   list-conditions-requires-2 c κs =
       let read = c .before .before in
       let arm = if-read read in
-      then-walking _ _ _ (turned arm) (if-here read) (loop arm .before .pre .0)
+      then-walking _ _ _ _ (turned arm) (if-here read) (loop arm .before .pre .0)
 
   loop-less-2 : lts.Need-loop-less-2 (claims t) (at t) reads.Post kept falling
   loop-less-2 c =
       let read = c .before .before .before .before .before in
-      else-lower _ _ _ (turned (if-read read)) (if-here read)
+      else-lower _ _ _ _ (turned (if-read read)) (if-here read)
 
   loop-again-2 : lts.Need-loop-again-2 (claims t) (at t) reads.Post kept falling
   loop-again-2 c =
       let listed = c .before .before in
       let read = listed .before .before .before in
-      else-turned _ _ _ (turned (if-read read)) (if-here read) (listed .list-conditions2 .ensures)
+      else-turned _ _ _ _ (turned (if-read read)) (if-here read) (listed .list-conditions2 .ensures)
 
   -- ---- a loop
 
   field-requires-6 : lts.Need-field-requires-6 (claims t) (at t) reads.Post kept falling
   field-requires-6 c κs =
       let arm = c .before in
-      (in-table _ _ _ (turned arm), omega arith)
+      (in-table _ _ _ _ (turned arm), omega arith)
 
   write-guard-requires : lts.Need-write-guard-requires (claims t) (at t) reads.Post kept falling
   write-guard-requires c κs =
       let kind = c .before .before .before in
       let arm = kind .before in
-      guard-ready _ _ _ (turned arm) (arm .field .ensures) (kind .match .keys3)
+      guard-ready _ _ _ _ (turned arm) (arm .field .ensures) (kind .match .keys3)
 
   write-exit-requires : lts.Need-write-exit-requires (claims t) (at t) reads.Post kept falling
   write-exit-requires c κs =
       let guarded = c .before .before .before in
       let kind = guarded .before .before .before .before in
       let arm = kind .before in
-      exit-ready _ _ _ (turned arm) (arm .field .ensures) (kind .match .keys3) (guarded .write-guard .ensures)
+      exit-ready _ _ _ _ (turned arm) (arm .field .ensures) (kind .match .keys3) (guarded .write-guard .ensures)
 
   write-floor-requires : lts.Need-write-floor-requires (claims t) (at t) reads.Post kept falling
   write-floor-requires c κs =
@@ -206,7 +207,16 @@ module _ (t : ℕ) where
       let guarded = exited .before .before .before .before in
       let kind = guarded .before .before .before .before in
       let arm = kind .before in
-      floor-ready _ _ _ (turned arm) (arm .field .ensures) (kind .match .keys3) (guarded .write-guard .ensures) (exited .write-exit .ensures)
+      floor-ready _ _ _ _ (turned arm) (arm .field .ensures) (kind .match .keys3) (guarded .write-guard .ensures) (exited .write-exit .ensures)
+
+  add-list-conditions : lts.Need-add-list-conditions (claims t) (at t) reads.Post kept falling
+  add-list-conditions c =
+      let floored = c .before in
+      let exited = floored .before .before .before .before .before in
+      let guarded = exited .before .before .before .before in
+      let kind = guarded .before .before .before .before in
+      let h = turned (kind .before) .walking .shallow in
+      omega arith
 
   list-conditions-requires-3 : lts.Need-list-conditions-requires-3 (claims t) (at t) reads.Post kept falling
   list-conditions-requires-3 c κs =
@@ -216,7 +226,7 @@ module _ (t : ℕ) where
       let body = guarded .before .before .before in
       let kind = body .before in
       let arm = kind .before in
-      body-walking _ _ _ (turned arm) (arm .field .ensures) (kind .match .keys3) (guarded .write-guard .ensures) (exited .write-exit .ensures)
+      body-walking _ _ _ _ (turned arm) (arm .field .ensures) (kind .match .keys3) (guarded .write-guard .ensures) (exited .write-exit .ensures)
       (floored .write-floor .ensures) (body .field6 .ensures) (loop arm .before .pre .0)
 
   write-step-requires : lts.Need-write-step-requires (claims t) (at t) reads.Post kept falling
@@ -228,7 +238,7 @@ module _ (t : ℕ) where
       let body = guarded .before .before .before in
       let kind = body .before in
       let arm = kind .before in
-      step-ready _ _ _ (turned arm) (arm .field .ensures) (kind .match .keys3) (guarded .write-guard .ensures) (exited .write-exit .ensures)
+      step-ready _ _ _ _ (turned arm) (arm .field .ensures) (kind .match .keys3) (guarded .write-guard .ensures) (exited .write-exit .ensures)
       (floored .write-floor .ensures) (body .field6 .ensures) (walked .list-conditions3 .ensures)
 
   returns-2 : lts.Need-returns-2 (claims t) (at t) reads.Post kept falling
@@ -241,7 +251,7 @@ module _ (t : ℕ) where
       let body = guarded .before .before .before in
       let kind = body .before in
       let arm = kind .before in
-      loop-lined _ _ _ (turned arm) (arm .field .ensures) (kind .match .keys3) (guarded .write-guard .ensures) (exited .write-exit .ensures)
+      loop-lined _ _ _ _ (turned arm) (arm .field .ensures) (kind .match .keys3) (guarded .write-guard .ensures) (exited .write-exit .ensures)
       (floored .write-floor .ensures) (body .field6 .ensures) (walked .list-conditions3 .ensures) (stepped .write-step .ensures)
 
   same-length-3 : lts.Need-same-length-3 (claims t) (at t) reads.Post kept falling
@@ -253,7 +263,7 @@ module _ (t : ℕ) where
   -- ---- skip, an assignment, an assertion
 
   returns-3 : lts.Need-returns-3 (claims t) (at t) reads.Post kept falling
-  returns-3 c = leaf-lined _ _ _ (turned (c .before)) (c .before .field .ensures) (c .match .rest)
+  returns-3 c = leaf-lined _ _ _ _ (turned (c .before)) (c .before .field .ensures) (c .match .rest)
 
   same-length-5 : lts.Need-same-length-5 (claims t) (at t) reads.Post kept falling
   same-length-5 c = returns-3 c .kept .long
@@ -285,6 +295,7 @@ module _ (t : ℕ) where
       write-guard-requires
       write-exit-requires
       write-floor-requires
+      add-list-conditions
       list-conditions-requires-3
       write-step-requires
       same-length-3
