@@ -1,7 +1,7 @@
 -- What the pass answers, for every words and every output: each of its three answers has its exact occasion
 -- (`answered-iff`), so has each number (`numbers`), and there is no other. An output as long as the old list is never too
--- short (`room-enough`). With number 0, the words used are a list that is read as the shortened conditions (`new-list`).
--- The output keeps its length (`written-length`). Assumes nothing.
+-- short (`room-enough`). With number 0, the words used are a list in the old one's form that is read as the shortened
+-- conditions (`new-list`). The output keeps its length (`written-length`). Assumes nothing.
 use Prim.Native.Nat.{ℕ, _≤_, _<_}
 use mathlib.Core.Path.{_≡_, refl, sym, ap, _∙_}
 use mathlib.Core.Logic.{_↔_, _⊎_, inl, inr}
@@ -17,15 +17,15 @@ use borrow.Author.Tests.{lt-ltb, le-ltb, ltb-false, ltb-true}
 use Rattle.script.specs.Conditions.{Condition}
 use Rattle.script.specs.Words.{list-words}
 use Rattle.script.specs.WellFormed.{Well-formed}
-use Rattle.script.specs.Listing.{read-list}
+use Rattle.script.specs.Listing.{form-of, read-list}
 use Rattle.theorems.specs.ReadBack.{read-written, written-read, malformed-iff}
 use Rattle.shortening.specs.Simplify.{Order, shorten-all}
 use Rattle.shortening.specs.Shortened.{Written, refuse, filled, written-for, written, used-words}
-use Rattle.shortening.specs.Lists.{list-at-most, well-formed-shortened}
+use Rattle.shortening.specs.Lists.{list-at-most, form-same, well-formed-shortened}
 
--- the words of the shortened list
-abbrev pub short-words : Order → List Condition → List ℤ
-short-words o cs = list-words (shorten-all o cs)
+-- the words of the shortened list, in the form of the words ws
+abbrev pub short-words : Order → List ℤ → List Condition → List ℤ
+short-words o ws cs = list-words (form-of ws) (shorten-all o cs)
 
 -- ---- the three answers, each with its occasion
 
@@ -33,10 +33,10 @@ pub data Answered (o : Order) (ws : List ℤ) (room : ℕ) (r : Written) : Type 
   -- 20: the words are no list
   torn : ((cs : List Condition) → ¬ Well-formed ws cs) → r ≡ refuse 20 room → Answered o ws room r
   -- 31: they are, and the new list is longer than the output
-  too-short : (cs : List Condition) → Well-formed ws cs → room < length (short-words o cs) → r ≡ refuse 31 room
+  too-short : (cs : List Condition) → Well-formed ws cs → room < length (short-words o ws cs) → r ≡ refuse 31 room
       → Answered o ws room r
   -- 0: they are, and it is not
-  fits : (cs : List Condition) → Well-formed ws cs → length (short-words o cs) ≤ room → r ≡ filled (short-words o cs) room
+  fits : (cs : List Condition) → Well-formed ws cs → length (short-words o ws cs) ≤ room → r ≡ filled (short-words o ws cs) room
       → Answered o ws room r
 
 module _ (o : Order) (ws : List ℤ) (room : ℕ) where
@@ -44,29 +44,29 @@ module _ (o : Order) (ws : List ℤ) (room : ℕ) where
   unfolding written
   answered = of-list (read-list ws) refl
     where
-      of-room : (cs : List Condition) → read-list ws ≡ some cs → (b : Bool) → ltb room (length (short-words o cs)) ≡ b
-          → Answered o ws room (cond b (refuse 31 room) (filled (short-words o cs) room))
+      of-room : (cs : List Condition) → read-list ws ≡ some cs → (b : Bool) → ltb room (length (short-words o ws cs)) ≡ b
+          → Answered o ws room (cond b (refuse 31 room) (filled (short-words o ws cs) room))
       of-room cs p true e = too-short cs (written-read ws cs p) (ltb-true room _ e) refl
       of-room cs p false e = fits cs (written-read ws cs p) (ltb-false room _ e) refl
 
-      of-list : (l : Option (List Condition)) → read-list ws ≡ l → Answered o ws room (written-for o l room)
+      of-list : (l : Option (List Condition)) → read-list ws ≡ l → Answered o ws room (written-for o (form-of ws) l room)
       of-list none p = torn (malformed-iff ws .0 p) refl
-      of-list (some cs) p = of-room cs p (ltb room (length (short-words o cs))) refl
+      of-list (some cs) p = of-room cs p (ltb room (length (short-words o ws cs))) refl
 
-  read-as : (l : Option (List Condition)) → read-list ws ≡ l → written o ws room ≡ written-for o l room
+  read-as : (l : Option (List Condition)) → read-list ws ≡ l → written o ws room ≡ written-for o (form-of ws) l room
   unfolding written
-  read-as l e = ap (λ k. written-for o k room) e
+  read-as l e = ap (λ k. written-for o (form-of ws) k room) e
 
-  by-length : (cs : List Condition) (b : Bool) → ltb room (length (short-words o cs)) ≡ b
-      → written-for o (some cs) room ≡ cond b (refuse 31 room) (filled (short-words o cs) room)
-  by-length cs b e = ap (λ t. cond t (refuse 31 room) (filled (short-words o cs) room)) e
+  by-length : (cs : List Condition) (b : Bool) → ltb room (length (short-words o ws cs)) ≡ b
+      → written-for o (form-of ws) (some cs) room ≡ cond b (refuse 31 room) (filled (short-words o ws cs) room)
+  by-length cs b e = ap (λ t. cond t (refuse 31 room) (filled (short-words o ws cs) room)) e
 
   pub only-answer : (r : Written) → Answered o ws room r → written o ws room ≡ r
   only-answer r (torn h e) = read-as none (malformed-iff ws .1 h) ∙ sym e
   only-answer r (too-short cs w h e) =
-      read-as (some cs) (read-written ws cs w) ∙ by-length cs true (lt-ltb room (length (short-words o cs)) h) ∙ sym e
+      read-as (some cs) (read-written ws cs w) ∙ by-length cs true (lt-ltb room (length (short-words o ws cs)) h) ∙ sym e
   only-answer r (fits cs w h e) =
-      read-as (some cs) (read-written ws cs w) ∙ by-length cs false (le-ltb room (length (short-words o cs)) h) ∙ sym e
+      read-as (some cs) (read-written ws cs w) ∙ by-length cs false (le-ltb room (length (short-words o ws cs)) h) ∙ sym e
 
   pub answered-iff : (r : Written) → (written o ws room ≡ r) ↔ Answered o ws room r
   answered-iff r = (λ e. rw e at answered, only-answer r)
@@ -76,9 +76,9 @@ module _ (o : Order) (ws : List ℤ) (room : ℕ) where
   pub record Numbers : Type 0 where
     pub no-list : (written o ws room .number ≡ 20) ↔ ((cs : List Condition) → ¬ Well-formed ws cs)
     pub no-room : (written o ws room .number ≡ 31)
-        ↔ ((cs : List Condition) × Well-formed ws cs × (room < length (short-words o cs)))
+        ↔ ((cs : List Condition) × Well-formed ws cs × (room < length (short-words o ws cs)))
     pub planned : (written o ws room .number ≡ 0)
-        ↔ ((cs : List Condition) × Well-formed ws cs × (length (short-words o cs) ≤ room))
+        ↔ ((cs : List Condition) × Well-formed ws cs × (length (short-words o ws cs) ≤ room))
     pub no-other : let n = written o ws room .number in (n ≡ 0) ⊎ ((n ≡ 20) ⊎ (n ≡ 31))
 
   abbrev number : Written → ℕ
@@ -98,13 +98,13 @@ module _ (o : Order) (ws : List ℤ) (room : ℕ) where
       is-torn (fits cs w h e) k = let n = sym (ap number e) ∙ k in absurd (omega linear)
 
       is-short : {r : Written} → Answered o ws room r → r .number ≡ 31
-          → (cs : List Condition) × Well-formed ws cs × (room < length (short-words o cs))
+          → (cs : List Condition) × Well-formed ws cs × (room < length (short-words o ws cs))
       is-short (torn h e) k = let n = sym (ap number e) ∙ k in absurd (omega linear)
       is-short (too-short cs w h e) k = (cs, w, h)
       is-short (fits cs w h e) k = let n = sym (ap number e) ∙ k in absurd (omega linear)
 
       is-fit : {r : Written} → Answered o ws room r → r .number ≡ 0
-          → (cs : List Condition) × Well-formed ws cs × (length (short-words o cs) ≤ room)
+          → (cs : List Condition) × Well-formed ws cs × (length (short-words o ws cs) ≤ room)
       is-fit (torn h e) k = let n = sym (ap number e) ∙ k in absurd (omega linear)
       is-fit (too-short cs w h e) k = let n = sym (ap number e) ∙ k in absurd (omega linear)
       is-fit (fits cs w h e) k = (cs, w, h)
@@ -116,27 +116,29 @@ module _ (o : Order) (ws : List ℤ) (room : ℕ) where
 
   -- an output as long as the old list is never too short
   pub room-enough : (cs : List Condition) → Well-formed ws cs → length ws ≤ room
-      → written o ws room ≡ filled (short-words o cs) room
-  room-enough cs w h = only-answer _ (fits cs w (omega (linear, list-at-most o cs, ap length (w .spells))) refl)
+      → written o ws room ≡ filled (short-words o ws cs) room
+  room-enough cs w h = only-answer _ (fits cs w (omega (linear, list-at-most o (form-of ws) cs, ap length (w .spells))) refl)
 
   -- ---- number 0: the old list, and what the words used are and are read as
 
   pub record New-list (r : Written) : Type 0 where
     pub before : List Condition
     pub listed : Well-formed ws before
-    pub words : used-words r ≡ short-words o before
+    pub words : used-words r ≡ short-words o ws before
     pub read-again : read-list (used-words r) ≡ some (shorten-all o before)
+    pub same-form : form-of (used-words r) ≡ form-of ws
 
   pub new-list : written o ws room .number ≡ 0 → New-list (written o ws room)
   new-list z =
       let k = numbers .planned .0 z in
       let e = only-answer _ (fits (k .0) (k .1) (k .2) refl) in
-      let words = ap used-words e ∙ take-append-seam (short-words o (k .0)) _ in
+      let words = ap used-words e ∙ take-append-seam (short-words o ws (k .0)) _ in
       record {
         before = k .0;
         listed = k .1;
         words = words;
         read-again = ap read-list words ∙ read-written _ (shorten-all o (k .0)) (well-formed-shortened o ws (k .0) (k .1));
+        same-form = ap form-of words ∙ form-same o ws (k .0) (k .1);
       }
 
   pub written-length : length (written o ws room .list) ≡ room

@@ -3,11 +3,12 @@
 -- speak of every list. Assumes nothing.
 use mathlib.Core.Path.{sym, subst}
 use mathlib.Core.List.{List, [], _∷_, _++_}
-use lib.IntN.{ℤ, pos}
+use lib.IntN.{ℤ}
 use lib.ListN.{length}
 use Rattle.script.specs.Syntax.{Expr, const, var, mark, arith, neg, choose, Formula, truth, cmp, not, join}
 use Rattle.script.specs.Conditions.{Condition}
-use Rattle.script.specs.Words.{expr-words, formula-words, trailer, line-words, all-lines, list-words}
+use Rattle.script.specs.Words.{Form, expr-words, formula-words, trailer, line-words, all-lines, count-word, list-words}
+use Rattle.script.specs.Listing.{form-of}
 use Rattle.script.specs.WellFormed.{Well-formed}
 use Rattle.shortening.specs.Leaves.{Constants, Constantsᶠ}
 
@@ -61,15 +62,17 @@ module _ (In : ℤ → Type 0) where
   All-constants [] = Unit {0}
   All-constants (c ∷ cs) = Constantsᶠ In (c .claim) × All-constants cs
 
-  lines-constants : (cs : List Condition) → Each-word (all-lines cs) → All-constants cs
+  lines-constants : (form : Form) (cs : List Condition) → Each-word (all-lines form cs) → All-constants cs
   unfolding all-lines line-words
-  lines-constants [] h = tt
-  lines-constants (c ∷ cs) h =
-      let first = front (line-words c) (all-lines cs) h in
-      let rest = back (line-words c) (all-lines cs) h in
-      (constants-in (c .claim) (front (formula-words (c .claim)) (trailer c) first), lines-constants cs rest)
+  lines-constants form [] h = tt
+  lines-constants form (c ∷ cs) h =
+      let first = front (line-words form c) (all-lines form cs) h in
+      let rest = back (line-words form c) (all-lines form cs) h in
+      (constants-in (c .claim) (front (formula-words (c .claim)) (trailer form c) first), lines-constants form cs rest)
 
   pub list-constants : (ws : List ℤ) (cs : List Condition) → Well-formed ws cs → Each-word ws → All-constants cs
   unfolding list-words
   list-constants ws cs w h =
-      lines-constants cs (front (all-lines cs) (pos (length cs) ∷ []) (subst Each-word (sym (w .spells)) h))
+      let form = form-of ws in
+      let count = count-word form (length cs) ∷ [] in
+      lines-constants form cs (front (all-lines form cs) count (subst Each-word (sym (w .spells)) h))

@@ -15,7 +15,7 @@ use Rattle.script.specs.declared.Line.{Line}
 use Rattle.script.specs.Conditions.{Condition}
 use Rattle.script.specs.Words.{all-lines}
 use Rattle.script.specs.WellFormed.{Well-formed}
-use Rattle.script.specs.Listing.{read-list, no-line, line, line-at}
+use Rattle.script.specs.Listing.{form-of, read-list, no-line, line, line-at}
 use Rattle.theorems.specs.Line.{place}
 use Rattle.theorems.specs.ReadBack.{written-read, malformed-iff}
 use Rattle.theorems.specs.Lookup.{condition-at, line-at-index, line-at-past, line-at-negative, line-at-malformed}
@@ -34,15 +34,15 @@ abbrev pub Past : List Condition → ℤ → Type 0
 Past cs (pos k) = length cs ≤ k
 Past cs (negsuc k) = Unit {0}
 
--- where its formula begins
-abbrev pub start-at : List Condition → ℤ → ℕ
-start-at cs (pos k) = length (all-lines (take k cs))
-start-at cs (negsuc k) = 0
+-- where its formula begins in the words ws, which are the list of cs
+abbrev pub start-at : List ℤ → List Condition → ℤ → ℕ
+start-at ws cs (pos k) = length (all-lines (form-of ws) (take k cs))
+start-at ws cs (negsuc k) = 0
 
 data Looked (ws : List ℤ) (i : ℤ) (l : Line) : Type 0 where
   torn : ((cs : List Condition) → ¬ Well-formed ws cs) → l ≡ no-line 20 → Looked ws i l
   past : (cs : List Condition) → Well-formed ws cs → Past cs i → l ≡ no-line 21 → Looked ws i l
-  found : (cs : List Condition) (c : Condition) → Well-formed ws cs → At cs i c → l ≡ line (place (start-at cs i) c)
+  found : (cs : List Condition) (c : Condition) → Well-formed ws cs → At cs i c → l ≡ line (place (start-at ws cs i) c)
       → Looked ws i l
 
 looked : (ws : List ℤ) (i : ℤ) → Looked ws i (line-at ws i)
@@ -70,15 +70,15 @@ past-line ws (pos k) cs w h = line-at-past ws cs w k h
 past-line ws (negsuc k) cs w h = line-at-negative ws cs w k
 
 found-line : (ws : List ℤ) (i : ℤ) (cs : List Condition) (c : Condition) → Well-formed ws cs → At cs i c
-    → line-at ws i ≡ line (place (start-at cs i) c)
+    → line-at ws i ≡ line (place (start-at ws cs i) c)
 found-line ws (pos k) cs c w h = line-at-index ws cs w k c h
 found-line ws (negsuc k) cs c w h = absurd h
 
 -- ---- of two lists
 
--- the formula of c in the list of cs
-abbrev pub formula-part : Which → List Condition → ℤ → Condition → Part
-formula-part w cs i c = record { number = 0; which = w; start = start-at cs i; end = start-at cs i + sizeᶠ (c .claim) }
+-- the formula of c in the words ws, which are the list of cs
+abbrev pub formula-part : Which → List ℤ → List Condition → ℤ → Condition → Part
+formula-part w ws cs i c = let s = start-at ws cs i in record { number = 0; which = w; start = s; end = s + sizeᶠ (c .claim) }
 
 pub data Handed (us vs : List ℤ) (i : ℤ) (p : Part) : Type 0 where
   -- "20, then 21, for the old list"
@@ -91,18 +91,18 @@ pub data Handed (us vs : List ℤ) (i : ℤ) (p : Part) : Type 0 where
       → Well-formed vs ds → Past ds i → p ≡ no-part 21 → Handed us vs i p
   -- "hands back the shorter of the two as a part of the slice it stands in, the old one if equal"
   new-one : (cs : List Condition) (c : Condition) → Well-formed us cs → At cs i c → (ds : List Condition) (d : Condition)
-      → Well-formed vs ds → At ds i d → sizeᶠ (d .claim) < sizeᶠ (c .claim) → p ≡ formula-part new ds i d → Handed us vs i p
+      → Well-formed vs ds → At ds i d → sizeᶠ (d .claim) < sizeᶠ (c .claim) → p ≡ formula-part new vs ds i d → Handed us vs i p
   old-one : (cs : List Condition) (c : Condition) → Well-formed us cs → At cs i c → (ds : List Condition) (d : Condition)
-      → Well-formed vs ds → At ds i d → sizeᶠ (c .claim) ≤ sizeᶠ (d .claim) → p ≡ formula-part old cs i c → Handed us vs i p
+      → Well-formed vs ds → At ds i d → sizeᶠ (c .claim) ≤ sizeᶠ (d .claim) → p ≡ formula-part old us cs i c → Handed us vs i p
 
 -- found in both: the lengths compared are those of the formulas
-found-both : (i : ℤ) (cs : List Condition) (c : Condition) (ds : List Condition) (d : Condition) (a b : Line)
-    → a ≡ line (place (start-at cs i) c) → b ≡ line (place (start-at ds i) d)
+found-both : (us vs : List ℤ) (i : ℤ) (cs : List Condition) (c : Condition) (ds : List Condition) (d : Condition) (a b : Line)
+    → a ≡ line (place (start-at us cs i) c) → b ≡ line (place (start-at vs ds i) d)
     → (t : Bool) → ltb (sizeᶠ (d .claim)) (sizeᶠ (c .claim)) ≡ t
-    → part-for a b ≡ cond t (formula-part new ds i d) (formula-part old cs i c)
-found-both i cs c ds d a b e f t h =
-    let s = start-at cs i in
-    let q = start-at ds i in
+    → part-for a b ≡ cond t (formula-part new vs ds i d) (formula-part old us cs i c)
+found-both us vs i cs c ds d a b e f t h =
+    let s = start-at us cs i in
+    let q = start-at vs ds i in
     let m : s + sizeᶠ (c .claim) - s ≡ sizeᶠ (c .claim) = omega linear in
     let n : q + sizeᶠ (d .claim) - q ≡ sizeᶠ (d .claim) = omega linear in
     rw (e, f, m, n, h)
@@ -113,18 +113,18 @@ module _ (us vs : List ℤ) (i : ℤ) where
   handed = of-old (looked us i)
     where
       of-both : (cs : List Condition) (c : Condition) → Well-formed us cs → At cs i c
-          → line-at us i ≡ line (place (start-at cs i) c)
+          → line-at us i ≡ line (place (start-at us cs i) c)
           → (ds : List Condition) (d : Condition) → Well-formed vs ds → At ds i d
-          → line-at vs i ≡ line (place (start-at ds i) d)
+          → line-at vs i ≡ line (place (start-at vs ds i) d)
           → (t : Bool) → ltb (sizeᶠ (d .claim)) (sizeᶠ (c .claim)) ≡ t
           → Handed us vs i (part-for (line-at us i) (line-at vs i))
       of-both cs c w h e ds d v k f true t =
-          new-one cs c w h ds d v k (ltb-true _ _ t) (found-both i cs c ds d _ _ e f true t)
+          new-one cs c w h ds d v k (ltb-true _ _ t) (found-both us vs i cs c ds d _ _ e f true t)
       of-both cs c w h e ds d v k f false t =
-          old-one cs c w h ds d v k (ltb-false _ _ t) (found-both i cs c ds d _ _ e f false t)
+          old-one cs c w h ds d v k (ltb-false _ _ t) (found-both us vs i cs c ds d _ _ e f false t)
 
       of-new : (cs : List Condition) (c : Condition) → Well-formed us cs → At cs i c
-          → line-at us i ≡ line (place (start-at cs i) c)
+          → line-at us i ≡ line (place (start-at us cs i) c)
           → Looked vs i (line-at vs i) → Handed us vs i (part-for (line-at us i) (line-at vs i))
       of-new cs c w h e (torn k f) = new-torn cs c w h k (rw (e, f))
       of-new cs c w h e (past ds v k f) = new-past cs c w h ds v k (rw (e, f))
@@ -144,11 +144,11 @@ module _ (us vs : List ℤ) (i : ℤ) where
   only-part p (new-one cs c w h ds d v k l e) =
       let a = found-line us i cs c w h in
       let b = found-line vs i ds d v k in
-      found-both i cs c ds d _ _ a b true (lt-ltb (sizeᶠ (d .claim)) (sizeᶠ (c .claim)) l) ∙ sym e
+      found-both us vs i cs c ds d _ _ a b true (lt-ltb (sizeᶠ (d .claim)) (sizeᶠ (c .claim)) l) ∙ sym e
   only-part p (old-one cs c w h ds d v k l e) =
       let a = found-line us i cs c w h in
       let b = found-line vs i ds d v k in
-      found-both i cs c ds d _ _ a b false (le-ltb (sizeᶠ (d .claim)) (sizeᶠ (c .claim)) l) ∙ sym e
+      found-both us vs i cs c ds d _ _ a b false (le-ltb (sizeᶠ (d .claim)) (sizeᶠ (c .claim)) l) ∙ sym e
 
   pub handed-iff : (p : Part) → (shorter us vs i ≡ p) ↔ Handed us vs i p
   handed-iff p = (λ e. rw e at handed, only-part p)

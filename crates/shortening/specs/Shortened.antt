@@ -11,8 +11,8 @@ use lib.ListN.{length, take}
 use lib.Seq.{slice}
 use Rattle.script.specs.declared.Line.{Line}
 use Rattle.script.specs.Conditions.{Condition}
-use Rattle.script.specs.Words.{list-words}
-use Rattle.script.specs.Listing.{read-list, line-at}
+use Rattle.script.specs.Words.{Form, list-words}
+use Rattle.script.specs.Listing.{form-of, read-list, line-at}
 use Rattle.script.specs.Generated.{zeros}
 use Rattle.shortening.specs.Simplify.{Order, shorten-all}
 
@@ -36,12 +36,13 @@ abbrev pub fit : List ℤ → ℕ → Written
 fit ws room = cond (ltb room (length ws)) (refuse 31 room) (filled ws room)
 
 -- "after 20"; the words of the shortened conditions, so that "trailers get the new lengths"
-abbrev pub written-for : Order → Option (List Condition) → ℕ → Written
-written-for o none room = refuse 20 room
-written-for o (some cs) room = fit (list-words (shorten-all o cs)) room
+abbrev pub written-for : Order → Form → Option (List Condition) → ℕ → Written
+written-for o form none room = refuse 20 room
+written-for o form (some cs) room = fit (list-words form (shorten-all o cs)) room
 
+-- 02, P9: "P6 take both forms, P6 writing the one it read"
 unfoldable pub written : Order → List ℤ → ℕ → Written
-written o ws room = written-for o (read-list ws) room
+written o ws room = written-for o (form-of ws) (read-list ws) room
 
 -- the words used
 abbrev pub used-words : Written → List ℤ

@@ -16,7 +16,7 @@ use Rattle.script.specs.declared.Line.{Line}
 use Rattle.script.specs.Conditions.{Condition}
 use Rattle.script.specs.Words.{formula-words, all-lines, list-words}
 use Rattle.script.specs.WellFormed.{Well-formed}
-use Rattle.script.specs.Listing.{line, line-at, part-at}
+use Rattle.script.specs.Listing.{form-of, line, line-at, part-at}
 use Rattle.theorems.specs.Options.{none-is-not, some-inj}
 use Rattle.theorems.specs.Line.{place}
 use Rattle.theorems.specs.ReadBack.{read-written}
@@ -56,9 +56,9 @@ module _ (us vs : List ℤ) (cs ds : List Condition) (old-list : Well-formed us 
       let x = line-at-index us cs old-list i c p in
       let y = line-at-index vs ds new-list i d q in
       let m : line-at us (pos i) .end - line-at us (pos i) .start ≡ sizeᶠ (c .claim) =
-      ap (λ (l : Line). l .end - l .start) x ∙ part-length (length (all-lines (take i cs))) c in
+      ap (λ (l : Line). l .end - l .start) x ∙ part-length (length (all-lines (form-of us) (take i cs))) c in
       let n : line-at vs (pos i) .end - line-at vs (pos i) .start ≡ sizeᶠ (d .claim) =
-      ap (λ (l : Line). l .end - l .start) y ∙ part-length (length (all-lines (take i ds))) d in
+      ap (λ (l : Line). l .end - l .start) y ∙ part-length (length (all-lines (form-of vs) (take i ds))) d in
       found-in-both us vs (pos i) (ap (λ (l : Line). l .number) x) (ap (λ (l : Line). l .number) y)
       ∙ λ j. cond (ltb (n j) (m j)) (part-at-index vs ds new-list i d q j) (part-at-index us cs old-list i c p j)
 
@@ -70,11 +70,11 @@ shortened-at o (d ∷ cs) (suc i) c q = shortened-at o cs i c q
 
 -- over a list and the list that the pass makes of it
 pub own-list : (o : Order) (us : List ℤ) (cs : List Condition) → Well-formed us cs
-    → (i : ℕ) (c : Condition) → getElem? cs i ≡ some c → let vs = list-words (shorten-all o cs) in
+    → (i : ℕ) (c : Condition) → getElem? cs i ≡ some c → let vs = list-words (form-of us) (shorten-all o cs) in
     part-words us vs (shorter us vs (pos i)) ≡ formula-words (shortenᶠ o (c .claim))
 own-list o us cs w i c q =
     let ds = shorten-all o cs in
-    two-lists us (list-words ds) cs ds w (well-formed-shortened o us cs w) i c (shorten-condition o c) q (shortened-at o cs i c q)
+    two-lists us (list-words (form-of us) ds) cs ds w (well-formed-shortened o us cs w) i c (shorten-condition o c) q (shortened-at o cs i c q)
     ∙ of-test (ltb (sizeᶠ (shortenᶠ o (c .claim))) (sizeᶠ (c .claim))) refl
   where
     of-test : (t : Bool) → ltb (sizeᶠ (shortenᶠ o (c .claim))) (sizeᶠ (c .claim)) ≡ t

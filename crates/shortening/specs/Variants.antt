@@ -1,7 +1,7 @@
--- The pass with what a wrong turn changes as arguments: the rules (`Rules`), which form of a part they look at (`Seen`),
--- the trailer (`Trailed`), and the answer (`Answering`). With the right ones it is the pass defined (`right-pass`). A
--- wrong turn is a change of one of them (`Wrong`, `WrongAnswers`), and is told from the pass defined by another answer at
--- one list and room (`all-told`). Assumes nothing.
+-- The pass with what a wrong turn changes as arguments: the rules (`Rules`), whether they look at a part as it was or as it
+-- became (`Seen`), the trailer (`Trailed`), the form that is written (`Formed`), and the answer (`Answering`). With the
+-- right ones it is the pass defined (`right-pass`). A wrong turn is a change of one of them (`Wrong`, `WrongAnswers`), and
+-- is told from the pass defined by another answer at one list and room (`all-told`). Assumes nothing.
 use Prim.Native.Nat.{ℕ}
 use mathlib.Core.Path.{_≡_, refl, sym, ap}
 use mathlib.Core.Logic.{_≢_}
@@ -16,8 +16,8 @@ use Rattle.script.specs.declared.Operator.{Operator}
 use Rattle.script.specs.declared.Connective.{Connective}
 use Rattle.script.specs.Syntax.{Expr, const, var, mark, arith, neg, choose, Formula, truth, cmp, not, join}
 use Rattle.script.specs.Conditions.{Condition, condition}
-use Rattle.script.specs.Words.{formula-words, trailer, line-words, all-lines, list-words}
-use Rattle.script.specs.Listing.{_>>=_, read-list}
+use Rattle.script.specs.Words.{Form, formula-words, trailer, line-words, all-lines, count-word, list-words}
+use Rattle.script.specs.Listing.{_>>=_, form-of, read-list}
 use Rattle.theorems.specs.Truths.{both}
 use Rattle.theorems.specs.Differ.{other, told}
 use Rattle.shortening.specs.Simplify.{Rule, pick, Change, Truth-change, shape, truth-shape, order, arith-rules, join-rules, arith-changed, join-changed, arith-node, join-node, not-node, shorten, shortenᶠ, shorten-all}
@@ -39,9 +39,13 @@ pub record Seen : Type 0 where
   pub expression : Expr → Expr → Expr
   pub claim : Formula → Formula → Formula
 
--- of the old condition and the new one
+-- of the form, the old condition and the new one
 abbrev pub Trailed : Type 0
-Trailed = Condition → Condition → List ℤ
+Trailed = Form → Condition → Condition → List ℤ
+
+-- the form that is written, of the one that is read
+abbrev pub Formed : Type 0
+Formed = Form → Form
 
 -- of the words, the words of the new list, or none where they are no list, and the room
 abbrev pub Answering : Type 0
@@ -72,18 +76,18 @@ module _ (R : Rules) (S : Seen) where
         c (shorten-byᶠ f) (shorten-byᶠ g)
 
   abbrev pub condition-by : Condition → Condition
-  condition-by c = condition (c .rule) (c .row) (shorten-byᶠ (c .claim))
+  condition-by c = condition (c .rule) (c .row) (c .depth) (shorten-byᶠ (c .claim))
 
   module _ (trailed : Trailed) where
-    unfoldable pub lines-by : List Condition → List ℤ
-    lines-by [] = []
-    lines-by (c ∷ cs) = (formula-words (shorten-byᶠ (c .claim)) ++ trailed c (condition-by c)) ++ lines-by cs
+    unfoldable pub lines-by : Form → List Condition → List ℤ
+    lines-by form [] = []
+    lines-by form (c ∷ cs) = (formula-words (shorten-byᶠ (c .claim)) ++ trailed form c (condition-by c)) ++ lines-by form cs
 
-    abbrev pub list-by : List Condition → List ℤ
-    list-by cs = lines-by cs ++ (pos (length cs) ∷ [])
+    abbrev pub list-by : Form → List Condition → List ℤ
+    list-by form cs = lines-by form cs ++ (count-word form (length cs) ∷ [])
 
-    unfoldable pub pass-by : Answering → List ℤ → ℕ → Written
-    pass-by answering ws room = answering ws (read-list ws >>= λ cs. some (list-by cs)) room
+    unfoldable pub pass-by : Formed → Answering → List ℤ → ℕ → Written
+    pass-by formed answering ws room = answering ws (read-list ws >>= λ cs. some (list-by (formed (form-of ws)) cs)) room
 
 -- ---- the right ones
 
@@ -94,7 +98,10 @@ abbrev pub right-seen : Seen
 right-seen = record { expression = λ a x. x; claim = λ f x. x }
 
 abbrev pub right-trailed : Trailed
-right-trailed c d = trailer d
+right-trailed form c d = trailer form d
+
+abbrev pub right-formed : Formed
+right-formed form = form
 
 abbrev pub right-answer : Answering
 right-answer ws none room = refuse 20 room
@@ -117,27 +124,30 @@ mutual
   right-shortenᶠ (not f) = λ i. not-node (right-shortenᶠ f i)
   right-shortenᶠ (join c f g) = λ i. join-node c (right-shortenᶠ f i) (right-shortenᶠ g i)
 
-right-lines : (cs : List Condition) → lines-by right-rules right-seen right-trailed cs ≡ all-lines (shorten-all order cs)
-unfolding lines-by all-lines line-words
-right-lines [] = refl
-right-lines (c ∷ cs) =
-    let line : Formula → List ℤ = λ f. formula-words f ++ trailer (condition (c .rule) (c .row) f) in
-    λ i. line (right-shortenᶠ (c .claim) i) ++ right-lines cs i
+module _ (form : Form) where
+  right-lines : (cs : List Condition)
+      → lines-by right-rules right-seen right-trailed form cs ≡ all-lines form (shorten-all order cs)
+  unfolding lines-by all-lines line-words
+  right-lines [] = refl
+  right-lines (c ∷ cs) =
+      let line : Formula → List ℤ = λ f. formula-words f ++ trailer form (condition (c .rule) (c .row) (c .depth) f) in
+      λ i. line (right-shortenᶠ (c .claim) i) ++ right-lines cs i
 
-right-list : (cs : List Condition) → list-by right-rules right-seen right-trailed cs ≡ list-words (shorten-all order cs)
-unfolding list-words
-right-list cs = let count = sym (count-same order cs) in λ i. right-lines cs i ++ (pos (count i) ∷ [])
+  right-list : (cs : List Condition)
+      → list-by right-rules right-seen right-trailed form cs ≡ list-words form (shorten-all order cs)
+  unfolding list-words
+  right-list cs = let count = sym (count-same order cs) in λ i. right-lines cs i ++ (count-word form (count i) ∷ [])
 
 pub right-pass : (ws : List ℤ) (room : ℕ)
-    → pass-by right-rules right-seen right-trailed right-answer ws room ≡ written order ws room
+    → pass-by right-rules right-seen right-trailed right-formed right-answer ws room ≡ written order ws room
 unfolding pass-by written
 right-pass ws room = of-list (read-list ws)
   where
     of-list : (l : Option (List Condition))
-        → right-answer ws (l >>= λ cs. some (list-by right-rules right-seen right-trailed cs)) room
-        ≡ written-for order l room
+        → right-answer ws (l >>= λ cs. some (list-by right-rules right-seen right-trailed (form-of ws) cs)) room
+        ≡ written-for order (form-of ws) l room
     of-list none = refl
-    of-list (some cs) = ap (λ us. fit us room) (right-list cs)
+    of-list (some cs) = ap (λ us. fit us room) (right-list (form-of ws) cs)
 
 -- ---- a wrong turn, with a list and a room
 

@@ -1,5 +1,5 @@
 -- The hypotheses of `generated-through`, `solved-through` and `verdicts-through` can hold, with a list that does shorten
--- and a loop whose body is begun: for `rows`, a list of 76 words is left, and its shortened list has 57 (`shortened`).
+-- and a loop whose body is begun: for `rows`, a list of 80 words is left, and its shortened list has 61 (`shortened`).
 -- The four shortened conditions are true in all states (`valid`), so for each of them a text is written whose script has
 -- no model (`refuted`), and every run keeps the promise (`promised`, `solved-promised`, `refuted-promised`); from the
 -- start with v0 = 1 the body is begun (`run`). Assumes nothing.
@@ -50,13 +50,13 @@ rows =
     ⨾ (2, 0, 0, 0) ⨾ (1, 0, 0, 0) ⨾ (19, 14, 15, 0) ⨾ (48, 0, 13, 16) ⨾ []
 
 abbrev pub left : Outcome
-left = outcome rows 76 228
+left = outcome rows 80 228
 
 abbrev pub old-words : List ℤ
 old-words = take (left .answer .words) (left .list)
 
 abbrev pub short : Written
-short = written order old-words 57
+short = written order old-words 61
 
 abbrev guard : Formula
 guard = cmp Less (const (pos 0)) (var 0)
@@ -67,16 +67,16 @@ one-less = arith Minus (var 0) (const (pos 1))
 -- the shortened conditions: no true and no - 0 is left but in the last, which is true
 abbrev claims : List Condition
 claims =
-    condition Exit 13 (join Implies (not guard) (cmp AtMost (var 0) (const (pos 0))))
-    ∷ condition Floor 13 (join Implies guard (cmp AtMost (const (pos 0)) (var 0)))
-    ∷ condition Step 13 (join Implies (join And guard (cmp Equal (var 0) (mark 13))) (cmp Less one-less (mark 13)))
-    ∷ condition Main 17 (truth true) ∷ []
+    condition Exit 13 0 (join Implies (not guard) (cmp AtMost (var 0) (const (pos 0))))
+    ∷ condition Floor 13 0 (join Implies guard (cmp AtMost (const (pos 0)) (var 0)))
+    ∷ condition Step 13 0 (join Implies (join And guard (cmp Equal (var 0) (mark 13))) (cmp Less one-less (mark 13)))
+    ∷ condition Main 17 0 (truth true) ∷ []
 
-pub planned : (left .answer .number ≡ 0) × (left .answer .words ≡ 76) × (left .answer .conditions ≡ 4)
+pub planned : (left .answer .number ≡ 0) × (left .answer .words ≡ 80) × (left .answer .conditions ≡ 4)
 unfolding rows _⨾_ outcome-within outcome-for verdict-within length-test row-test-within script-test unlinked-test target-test reading-test nesting-test lowest row-fault-within linked misread misreads nesting row row-of expr formula stmt expr-at formula-at stmt-at tree conditions walk wp divisors divisorsᶠ subst-expr subst-formula list-words all-lines line-words expr-words formula-words
 planned = (refl, refl, refl)
 
-pub shortened : (short .number ≡ 0) × (short .used ≡ 57) × (read-list (used-words short) ≡ some claims)
+pub shortened : (short .number ≡ 0) × (short .used ≡ 61) × (read-list (used-words short) ≡ some claims)
 unfolding rows _⨾_ outcome-within outcome-for verdict-within length-test row-test-within script-test unlinked-test target-test reading-test nesting-test lowest row-fault-within linked misread misreads nesting row row-of expr formula stmt expr-at formula-at stmt-at tree conditions walk wp divisors divisorsᶠ subst-expr subst-formula list-words all-lines line-words expr-words formula-words read-expr-within read-formula-within spelled-within found-within line-before-within lines-before-within lines-within read-list written shorten arith-node join-node not-node
 shortened = (refl, refl, refl)
 
@@ -112,19 +112,19 @@ list-valid cs r = subst (All-valid whole) (some-inj (sym (shortened .2) ∙ r)) 
 
 -- so for each a text is written whose script has no model
 pub refuted : (i : ℕ) → i < left .answer .conditions → Refuted (used-words short) i
-refuted = verdicts-iff order rows 76 228 57 (planned .0) (shortened .0) .1 list-valid
+refuted = verdicts-iff order rows 80 228 61 (planned .0) (shortened .0) .1 list-valid
 
 -- ---- so the promise is kept
 
 pub promised : (s : State) → T (holds whole s (tree rows .pre)) → Total-correctness whole (tree rows) s
-promised = generated-through order rows 76 228 57 (planned .0) (shortened .0) list-valid
+promised = generated-through order rows 80 228 61 (planned .0) (shortened .0) list-valid
 
 pub solved-promised : (s : State) → T (holds whole s (tree rows .pre)) → Total-correctness whole (tree rows) s
 solved-promised =
-    solved-through order rows 76 228 57 (planned .0) (shortened .0) λ cs r. unsatisfiable-iff cs .1 (list-valid cs r)
+    solved-through order rows 80 228 61 (planned .0) (shortened .0) λ cs r. unsatisfiable-iff cs .1 (list-valid cs r)
 
 pub refuted-promised : (s : State) → T (holds whole s (tree rows .pre)) → Total-correctness whole (tree rows) s
-refuted-promised = verdicts-through order rows 76 228 57 (planned .0) (shortened .0) refuted
+refuted-promised = verdicts-through order rows 80 228 61 (planned .0) (shortened .0) refuted
 
 -- ---- with a start, from which the body is begun
 

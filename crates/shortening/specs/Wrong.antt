@@ -15,17 +15,17 @@ use Rattle.script.specs.Syntax.{Expr, const, var, mark, arith, neg, choose, For
 use Rattle.script.specs.Meaning.{eqZ}
 use Rattle.script.specs.Conditions.{condition}
 use Rattle.script.specs.Rows.{row-of}
-use Rattle.script.specs.Words.{op-word, conn-word, expr-words, formula-words, line-words, all-lines, list-words}
+use Rattle.script.specs.Words.{op-word, conn-word, with-depth, expr-words, formula-words, line-words, all-lines, list-words}
 use Rattle.script.specs.Listing.{read-list, read-expr-within, read-formula-within, spelled-within, found-within, line-before-within, lines-before-within, lines-within}
 use Rattle.shortening.specs.Simplify.{constant-0, constant-1, is-false, any, only, Rule, rule, Change, Truth-change, Order, zero-minus-first, minus-zero-first, order, arith-rules, join-rules, arith-node, join-node, not-node, shorten}
 use Rattle.shortening.specs.Simplify as Simplify
 use Rattle.shortening.specs.Shortened.{written}
-use Rattle.shortening.specs.Variants.{Rules, shorten-by, lines-by, pass-by, right-rules, right-seen, right-trailed, right-answer, Pass, Wrong, Other-answers, all-told}
+use Rattle.shortening.specs.Variants.{Rules, shorten-by, lines-by, pass-by, right-rules, right-seen, right-trailed, right-formed, right-answer, Pass, Wrong, Other-answers, all-told}
 
 -- ---- wrong rules
 
 abbrev ruled : Rules → Pass
-ruled R = pass-by R right-seen right-trailed right-answer
+ruled R = pass-by R right-seen right-trailed right-formed right-answer
 
 -- the rules of one operator, or of one connective, changed
 abbrev of-operator : Operator → (List (Rule Change) → List (Rule Change)) → Pass
@@ -132,13 +132,13 @@ constant-negated = with-parts not-node of-constant
 -- ---- "parts first": the rules look at the parts as they were
 
 abbrev pub parts-not-first : Pass
-parts-not-first = pass-by right-rules (record { expression = λ a x. a; claim = λ f x. f }) right-trailed right-answer
+parts-not-first = pass-by right-rules (record { expression = λ a x. a; claim = λ f x. f }) right-trailed right-formed right-answer
 
 -- ---- each with a formula
 
--- by main of row 0, with room for 32 words
+-- by main of row 0, in the form of 02, P9, with room for 32 words
 abbrev at-formula : Pass → Formula → Wrong
-at-formula p f = record { pass = p; words = list-words (condition Main 0 f ∷ []); room = 32 }
+at-formula p f = record { pass = p; words = list-words with-depth (condition Main 0 0 f ∷ []); room = 32 }
 
 -- in the place of E, with E = E
 abbrev at-expression : Pass → Expr → Wrong

@@ -1,4 +1,4 @@
--- Wrong answers of 02, P6: trailers, 20 and 31 and the output, each told from the right ones at one list and room
+-- Wrong answers of 02, P6: trailers, the form, 20 and 31 and the output, each told from the right ones at one list and room
 -- (`other-answers`). Assumes nothing.
 use Prim.Native.Nat.{ℕ, _-_}
 use mathlib.Core.Option.{none, some}
@@ -7,33 +7,52 @@ use mathlib.Core.Bool.{cond}
 use lib.IntN.{ℤ, pos}
 use lib.Dec.{eqb, ltb}
 use lib.ListN.{length, take, drop}
-use Rattle.script.specs.Computed.{numbers}
+use Rattle.script.specs.Computed.{numbers, counted-down}
 use Rattle.script.specs.Rows.{row-of}
-use Rattle.script.specs.Words.{rule-number, expr-words, formula-words, line-words, all-lines, list-words}
+use Rattle.script.specs.Words.{rule-number, Form, without-depth, with-depth, depth-words, expr-words, formula-words, line-words, all-lines, list-words}
 use Rattle.script.specs.Listing.{read-list, read-expr-within, read-formula-within, spelled-within, found-within, line-before-within, lines-before-within, lines-within}
 use Rattle.shortening.specs.Simplify.{rule, arith-node, join-node, not-node, shorten}
 use Rattle.shortening.specs.Shortened.{refuse, filled, written}
-use Rattle.shortening.specs.Variants.{Trailed, Answering, shorten-by, lines-by, pass-by, right-rules, right-seen, right-trailed, right-answer, Pass, Wrong, Other-answers, all-told}
-use Rattle.shortening.specs.ListFigures.{padded, three}
+use Rattle.shortening.specs.Variants.{Trailed, Formed, Answering, shorten-by, lines-by, pass-by, right-rules, right-seen, right-trailed, right-formed, right-answer, Pass, Wrong, Other-answers, all-told}
+use Rattle.shortening.specs.ListFigures.{padded, three, deep}
 
 -- ---- wrong trailers
 
 abbrev trailing : Trailed → Pass
-trailing t = pass-by right-rules right-seen t right-answer
+trailing t = pass-by right-rules right-seen t right-formed right-answer
+
+-- with kind, row, length and depth so
+abbrev trailing-words : ℕ → ℕ → ℕ → ℕ → Form → List ℤ
+trailing-words k r n d form = pos k ∷ pos r ∷ pos n ∷ depth-words form d
 
 abbrev pub old-length : Pass
-old-length = trailing λ c d. pos (rule-number (d .rule)) ∷ pos (d .row) ∷ pos (length (formula-words (c .claim))) ∷ []
+old-length =
+    trailing λ form c d. trailing-words (rule-number (d .rule)) (d .row) (length (formula-words (c .claim))) (d .depth) form
 
 abbrev pub row-lost : Pass
-row-lost = trailing λ c d. pos (rule-number (d .rule)) ∷ pos 0 ∷ pos (length (formula-words (d .claim))) ∷ []
+row-lost = trailing λ form c d. trailing-words (rule-number (d .rule)) 0 (length (formula-words (d .claim))) (d .depth) form
 
 abbrev pub kind-lost : Pass
-kind-lost = trailing λ c d. pos 4 ∷ pos (d .row) ∷ pos (length (formula-words (d .claim))) ∷ []
+kind-lost = trailing λ form c d. trailing-words 4 (d .row) (length (formula-words (d .claim))) (d .depth) form
+
+abbrev pub depth-lost : Pass
+depth-lost = trailing λ form c d. trailing-words (rule-number (d .rule)) (d .row) (length (formula-words (d .claim))) 0 form
+
+-- ---- wrong forms
+
+abbrev forming : Formed → Pass
+forming f = pass-by right-rules right-seen right-trailed f right-answer
+
+abbrev pub always-old-form : Pass
+always-old-form = forming λ form. without-depth
+
+abbrev pub always-new-form : Pass
+always-new-form = forming λ form. with-depth
 
 -- ---- wrong answers
 
 abbrev answering : Answering → Pass
-answering = pass-by right-rules right-seen right-trailed
+answering = pass-by right-rules right-seen right-trailed right-formed
 
 -- 31 for an output of no words, before 20
 abbrev pub room-first : Pass
@@ -82,6 +101,9 @@ wrongs =
     at-words old-length padded 5
     ∷ at-words row-lost three 24
     ∷ at-words kind-lost three 24
+    ∷ at-words depth-lost deep 27
+    ∷ at-words always-old-form deep 27
+    ∷ at-words always-new-form padded 6
     ∷ at-words room-first (pos 16 ∷ padded) 0
     ∷ at-words old-list-measured padded 5
     ∷ at-words exact-fit-refused padded 5
@@ -90,5 +112,5 @@ wrongs =
     ∷ []
 
 pub other-answers : Other-answers wrongs
-unfolding wrongs padded three numbers row-of list-words all-lines line-words expr-words formula-words read-expr-within read-formula-within spelled-within found-within line-before-within lines-before-within lines-within read-list written shorten arith-node join-node not-node shorten-by lines-by pass-by
+unfolding wrongs padded three deep counted-down numbers row-of list-words all-lines line-words expr-words formula-words read-expr-within read-formula-within spelled-within found-within line-before-within lines-before-within lines-within read-list written shorten arith-node join-node not-node shorten-by lines-by pass-by
 other-answers = all-told wrongs tt

@@ -7,13 +7,13 @@ use mathlib.Core.Bool.{Bool, true, cond, _&&_}
 use lib.IntN.{ℤ, pos, negsuc}
 use lib.Dec.{T, eqb, ltb}
 use Rattle.script.specs.declared.Line.{Line}
-use Rattle.script.specs.Computed.{numbers}
+use Rattle.script.specs.Computed.{numbers, counted-down}
 use Rattle.script.specs.Rows.{row-of}
-use Rattle.script.specs.Listing.{read-expr-within, read-formula-within, spelled-within, found-within, line-before-within, lines-before-within, lines-within, line-at, line-at-within}
+use Rattle.script.specs.Listing.{trailer-length, form-of, read-expr-within, read-formula-within, spelled-within, found-within, line-before-within, lines-before-within, lines-within, line-at, line-at-within}
 use Rattle.theorems.specs.Truths.{both}
 use Rattle.theorems.specs.Differ.{other, told}
 use Rattle.shortening.specs.Shortened.{Which, old, new, Part, no-part, part, part-for, shorter}
-use Rattle.shortening.specs.ListFigures.{padded, plain, three, three-short}
+use Rattle.shortening.specs.ListFigures.{padded, plain, three, three-short, deep-short}
 
 abbrev Entry : Type 0
 Entry = List ℤ → List ℤ → ℤ → Part
@@ -68,6 +68,11 @@ abbrev pub torn-new-is-longer : Entry
 torn-new-is-longer =
     of-lines λ a b. cond (eqb (a .number) 0 && eqb (b .number) 20) (part old a) (part-for a b)
 
+-- 02, P9: lists of two forms taken for torn
+abbrev pub forms-must-agree : Entry
+forms-must-agree us vs i =
+    cond (eqb (trailer-length (form-of us)) (trailer-length (form-of vs))) (shorter us vs i) (no-part 20)
+
 pub record Wrong-entry : Type 0 where
   pub entry : Entry
   pub before : List ℤ
@@ -89,6 +94,7 @@ wrong-entries =
     ∷ at-lists index-first [] plain (negsuc 0)
     ∷ at-lists new-refused-first [] plain (pos 1)
     ∷ at-lists torn-new-is-longer padded [] (pos 0)
+    ∷ at-lists forms-must-agree three deep-short (pos 1)
     ∷ []
 
 -- what it hands back, and what is to be handed back
@@ -121,5 +127,5 @@ all-parts-told (w ∷ ws) h =
     (told part-told _ _ (k .0), all-parts-told ws (k .1))
 
 pub other-parts : Other-parts wrong-entries
-unfolding wrong-entries padded plain three three-short numbers row-of read-expr-within read-formula-within spelled-within found-within line-before-within lines-before-within lines-within line-at-within shorter
+unfolding wrong-entries padded plain three three-short deep-short counted-down numbers row-of read-expr-within read-formula-within spelled-within found-within line-before-within lines-before-within lines-within line-at-within shorter
 other-parts = all-parts-told wrong-entries tt

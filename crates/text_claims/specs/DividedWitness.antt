@@ -80,11 +80,11 @@ body = assign 0 (arith Minus (var 0) (var 1))
 
 abbrev claims : List Condition
 claims =
-    condition Guard 21 (join Implies positive divisor-unequal)
-    ∷ condition Exit 21 (exit guard positive (cmp Less (var 0) (var 1)))
-    ∷ condition Floor 21 (floor guard positive (var 0))
-    ∷ condition Step 21 (step 21 guard positive (var 0) body)
-    ∷ condition Main 26 (join Implies positive (wp (assign 0 (arith Div (var 2) (var 1))) positive)) ∷ []
+    condition Guard 21 0 (join Implies positive divisor-unequal)
+    ∷ condition Exit 21 0 (exit guard positive (cmp Less (var 0) (var 1)))
+    ∷ condition Floor 21 0 (floor guard positive (var 0))
+    ∷ condition Step 21 0 (step 21 guard positive (var 0) body)
+    ∷ condition Main 26 0 (join Implies positive (wp (assign 0 (arith Div (var 2) (var 1))) positive)) ∷ []
 
 is-planned : Planned (generated rows 512 1536) × (generated rows 512 1536 .answer .conditions ≡ 5)
     × (read-list (list-left (generated rows 512 1536)) ≡ some claims)

@@ -1,6 +1,6 @@
 -- The hypotheses of `short-text-runs`, `solved-short-text-runs` and `refuted-short-text-runs` can hold, with a list that
 -- does shorten and a loop whose body is begun: the text is read into the rows of the `Witness` of `shortening`, whose
--- list of 76 words is shortened to 57. So every run of its script keeps the promise (`promised`, `solved-promised`,
+-- list of 80 words is shortened to 61. So every run of its script keeps the promise (`promised`, `solved-promised`,
 -- `refuted-promised`); from the start with v0 = 1 the body is begun (`run`). Assumes nothing.
 use Prim.Native.Nat.{ℕ}
 use mathlib.Core.Path.{_≡_, refl, subst}
@@ -38,15 +38,15 @@ is-read = refl
 -- ---- so the promise is kept
 
 pub promised : (x : Phrase) → Reading text x → Keeps-promise whole (text-tree x)
-promised = short-text-runs order 72 text rows is-read 76 228 (planned .0) 57 (shortened .0) whole whole-law list-valid
+promised = short-text-runs order 72 text rows is-read 80 228 (planned .0) 61 (shortened .0) whole whole-law list-valid
 
 pub solved-promised : (x : Phrase) → Reading text x → Keeps-promise whole (text-tree x)
 solved-promised =
-    solved-short-text-runs order 72 text rows is-read 76 228 (planned .0) 57 (shortened .0)
+    solved-short-text-runs order 72 text rows is-read 80 228 (planned .0) 61 (shortened .0)
     λ cs r. unsatisfiable-iff cs .1 (list-valid cs r)
 
 pub refuted-promised : (x : Phrase) → Reading text x → Keeps-promise whole (text-tree x)
-refuted-promised = refuted-short-text-runs order 72 text rows is-read 76 228 (planned .0) 57 (shortened .0) refuted
+refuted-promised = refuted-short-text-runs order 72 text rows is-read 80 228 (planned .0) 61 (shortened .0) refuted
 
 pub run : (x : Phrase) × Reading text x × Total-correctness whole (text-tree x) ones × Body-begun (text-tree x)
 run =

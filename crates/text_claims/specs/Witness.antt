@@ -1,5 +1,5 @@
 -- The hypotheses of `text-runs`, `solved-text-runs` and `refuted-text-runs` can hold, with a loop whose body is begun: 01's example A
--- as a text is read into 01's rows, planned in 94 words, and its four conditions are true in all states, so that each has a text
+-- as a text is read into 01's rows, planned in 98 words, and its four conditions are true in all states, so that each has a text
 -- whose script has no model (the `Witness` of `smt`). So every run of its script from a start with 0 <= v0 keeps the promise
 -- (`promised`, `solved-promised`, `refuted-promised`); from the start with v0 = 1 the body is begun (`run`). Assumes nothing.
 use Prim.Native.Nat.{ℕ}
@@ -34,13 +34,13 @@ is-read = refl
 -- ---- so the promise is kept
 
 pub promised : (x : Phrase) → Reading text x → Keeps-promise whole (text-tree x)
-promised = text-runs 80 text example-a is-read 94 282 (planned .0) whole list-valid
+promised = text-runs 80 text example-a is-read 98 282 (planned .0) whole list-valid
 
 pub solved-promised : (x : Phrase) → Reading text x → Keeps-promise whole (text-tree x)
-solved-promised = solved-text-runs 80 text example-a is-read 94 282 (planned .0) λ cs r. unsatisfiable-iff cs .1 (list-valid cs r)
+solved-promised = solved-text-runs 80 text example-a is-read 98 282 (planned .0) λ cs r. unsatisfiable-iff cs .1 (list-valid cs r)
 
 pub refuted-promised : (x : Phrase) → Reading text x → Keeps-promise whole (text-tree x)
-refuted-promised = refuted-text-runs 80 text example-a is-read 94 282 (planned .0) refuted
+refuted-promised = refuted-text-runs 80 text example-a is-read 98 282 (planned .0) refuted
 
 pub run : (x : Phrase) × Reading text x × Total-correctness whole (text-tree x) ones × Body-begun (text-tree x)
 run =
