@@ -1,22 +1,24 @@
--- A list walked from the front. From each place that the walk reaches, the list has the lines of the conditions that are
--- left, and then its count (`Ahead`). The formula at the front ends where `formula-back` says, so the words after it are its
--- trailer, and past that the conditions but the first are left (`turn`). Assumes nothing.
+-- A list, in either form, walked from the front. From each place that the walk reaches, the list has the lines of the conditions
+-- that are left, and then its count (`Ahead`). The formula at the front ends where `formula-back` says, so the words after it are
+-- its trailer, and past that the conditions but the first are left (`turn`). Assumes nothing.
 use Prim.Native.Nat.{ℕ, _+_, _*_, _-_, _≤_, _<_}
-use mathlib.Core.Path.{_≡_, refl, sym, ap, _∙_}
+use mathlib.Core.Path.{_≡_, refl, sym, ap, _∙_, subst}
 use mathlib.Core.Option.{some}
 use mathlib.Core.List.{List, [], _∷_, _++_, append-assoc}
 use native.Mathlib.Nat.{add-zero}
 use native.Mathlib.Omega.{arith as linear}
 use lib.IntN.{ℤ, pos}
 use lib.ListN.{length, getD, take, drop, length-append, length-drop}
-use lib.Seq.{getD-drop, drop-drop, take-append-seam}
+use lib.Seq.{getD-drop, drop-drop, take-append-seam, drop-append-seam}
 use Rattle.script.specs.Rows.{field-number, variables}
 use Rattle.script.specs.Conditions.{Condition}
-use Rattle.script.specs.Words.{formula-words, rule-number, trailer, line-words, all-lines, list-words}
+use Rattle.script.specs.Words.{formula-words, rule-number, Form, without-depth, with-depth, trailer, line-words, all-lines, count-word, list-words}
+use Rattle.script.specs.Listing.{trailer-length, form-of}
 use Rattle.script.specs.WellFormed.{All-in-range, In-rangeᶠ}
 use Rattle.script.specs.Syntax.{Formula}
 use Rattle.theorems.specs.Writing.{Wrote, Left, wrote-nothing, then}
 use Rattle.theorems.specs.Reading.{formula-back}
+use Rattle.list_reader.specs.Lines.{Tail}
 use Rattle.list_reader.specs.Ends.{rest-of, after-formula, Formula-ends, left-after, ends-past}
 use Rattle.printer.specs.Text.{line, name-of, lines, conditions-in, Listed}
 use Rattle.printer.specs.Output.{conditions-back}
@@ -25,15 +27,15 @@ use Rattle.printer.proofs.Lines.{name-is}
 -- from the place i on, ws has the lines of cs, and then its count
 pub record Ahead (ws : List ℤ) (i : ℕ) (cs : List Condition) : Type 0 where
   pub count : ℤ
-  pub words : drop i ws ≡ all-lines cs ++ (count ∷ [])
-  pub ranges : All-in-range cs
+  pub words : drop i ws ≡ all-lines (form-of ws) cs ++ (count ∷ [])
+  pub ranges : All-in-range (form-of ws) cs
 
 pub all-ahead : (ws : List ℤ) → Listed ws → Ahead ws 0 (conditions-in ws)
 unfolding list-words
 all-ahead ws l =
     let cs = l .conditions in
     let w = l .well-formed in
-    rw (conditions-back ws cs w) (record { count = pos (length cs); words = sym (w .spells); ranges = w .ranges })
+    rw (conditions-back ws cs w) (record { count = count-word (form-of ws) (length cs); words = sym (w .spells); ranges = w .ranges })
 
 -- ---- where the formula at the front ends
 
@@ -63,32 +65,39 @@ module _ (ws tail : List ℤ) (i e : ℕ) (f : Formula) (range : In-rangeᶠ f) 
   words-past : (k : ℕ) → drop (e + k) ws ≡ drop k tail
   words-past k = sym (drop-drop k e ws) ∙ ap (λ l. drop k l) (sym (end-is .0))
 
--- ---- a turn of the walk
+-- ---- a turn of the walk, past a trailer of n words
 
-pub record Turn (ws : List ℤ) (i e : ℕ) (cs : List Condition) : Type 0 where
+pub record Turn (ws : List ℤ) (i e n : ℕ) (cs : List Condition) : Type 0 where
   pub first : Condition
   pub others : List Condition
   pub is : cs ≡ first ∷ others
   pub forward : i < e
-  pub inside : e + 3 < length ws
+  pub inside : e + n < length ws
   pub kind : getD ws e (pos 0) ≡ pos (rule-number (first .rule))
   pub row : getD ws (e + 1) (pos 0) ≡ pos (first .row)
   pub formula : take (e - i) (drop i ws) ≡ formula-words (first .claim)
   pub size : length (take (e - i) (drop i ws)) ≡ e - i
-  pub ahead : Ahead ws (e + 3) others
+  pub ahead : Ahead ws (e + n) others
+
+trailer-size : (form : Form) (c : Condition) → length (trailer form c) ≡ trailer-length form
+trailer-size without-depth c = refl
+trailer-size with-depth c = refl
 
 -- the line of c, then the lines of cs and the count
 regroup : (part trail rest : List ℤ) (n : ℤ) → ((part ++ trail) ++ rest) ++ (n ∷ []) ≡ part ++ (trail ++ (rest ++ (n ∷ [])))
 regroup part trail rest n = simp append-assoc
 
-pub turn : (ws : List ℤ) (i e : ℕ) (cs : List Condition) → Ahead ws i cs → i + 1 < length ws → Formula-ends ws i e → Turn ws i e cs
+pub turn : (ws : List ℤ) (i e n : ℕ) (cs : List Condition) → Ahead ws i cs → i + 1 < length ws → Tail ws n → Formula-ends ws i e
+    → Turn ws i e n cs
 unfolding all-lines line-words
-turn ws i e [] l h ends = absurd (omega (linear, ap length (l .words), length-drop i ws))
-turn ws i e (c ∷ cs) l h ends =
+turn ws i e n [] l h t ends = absurd (omega (linear, ap length (l .words), length-drop i ws))
+turn ws i e n (c ∷ cs) l h t ends =
     let f = c .claim in
-    let rest = all-lines cs ++ (l .count ∷ []) in
-    let tail = trailer c ++ rest in
-    let words = l .words ∙ regroup (formula-words f) (trailer c) (all-lines cs) (l .count) in
+    let trail = trailer (form-of ws) c in
+    let long : length trail ≡ n = trailer-size (form-of ws) c ∙ sym (t .is) in
+    let rest = all-lines (form-of ws) cs ++ (l .count ∷ []) in
+    let tail = trail ++ rest in
+    let words = l .words ∙ regroup (formula-words f) trail (all-lines (form-of ws) cs) (l .count) in
     let range = l .ranges .1 in
     let end = end-is ws tail i e f range words ends in
     let part = formula-part ws tail i e f range words ends in
@@ -98,12 +107,18 @@ turn ws i e (c ∷ cs) l h ends =
       others = cs;
       is = refl;
       forward = end .1;
-      inside = omega (linear, end .1, end .2, ap length (end .0), length-drop e ws, length-append (all-lines cs) (l .count ∷ []));
+      inside =
+          let some-left = length-append (all-lines (form-of ws) cs) (l .count ∷ []) in
+          omega (linear, end .1, end .2, ap length (end .0), length-drop e ws, length-append trail rest, long, some-left);
       kind = rw add-zero at (past 0);
       row = past 1;
       formula = part;
       size = ap length part ∙ sym (part-size ws tail i e f range words ends);
-      ahead = record { count = l .count; words = words-past ws tail i e f range words ends 3; ranges = l .ranges .2 };
+      ahead = record {
+        count = l .count;
+        words = words-past ws tail i e f range words ends n ∙ subst (λ k. drop k tail ≡ rest) long (drop-append-seam trail rest);
+        ranges = l .ranges .2;
+      };
     }
 
 -- the walk is over where only the count is left
@@ -111,12 +126,14 @@ pub over : (ws : List ℤ) (i : ℕ) (cs : List Condition) → Ahead ws i cs →
 unfolding all-lines line-words
 over ws i [] l h = refl
 over ws i (c ∷ cs) l h =
-    let words = l .words ∙ regroup (formula-words (c .claim)) (trailer c) (all-lines cs) (l .count) in
-    let tail = trailer c ++ (all-lines cs ++ (l .count ∷ [])) in
-    absurd (omega (linear, ap length words, length-drop i ws, length-append (formula-words (c .claim)) tail))
+    let part = formula-words (c .claim) in
+    let trail = trailer (form-of ws) c in
+    let words = l .words ∙ regroup part trail (all-lines (form-of ws) cs) (l .count) in
+    let rest = all-lines (form-of ws) cs ++ (l .count ∷ []) in
+    absurd (omega (linear, ap length words, length-drop i ws, length-append part (trail ++ rest), length-append trail rest))
 
 -- k is the kind and r the row that were read of the first condition that is left
-pub turn-text : {ws : List ℤ} {i e k : ℕ} {cs : List Condition} {w r : ℤ} → (t : Turn ws i e cs) → k ≡ field-number w → w ≡ getD ws e (pos 0)
+pub turn-text : {ws : List ℤ} {i e n k : ℕ} {cs : List Condition} {w r : ℤ} → (t : Turn ws i e n cs) → k ≡ field-number w → w ≡ getD ws e (pos 0)
     → r ≡ getD ws (e + 1) (pos 0) → lines cs ≡ line (name-of k) (r ∷ take (e - i) (drop i ws)) ++ lines (t .others)
 unfolding lines
 turn-text t hk hw hr = rw (t .is, hk, hw, hr, t .kind, t .row, t .formula, name-is (t .first .rule))
@@ -136,7 +153,7 @@ set-out out at ws l =
     record {
       conditions = conditions-in ws;
       ahead = start;
-      inside = omega (linear, ap length (start .words), length-append (all-lines (conditions-in ws)) (start .count ∷ []));
+      inside = omega (linear, ap length (start .words), length-append (all-lines (form-of ws) (conditions-in ws)) (start .count ∷ []));
       within = omega linear;
       text = λ q out′ w. w;
     }
@@ -148,16 +165,16 @@ arrived w h =
     let none = over _ _ (w .conditions) (w .ahead) h in
     (w .text _ _ (rw none (wrote-nothing _ _)), omega (linear, rw none at (w .within), w .inside))
 
-module _ {out₀ out : List ℕ} {at end i e k : ℕ} {ws : List ℤ} {w r : ℤ} (here : Walking out₀ at ws out end i) (t : Turn ws i e (here .conditions))
-    (hk : k ≡ field-number w) (hw : w ≡ getD ws e (pos 0)) (hr : r ≡ getD ws (e + 1) (pos 0)) where
+module _ {out₀ out : List ℕ} {at end i e n k : ℕ} {ws : List ℤ} {w r : ℤ} (here : Walking out₀ at ws out end i) (tail : Tail ws n)
+    (t : Turn ws i e n (here .conditions)) (hk : k ≡ field-number w) (hw : w ≡ getD ws e (pos 0)) (hr : r ≡ getD ws (e + 1) (pos 0)) where
   pub walked-on : {end′ : ℕ} {out′ : List ℕ} → Wrote out end (line (name-of k) (r ∷ take (e - i) (drop i ws))) end′ out′
-      → length (line (name-of k) (r ∷ take (e - i) (drop i ws))) ≤ 12 * length (take (e - i) (drop i ws)) + 36 → Walking out₀ at ws out′ end′ (e + 3)
+      → length (line (name-of k) (r ∷ take (e - i) (drop i ws))) ≤ 12 * length (take (e - i) (drop i ws)) + 36 → Walking out₀ at ws out′ end′ (e + n)
   walked-on wrote short = record {
     conditions = t .others;
     ahead = t .ahead;
     inside = t .inside;
     within =
         let first = line (name-of k) (r ∷ take (e - i) (drop i ws)) in
-        omega (linear, here .within, t .size, t .forward, short, ap length (turn-text t hk hw hr), length-append first (lines (t .others)));
+        omega (linear, here .within, tail .least, t .size, t .forward, short, ap length (turn-text t hk hw hr), length-append first (lines (t .others)));
     text = λ q l v. here .text q l (rw (turn-text t hk hw hr) (then wrote v));
   }

@@ -41,7 +41,7 @@ inputs : List (List ℕ)
 inputs = example (33, 0, 13, 0) [] ∷ example (33, 128, 13, 0) [] ∷ example (33, 0, 13, 0) (0 ∷ []) ∷ [] ∷ division-in-while ∷ []
 
 outputs : map output inputs
-    ≡ (bytes "planned 4 94\n"
+    ≡ (bytes "planned 4 98\n"
     ++ (bytes "exit 15 25 23 19 1 0 2 0 22 18 1 0 2 0 20 2 0 1 0\n"
     ++ (bytes "floor 15 25 23 19 1 0 2 0 18 1 0 2 0 19 1 0 2 0\n"
     ++ (bytes "step 15 25 23 23 19 1 0 2 0 18 1 0 2 0 20 2 0 9 15 23 19 1 0 4 2 0 1 1 18 4 2 0 1 1 9 15\n"
@@ -49,7 +49,7 @@ outputs : map output inputs
     ∷ bytes "refused 8 14\n"
     ∷ bytes "refused 1 0\n"
     ∷ bytes "refused 1 0\n"
-    ∷ (bytes "planned 5 79\n"
+    ∷ (bytes "planned 5 84\n"
     ++ (bytes "guard 10 25 16 21 2 0 1 0\n"
     ++ (bytes "exit 10 25 23 16 22 20 6 1 1 2 0 1 1 16\n"
     ++ (bytes "floor 10 25 23 16 20 6 1 1 2 0 1 1 19 1 0 1 0\n"

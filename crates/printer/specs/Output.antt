@@ -12,7 +12,7 @@ use lib.IntN.{ℤ}
 use lib.ListN.{length, take}
 use lib.Seq.{take-append-seam}
 use Rattle.script.specs.Conditions.{Condition, conditions}
-use Rattle.script.specs.Words.{list-words}
+use Rattle.script.specs.Words.{with-depth, list-words}
 use Rattle.script.specs.Trees.{tree}
 use Rattle.script.specs.WellFormed.{Well-formed}
 use Rattle.script.specs.Generated.{Outcome, zeros, refusal, refuse, plan, room, outcome}
@@ -50,15 +50,15 @@ module _ (table : List ℤ) (list scratch : ℕ) where
   unfolding answer-text
   refused-rendered n r h = record { listed = λ e. absurd (h e); text = rw (ne-eqb n 0 h) }
 
-  plan-rendered : verdict table ≡ accepted → length (list-words (conditions (tree table))) ≤ room list
+  plan-rendered : verdict table ≡ accepted → length (list-words with-depth (conditions (tree table))) ≤ room list
       → Rendered (plan (conditions (tree table)) list scratch)
   plan-rendered h fits =
       let cs = conditions (tree table) in
       let w = well-formed table list h fits in
-      let words = take-append-seam (list-words cs) (zeros (list - length (list-words cs))) in
+      let words = take-append-seam (list-words with-depth cs) (zeros (list - length (list-words with-depth cs))) in
       record {
         listed = λ e. rw words (record { conditions = cs; well-formed = w });
-        text = rw (words, conditions-back (list-words cs) cs w);
+        text = rw (words, conditions-back (list-words with-depth cs) cs w);
       }
 
   rendered : Rendered (outcome table list scratch)

@@ -115,19 +115,20 @@ fn put_condition(out: &mut [u8], at: usize, kind: usize, row: i32, formula: &[i3
     put_fields(out, b, formula)
 }
 
-// The lines of a list's conditions, first one first.
+// The lines of a list's conditions, first one first. The list may be in either form: its trailers, depths among them, are passed over.
 fn put_lines(out: &mut [u8], at: usize, list: &[i32]) -> usize
     requires { ⌜ Listed (now list) ⌝ }
     ensures { λ r. ⌜ Wrote (now (out .entry)) at (lines (conditions-in (now (list .entry)))) r (now (out .exit)) ⌝ }
     ensures { λ _. ⌜ length (lines (conditions-in (now (list .entry)))) ≤ 12 * length (now (list .entry)) ⌝ }
 {
+    let tail = list_reader::trailer_length(list);
     let mut end = at;
     let mut i = 0;
     while i + 1 < list.len() {
         let e = list_reader::formula_end(list, i);
         let kind = script::field_number(list[e]);
         end = put_condition(out, end, kind, list[e + 1], &list[i..e]);
-        i = e + 3;
+        i = e + tail;
     }
     end
 }
