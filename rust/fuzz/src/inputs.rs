@@ -4,7 +4,7 @@ use std::fmt::Write;
 
 use reference::{need, LONGEST_LIST};
 
-use crate::forms::{any_list_in_a_form, in_any_form, list_of_table};
+use crate::forms::{any_list_in_a_form, damage, in_any_form, list_of_table};
 use crate::limits::{dividing_limit_words, limit_words, list_of_length, nested, unread_words};
 use crate::mending::{any_rooms_for_mended, any_table_to_mend};
 use crate::mutate::{change_words, list_with_length, made_up_list, random_words, tear, tiny_list};
@@ -123,19 +123,25 @@ impl Input {
     pub fn any_form(random: &mut Prng) -> Input {
         let list = any_list_in_a_form(random);
         match random.below(8) {
-            0..=3 => Input::List(list),
-            4 => any_text_of(list, random),
-            5 | 6 => {
+            0..=2 => Input::List(list),
+            3 => any_text_of(list, random),
+            4 | 5 => {
                 let room = any_room_for_list(&list, random);
                 Input::Shorten { list, room }
             }
             _ => {
-                let new = match random.below(3) {
+                let mut other = match random.below(3) {
                     0 => any_list_in_a_form(random),
                     _ => in_any_form(list.clone(), random),
                 };
-                let index = any_index_of_pair(&list, &new, random);
-                let old = list;
+                if random.once_in(2) {
+                    damage(&mut other, random);
+                }
+                let (old, new) = match random.below(2) {
+                    0 => (list, other),
+                    _ => (other, list),
+                };
+                let index = any_index_of_pair(&old, &new, random);
                 Input::Shorter { old, new, index }
             }
         }

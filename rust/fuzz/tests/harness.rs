@@ -1,6 +1,7 @@
 //! The harness tried on the reference itself and on broken subjects.
 
 mod misdivided;
+mod misformed;
 mod mislent;
 mod mismended;
 mod misnumbered;
@@ -15,6 +16,7 @@ use fuzz::texts::dividing_list;
 use fuzz::{compare, compare_counting, faults, limits, seed_from_environment};
 use fuzz::{Answer, Input, Making, Prng, Reference, Subject, Tally};
 use misdivided::{division_faults, DivisionFault, Misdivided};
+use misformed::{reading_faults, DepthFault, Misdeep, RIGHT};
 use mislent::{LentFault, Mislent};
 use mismended::{mend_faults, MendFault, Mismended};
 use misread::{Misread, ReadFault};
@@ -410,4 +412,18 @@ fn every_mistake_in_mending_is_found() {
     let faulty = mend_faults().map(mismended);
     let faultless = Mismended(MendFault::Nothing);
     assert_all_found(faultless, faulty, Input::any_mend, 6);
+}
+
+#[test]
+fn every_mistake_about_depths_is_found() {
+    let misdeep = |&fault| (format!("{fault:?}"), Misdeep(fault));
+    let faulty = DepthFault::ALL.iter().map(misdeep);
+    let faultless = Misdeep(DepthFault::Nothing);
+    assert_all_found(faultless, faulty, Input::any_dividing, 8);
+}
+
+#[test]
+fn every_mistake_about_forms_is_found() {
+    let faulty = reading_faults().map(|misread| (misread.to_string(), misread));
+    assert_all_found(RIGHT, faulty, Input::any_form, 9);
 }
