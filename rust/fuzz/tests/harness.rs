@@ -20,8 +20,8 @@ use mismended::{mend_faults, MendFault, Mismended};
 use misread::{Misread, ReadFault};
 use misshortened::{short_faults, Misshortened, ShortFault};
 use misspelt::{Misspelt, TextFault};
-use reference::{check, conditions, lines, list_words, need, script_of};
-use reference::{Line, Variable, Verdict};
+use reference::{check, conditions, lines, list_words, listed, need, script_of, spell_list};
+use reference::{Form, Line, Variable, Verdict};
 
 const CASES: u64 = 30_000;
 
@@ -61,7 +61,7 @@ fn valid_scripts_are_accepted() {
 fn limits_are_where_they_are_said_to_be() {
     let mut random = Prng::new(seed_from_environment());
     for _ in 0..50 {
-        for length in [112, 500, 16_383, 16_384] {
+        for length in [113, 500, 16_383, 16_384] {
             let words = limits::list_of_length(&mut random, length);
             assert_eq!(need(&words).unwrap().words, Some(length));
         }
@@ -175,15 +175,9 @@ fn sealed(words: &[i32]) -> Option<usize> {
 
 /// The conditions of a list with those at two places exchanged.
 fn exchanged(list: &[i32], first: usize, second: usize) -> Vec<i32> {
-    let lines = lines(list).expect("a list of the generator");
-    let mut order: Vec<usize> = (0..lines.len()).collect();
-    order.swap(first, second);
-    let mut words = Vec::new();
-    for place in order {
-        words.extend(&list[lines[place].start..lines[place].end + 3]);
-    }
-    words.push(lines.len() as i32);
-    words
+    let mut conditions = listed(list).expect("a list of the generator");
+    conditions.swap(first, second);
+    spell_list(&conditions, Form::WithDepth)
 }
 
 /// Where the last condition is an implication of a conjunction of implications

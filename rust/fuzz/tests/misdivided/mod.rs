@@ -6,7 +6,7 @@ mod divisors;
 mod weakest;
 
 use fuzz::{Answer, Reference, Subject, Written};
-use reference::{list_words, script_of, Condition, Line, Verdict};
+use reference::{list_words, script_of, Condition, Form, Line, Verdict};
 
 pub use divisors::D;
 pub use weakest::faulty_conditions;
@@ -67,13 +67,14 @@ fn has_kind(list: &[i32], kind: i32) -> bool {
 /// lengths tell where they stand.
 fn sixes_as_guards(list: &[i32]) -> Vec<i32> {
     let mut words = list.to_vec();
-    let mut end = words.len().saturating_sub(1);
-    while end >= 4 {
-        if words[end - 3] == 6 {
-            words[end - 3] = GUARD;
+    let trailer_length = Form::of(list).map_or(3, Form::trailer_length);
+    let mut rest = words.len().saturating_sub(1);
+    while let Some(end) = rest.checked_sub(trailer_length) {
+        if words[end] == 6 {
+            words[end] = GUARD;
         }
-        let length = usize::try_from(words[end - 1]).unwrap_or(end);
-        end = end.saturating_sub(length.saturating_add(3));
+        let length = usize::try_from(words[end + 2]).unwrap_or(end);
+        rest = end.saturating_sub(length);
     }
     words
 }
@@ -82,6 +83,7 @@ const TORN: Line = Line {
     number: 20,
     kind: 0,
     row: 0,
+    depth: 0,
     start: 0,
     end: 0,
 };

@@ -4,7 +4,8 @@
 use std::fmt;
 
 use fuzz::{Answer, Reference, Subject, Written};
-use reference::{check, conditions, list_words, script_of, Line, TooLong, Verdict, LONGEST_LIST};
+use reference::LONGEST_LIST;
+use reference::{check, conditions, list_words, script_of, Form, Line, TooLong, Verdict};
 
 /// The part that makes the mistake.
 #[derive(Clone, Copy, Debug, PartialEq)]
@@ -132,8 +133,9 @@ impl Misnumbered {
     /// The words of a list, as far as its trailers tell where formulas stand.
     fn list(&self, list: &[i32]) -> Vec<i32> {
         let mut words = list.to_vec();
+        let trailer_length = Form::of(list).map_or(3, Form::trailer_length);
         let mut rest = words.len().saturating_sub(1);
-        while let Some(end) = rest.checked_sub(3) {
+        while let Some(end) = rest.checked_sub(trailer_length) {
             let length = usize::try_from(words[end + 2]);
             let Some(start) = length.ok().and_then(|length| end.checked_sub(length)) else {
                 break;
