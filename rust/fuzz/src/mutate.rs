@@ -1,6 +1,6 @@
 //! Tables with some words changed, and lists torn in every way.
 
-use reference::{shape, Role, LONGEST_LIST};
+use reference::{shape, Form, Role, LONGEST_LIST};
 
 use crate::prng::{Prng, KINDS};
 use crate::scripts::formula_words;
@@ -181,31 +181,34 @@ pub fn tear(list: &mut Vec<i32>, random: &mut Prng) {
 
 /// Changes a field of one trailer, found by walking back over the lengths.
 fn tear_trailer(list: &mut [i32], random: &mut Prng) {
-    let trailers = trailers(list);
+    let trailer_length = Form::of(list).map_or(3, Form::trailer_length);
+    let trailers = trailers(list, trailer_length);
     if trailers.is_empty() {
         return;
     }
     let trailer = random.pick(&trailers);
-    let field = random.below(3);
+    let field = random.below(trailer_length);
     let change = random.pick(&[-1, 1]);
     list[trailer + field] = match (field, random.below(3)) {
         (0, 0) => random.pick(&[0, 6, -1, i32::MAX]),
         (0, _) => random.between(1, 5),
         (1, 0) => random.pick(&[-1, 2_048, i32::MIN]),
         (1, _) => random.between(0, 2_047),
-        (_, 0) => random.pick(&[0, -1, i32::MIN, i32::MAX, list[trailer + 2] + 4]),
-        _ => list[trailer + 2].wrapping_add(change),
+        (2, 0) => random.pick(&[0, -1, i32::MIN, i32::MAX, list[trailer + 2] + 4]),
+        (2, _) => list[trailer + 2].wrapping_add(change),
+        (_, 0) => random.pick(&[-1, 8, i32::MIN, i32::MAX]),
+        _ => random.between(0, 7),
     };
 }
 
 /// Where the trailers of a list stand, as far as its lengths make sense.
-fn trailers(list: &[i32]) -> Vec<usize> {
+fn trailers(list: &[i32], trailer_length: usize) -> Vec<usize> {
     let mut trailers = Vec::new();
     let mut end = list.len() as i64 - 1;
-    while end >= 4 {
-        let trailer = end - 3;
+    while end > trailer_length as i64 {
+        let trailer = end - trailer_length as i64;
         trailers.push(trailer as usize);
-        let length = i64::from(list[(end - 1) as usize]);
+        let length = i64::from(list[trailer as usize + 2]);
         if length < 1 {
             break;
         }
