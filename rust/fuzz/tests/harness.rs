@@ -3,6 +3,7 @@
 mod misdivided;
 mod mislent;
 mod mismended;
+mod misnested;
 mod misnumbered;
 mod misread;
 mod misshortened;
@@ -17,6 +18,7 @@ use fuzz::{Answer, Input, Making, Prng, Reference, Subject, Tally};
 use misdivided::{division_faults, DivisionFault, Misdivided};
 use mislent::{LentFault, Mislent};
 use mismended::{mend_faults, MendFault, Mismended};
+use misnested::{depth_faults, DepthFault, Misnested};
 use misread::{Misread, ReadFault};
 use misshortened::{short_faults, Misshortened, ShortFault};
 use misspelt::{Misspelt, TextFault};
@@ -396,6 +398,14 @@ fn every_mistake_about_scratch_is_found() {
     let mislent = |&fault| (format!("{fault:?}"), Mislent(fault));
     let faulty = LentFault::ALL.iter().map(mislent);
     assert_all_found(Mislent(LentFault::Nothing), faulty, Input::any_lent, 7);
+}
+
+#[test]
+fn every_mistake_about_depths_is_found() {
+    let misnested = |fault| (format!("{fault:?}"), Misnested(fault));
+    let faulty = depth_faults().map(misnested);
+    let faultless = Misnested(DepthFault::Nothing);
+    assert_all_found(faultless, faulty, Input::any_form, 8);
 }
 
 #[test]
