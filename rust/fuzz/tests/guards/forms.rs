@@ -1,15 +1,25 @@
 //! Lists in both forms (request P9), whole, torn and cut: through all that reads a list.
 
-use fuzz::forms::{any_list_in_a_form, in_any_form};
-use fuzz::odd_lists::odd_index;
+use fuzz::forms::any_list_of_forms;
+use fuzz::odd_lists::{any_odd_list, odd_index};
 use fuzz::odd_tables::with_each_bit_turned;
+use fuzz::shortening::any_list_to_shorten;
 use fuzz::texts::text_need;
+use fuzz::trailers::in_any_form;
 use fuzz::{cases_from_environment, seed_from_environment, tell, Prng};
 use reference::{lines, shorten, Form, LONGEST_LIST};
 
 use crate::bare::Bare;
 use crate::beside::Numbers;
 use crate::beside::{count, read_line, shorten_list, step_from, take_shorter, walk, write_text};
+
+fn any_list(random: &mut Prng) -> Vec<i32> {
+    match random.below(4) {
+        0 => any_odd_list(random),
+        1 => any_list_to_shorten(random),
+        _ => any_list_of_forms(random),
+    }
+}
 
 /// Everything that reads a list, on this one.
 fn read_in_every_way(bare: &mut Bare, list: &[i32], random: &mut Prng) -> Vec<usize> {
@@ -42,7 +52,7 @@ fn lists_in_both_forms() {
     let mut of_form = [0; 4];
     for case in 0..cases {
         let random = &mut Prng::for_case(seed ^ 10, case);
-        let list = any_list_in_a_form(random);
+        let list = any_list(random);
         for number in read_in_every_way(&mut bare, &list, random) {
             count(&mut numbers, number);
         }
