@@ -1,8 +1,10 @@
-//! The lists that are timed, as no script need have them.
+//! The lists that are timed, as no script need have them; where nothing else is said,
+//! in the form from before P9.
 
 use fuzz::shortening::{nested, shortening_formula, Around};
 use fuzz::Prng;
 use leqwarti::LONGEST_LIST;
+use reference::{listed, spell_list, Form, Listed};
 
 /// The words of a formula that is alone in the longest list.
 const WORDS: usize = LONGEST_LIST - 4;
@@ -13,20 +15,30 @@ fn list_of(formula: &[i32]) -> Vec<i32> {
 }
 
 /// A list of as many conditions as it holds, each with this formula.
-fn list_of_each(formula: &[i32]) -> Vec<i32> {
-    let line = [formula, &[4, 0, formula.len() as i32]].concat();
-    let count = (LONGEST_LIST - 1) / line.len();
-    [&line.repeat(count)[..], &[count as i32]].concat()
+fn list_of_each(formula: &[i32], form: Form) -> Vec<i32> {
+    let count = (LONGEST_LIST - 1) / (formula.len() + form.trailer_length());
+    let condition = Listed {
+        kind: 4,
+        row: 0,
+        depth: 0,
+        formula: formula.to_vec(),
+    };
+    spell_list(&vec![condition; count], form)
+}
+
+/// The same conditions without their depths.
+pub fn without_depths(list: &[i32]) -> Vec<i32> {
+    spell_list(&listed(list).expect("a list"), Form::WithoutDepth)
 }
 
 /// Lines of one word and a trailer: true.
-pub fn short_conditions() -> Vec<i32> {
-    list_of_each(&[16])
+pub fn short_conditions(form: Form) -> Vec<i32> {
+    list_of_each(&[16], form)
 }
 
 /// true implies (v0 less (v1 plus 0)), again and again.
-pub fn padded_lines() -> Vec<i32> {
-    list_of_each(&[25, 16, 18, 2, 0, 3, 2, 1, 1, 0])
+pub fn padded_lines(form: Form) -> Vec<i32> {
+    list_of_each(&[25, 16, 18, 2, 0, 3, 2, 1, 1, 0], form)
 }
 
 /// Zero equal to quotients whose divisors are quotients in turn, so deep. Its text for

@@ -28,6 +28,8 @@ use contests::{
 };
 use fuzz::scripts::EXAMPLE_A;
 use leqwarti::{LARGEST_SCRATCH, LONGEST_LIST, LONGEST_SCRIPT};
+use lists::without_depths;
+use reference::Form::{WithDepth, WithoutDepth};
 use timing::Stopwatch;
 
 const USUAL_ROUNDS: usize = 31;
@@ -179,13 +181,25 @@ fn time_refusals(watch: &Stopwatch) {
     time_checking(watch, &format!("{rows} checked"), &huge);
 }
 
+/// Lists in both forms. Those of scripts have depths where the name does not say that they
+/// have none; before P9 the rows without that name had the lists that now have none.
 fn time_readings(watch: &Stopwatch) {
+    let (example_a, loops) = (list_of(&EXAMPLE_A), list_of(&scripts::loops(50)));
+    let one = list_of(&scripts::full_list());
     let lists = [
-        ("50 loops", list_of(&scripts::loops(50))),
+        ("example A, no depths", without_depths(&example_a)),
+        ("example A", example_a),
+        ("50 loops, no depths", without_depths(&loops)),
+        ("50 loops", loops),
         ("v256 to v606", list_of(&scripts::shifted_variables(350))),
         ("50 guards", list_of(&scripts::dividing_loops(50))),
-        ("one condition", list_of(&scripts::full_list())),
-        ("4,095 conditions", lists::short_conditions()),
+        ("one condition, no depths", without_depths(&one)),
+        ("one condition", one),
+        ("4,095 conditions", lists::short_conditions(WithoutDepth)),
+        (
+            "3,276 conditions with depths",
+            lists::short_conditions(WithDepth),
+        ),
     ];
     for (name, list) in &lists {
         let name = format!("{name} ({} words)", list.len());
@@ -198,13 +212,22 @@ fn time_readings(watch: &Stopwatch) {
 /// first and in the last line.
 fn time_shortenings(watch: &Stopwatch) {
     let example_a = list_of(&EXAMPLE_A);
+    let (loops, full) = (list_of(&scripts::loops(50)), list_of(&scripts::full_list()));
     let padded = lists::padded_everywhere();
     let shortened = [
+        ("example A, no depths", without_depths(&example_a)),
         ("example A", example_a.clone()),
-        ("50 loops", list_of(&scripts::loops(50))),
-        ("a full list", list_of(&scripts::full_list())),
-        ("4,095 conditions", lists::short_conditions()),
-        ("padded lines", lists::padded_lines()),
+        ("50 loops, no depths", without_depths(&loops)),
+        ("50 loops", loops),
+        ("a full list, no depths", without_depths(&full)),
+        ("a full list", full),
+        ("4,095 conditions", lists::short_conditions(WithoutDepth)),
+        (
+            "3,276 conditions with depths",
+            lists::short_conditions(WithDepth),
+        ),
+        ("padded lines", lists::padded_lines(WithoutDepth)),
+        ("padded lines with depths", lists::padded_lines(WithDepth)),
         ("without padding", lists::without_padding()),
         ("padded everywhere", padded.clone()),
         ("padded by chance", lists::padded_by_chance()),
@@ -213,14 +236,19 @@ fn time_shortenings(watch: &Stopwatch) {
         ("0 + (0 + ..", lists::zeros_leaning_right()),
         ("(.. + 0) + 0", lists::zeros_leaning_left()),
         ("0 - (0 - ..", lists::negations()),
-        ("torn at the front", lists::torn(lists::padded_lines())),
+        (
+            "torn at the front",
+            lists::torn(lists::padded_lines(WithoutDepth)),
+        ),
     ];
     for (name, list) in &shortened {
         time_shortening(watch, &format!("shorten: {name}"), list);
     }
-    let small = lists::padded_lines();
-    let last = small[small.len() - 1] - 1;
+    let last_index = |list: &[i32]| list[list.len() - 1].abs() - 1;
+    let small = lists::padded_lines(WithoutDepth);
+    let last = last_index(&small);
     let pairs = [
+        ("example A, no depths", without_depths(&example_a), 2),
         ("example A", example_a, 2),
         ("padded lines", small, last),
         ("one condition", padded, 0),
@@ -229,6 +257,10 @@ fn time_shortenings(watch: &Stopwatch) {
         let new = leqwarti::shorten(old).expect("a list");
         time_choosing(watch, &format!("shorter: {name}"), old, &new, *index);
     }
+    let old = lists::padded_lines(WithDepth);
+    let new = without_depths(&leqwarti::shorten(&old).expect("a list"));
+    let name = "shorter: padded lines, with depths and without";
+    time_choosing(watch, name, &old, &new, last_index(&old));
 }
 
 /// Tables with shared rows and without, with marks in many loops and in none, refused at
@@ -263,6 +295,11 @@ fn time_mendings(watch: &Stopwatch) {
 
 fn time_texts(watch: &Stopwatch) {
     let texts = [
+        (
+            "example A, step, no depths",
+            without_depths(&list_of(&EXAMPLE_A)),
+            2,
+        ),
         ("example A, step", list_of(&EXAMPLE_A), 2),
         ("v256 to v606", list_of(&scripts::shifted_variables(350)), 0),
         ("a full list", list_of(&scripts::full_list()), 0),

@@ -50,7 +50,7 @@ impl Stopwatch {
     }
 
     pub fn print_times(&self, case: &str, contestants: Contestants) {
-        self.print_row(&format!("{case:<48}"), contestants, microseconds);
+        self.print_row(&format!("{case:<56}"), contestants, microseconds);
     }
 
     pub fn print_head_of_rates(&self, what: &str) {
@@ -65,7 +65,7 @@ impl Stopwatch {
 
     /// A row for contestants that each write, or read, so many bytes.
     pub fn print_rates(&self, case: &str, bytes: usize, contestants: Contestants) {
-        let label = format!("{case:<48} | {bytes:>7}");
+        let label = format!("{case:<56} | {bytes:>7}");
         self.print_row(&label, contestants, |time| {
             megabytes_per_second(bytes, time)
         });

@@ -4,7 +4,6 @@ use std::fmt::Write;
 
 use reference::{need, LONGEST_LIST};
 
-use crate::forms::{any_list_in_a_form, in_any_form, list_of_table};
 use crate::limits::{dividing_limit_words, limit_words, list_of_length, nested, unread_words};
 use crate::mending::{any_rooms_for_mended, any_table_to_mend};
 use crate::mutate::{change_words, list_with_length, made_up_list, random_words, tear, tiny_list};
@@ -14,6 +13,7 @@ use crate::script_texts::{any_room_for_table, any_script_text};
 use crate::scripts::{script_words, Shape};
 use crate::shortening::{any_index_of_pair, any_list_to_shorten, any_pair, any_room_for_list};
 use crate::texts::{any_index, any_room, dividing_list};
+use crate::trailers::list_of_table;
 
 /// What a subject and the reference are both given.
 #[derive(Clone, Debug, PartialEq, Eq)]
@@ -116,29 +116,6 @@ impl Input {
         let list = any_list_to_shorten(random);
         let room = any_room_for_list(&list, random);
         Input::Shorten { list, room }
-    }
-
-    /// Lists in both forms, read, written for solvers and shortened, and pairs of them;
-    /// many are damaged, most of these in what tells the form.
-    pub fn any_form(random: &mut Prng) -> Input {
-        let list = any_list_in_a_form(random);
-        match random.below(8) {
-            0..=3 => Input::List(list),
-            4 => any_text_of(list, random),
-            5 | 6 => {
-                let room = any_room_for_list(&list, random);
-                Input::Shorten { list, room }
-            }
-            _ => {
-                let new = match random.below(3) {
-                    0 => any_list_in_a_form(random),
-                    _ => in_any_form(list.clone(), random),
-                };
-                let index = any_index_of_pair(&list, &new, random);
-                let old = list;
-                Input::Shorter { old, new, index }
-            }
-        }
     }
 
     /// Tables to be mended.

@@ -36,6 +36,7 @@ pub mod subject;
 pub mod templates;
 pub mod texts;
 pub mod tokens;
+pub mod trailers;
 pub mod woven;
 
 pub use compare::{compare, compare_case, compare_counting, compare_input};

@@ -2,9 +2,9 @@
 
 use reference::{shape, Form, Role, LONGEST_LIST};
 
-use crate::forms::{any_form, push_trailer};
 use crate::prng::{Prng, KINDS};
 use crate::scripts::formula_words;
+use crate::trailers::{any_form, push_trailer};
 
 /// Changes one to three words of a table.
 pub fn change_words(words: &mut [i32], random: &mut Prng) {

@@ -4,11 +4,11 @@
 
 use reference::{lines, Form, LONGEST_LIST};
 
-use crate::forms::{any_form, change_last_word, count_of, list_of_table, push_trailer};
 use crate::mutate::{list_with_length, made_up_list, tiny_list};
 use crate::odd_tables::{far, few_rows};
 use crate::prng::Prng;
 use crate::texts::dividing_list;
+use crate::trailers::{any_form, change_last_word, count_of, list_of_table, push_trailer};
 
 pub fn any_odd_list(random: &mut Prng) -> Vec<i32> {
     let mut list = match random.below(120) {

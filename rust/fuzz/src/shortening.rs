@@ -2,11 +2,11 @@
 
 use reference::{lines, shorten, Form, LONGEST_LIST};
 
-use crate::forms::{any_form, in_any_form, push_trailer};
 use crate::mutate::{made_up_list, tear, tiny_list};
 use crate::odd_lists::any_odd_list;
 use crate::prng::Prng;
 use crate::texts::{any_index, dividing_list};
+use crate::trailers::{any_form, in_any_form, push_trailer};
 
 /// Lists that shorten in plenty, chains of parts in one another, lists as long as there
 /// may be, and others; some are torn.

@@ -2,8 +2,8 @@
 
 use reference::smt;
 
-use crate::forms::{any_form, count_of, push_trailer};
 use crate::prng::Prng;
+use crate::trailers::{any_form, count_of, push_trailer};
 
 /// The bytes that the text at an index needs. Nothing for a refusal, nor for a
 /// text much longer than its list: only divisions in divisions have one.

@@ -3,6 +3,7 @@
 mod misdivided;
 mod mislent;
 mod mismended;
+mod misnested;
 mod misnumbered;
 mod misread;
 mod misshortened;
@@ -17,11 +18,12 @@ use fuzz::{Answer, Input, Making, Prng, Reference, Subject, Tally};
 use misdivided::{division_faults, DivisionFault, Misdivided};
 use mislent::{LentFault, Mislent};
 use mismended::{mend_faults, MendFault, Mismended};
+use misnested::{depth_faults, DepthFault, Misnested};
 use misread::{Misread, ReadFault};
 use misshortened::{short_faults, Misshortened, ShortFault};
 use misspelt::{Misspelt, TextFault};
-use reference::{check, conditions, lines, list_words, need, script_of};
-use reference::{Line, Variable, Verdict};
+use reference::{check, conditions, lines, list_words, listed, need, script_of, spell_list};
+use reference::{Form, Line, Variable, Verdict};
 
 const CASES: u64 = 30_000;
 
@@ -175,15 +177,9 @@ fn sealed(words: &[i32]) -> Option<usize> {
 
 /// The conditions of a list with those at two places exchanged.
 fn exchanged(list: &[i32], first: usize, second: usize) -> Vec<i32> {
-    let lines = lines(list).expect("a list of the generator");
-    let mut order: Vec<usize> = (0..lines.len()).collect();
-    order.swap(first, second);
-    let mut words = Vec::new();
-    for place in order {
-        words.extend(&list[lines[place].start..lines[place].end + 4]);
-    }
-    words.push(-(lines.len() as i32));
-    words
+    let mut conditions = listed(list).expect("a list of the generator");
+    conditions.swap(first, second);
+    spell_list(&conditions, Form::WithDepth)
 }
 
 /// Where the last condition is an implication of a conjunction of implications
@@ -402,6 +398,14 @@ fn every_mistake_about_scratch_is_found() {
     let mislent = |&fault| (format!("{fault:?}"), Mislent(fault));
     let faulty = LentFault::ALL.iter().map(mislent);
     assert_all_found(Mislent(LentFault::Nothing), faulty, Input::any_lent, 7);
+}
+
+#[test]
+fn every_mistake_about_depths_is_found() {
+    let misnested = |fault| (format!("{fault:?}"), Misnested(fault));
+    let faulty = depth_faults().map(misnested);
+    let faultless = Misnested(DepthFault::Nothing);
+    assert_all_found(faultless, faulty, Input::any_form, 8);
 }
 
 #[test]

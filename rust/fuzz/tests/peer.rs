@@ -3,8 +3,8 @@
 
 use std::collections::BTreeMap;
 
-use fuzz::forms::count_of;
 use fuzz::lent::{same, Lent};
+use fuzz::trailers::count_of;
 use fuzz::{seed_from_environment, tell, Input, Making, Prng};
 use leqwarti::entries;
 

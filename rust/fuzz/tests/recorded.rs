@@ -54,7 +54,7 @@
 //! of the rest of groups 6 and 9 are of the yardstick from before P9, which gave the digests
 //! from before on every whole group. Groups 26 to 28 are new: lists with depths, lists in
 //! either form, many of them damaged, and texts. All of P9's digests were made with the
-//! yardstick before the library was there; the library gives the same.
+//! yardstick before the library was there, which has to give the same.
 
 mod digest;
 mod frozen;

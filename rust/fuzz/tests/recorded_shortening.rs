@@ -13,7 +13,7 @@
 //! with P9, all others one of the yardstick from before P9, which gave the digests from
 //! before on the whole groups. Groups 29 to 31 are new, and recorded with P9: lists with
 //! depths, lists in either form, many of them damaged, and pairs of them. P9's digests
-//! were made with the yardstick before the library was there; the library gives the same.
+//! were made with the yardstick before the library was there, which has to give the same.
 
 mod digest;
 mod frozen;

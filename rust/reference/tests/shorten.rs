@@ -1,6 +1,7 @@
 //! Request P6, "Shorter conditions", sentence by sentence: the rules, the new
 //! list with its room, the entry over two lists, the deepest formulas, and that
-//! the meaning stays.
+//! the meaning stays. Of the two forms that lists have since request P9, formulas
+//! are tried in both, and lists of words in the older one.
 
 mod random;
 
@@ -33,6 +34,17 @@ fn list_of(formula: &[i32]) -> Vec<i32> {
     [formula, &[4, 0, formula.len() as i32, 1]].concat()
 }
 
+/// The same in either form, with a depth where it has one.
+fn list_in(form: Form, formula: &[i32]) -> Vec<i32> {
+    let main = Listed {
+        kind: 4,
+        row: 0,
+        depth: 3,
+        formula: formula.to_vec(),
+    };
+    spell_list(&[main], form)
+}
+
 fn refused(number: u8, room: usize) -> Shortened {
     Shortened {
         number,
@@ -51,11 +63,14 @@ fn shortened_list(list: &[i32]) -> Vec<i32> {
     words.to_vec()
 }
 
-/// Asserts what a formula becomes, by itself and in a list.
+/// Asserts what a formula becomes, by itself and in lists.
 fn becomes(old: &[i32], new: &[i32]) {
     assert!(is_whole_formula(old), "{old:?}");
     assert_eq!(shortened_formula(old), new, "{old:?}");
-    assert_eq!(shortened_list(&list_of(old)), list_of(new), "{old:?}");
+    for form in Form::BOTH {
+        let shortened = shortened_list(&list_in(form, old));
+        assert_eq!(shortened, list_in(form, new), "{old:?}");
+    }
 }
 
 fn stays(formula: &[i32]) {
@@ -733,17 +748,17 @@ fn a_second_pass_finds_nothing() {
     }
 }
 
+/// A list by chance, of either form.
 fn list_by_chance(random: &mut Random) -> Vec<i32> {
     let count = 1 + random.below(5);
-    let mut list = Vec::new();
-    for _ in 0..count {
-        let formula = formula_by_chance(random);
-        list.extend(&formula);
-        let (kind, row) = (1 + random.below(5), random.below(2_048));
-        list.extend([kind as i32, row as i32, formula.len() as i32]);
-    }
-    list.push(count as i32);
-    list
+    let condition = |random: &mut Random| Listed {
+        kind: 1 + random.below(5) as i32,
+        row: random.below(2_048) as i32,
+        depth: random.below(8) as i32,
+        formula: formula_by_chance(random),
+    };
+    let conditions: Vec<Listed> = (0..count).map(|_| condition(random)).collect();
+    spell_list(&conditions, random.pick(&Form::BOTH))
 }
 
 /// Condition by condition, the new list is the old one with shortened formulas.
@@ -756,11 +771,12 @@ fn lists_line_by_line() {
         assert_eq!(shorten(&old, new.len()).buffer, new);
         let short = new.len() - 1;
         assert_eq!(shorten(&old, short), refused(31, short));
+        assert_eq!(Form::of(&new), Form::of(&old));
         let old_lines = lines(&old).expect("a list");
         let new_lines = lines(&new).expect("a list");
         assert_eq!(old_lines.len(), new_lines.len());
         for (index, (a, b)) in (0..).zip(old_lines.iter().zip(&new_lines)) {
-            assert_eq!((a.kind, a.row), (b.kind, b.row));
+            assert_eq!((a.kind, a.row, a.depth), (b.kind, b.row, b.depth));
             let formula = &old[a.start..a.end];
             assert_eq!(shortened_formula(formula), new[b.start..b.end]);
             let expected = if b.end - b.start < a.end - a.start {

@@ -2,6 +2,8 @@
 //! numbers, texts and arrays of whole numbers, in one of two forms:
 //! `{"list","room","number","words","new"}` for the pass over one list,
 //! `{"old","new","index","number","in","start","length"}` for the two-list entry.
+//! Their lists are of the form before request P9; those that are not torn are
+//! tried in the other form, too.
 
 mod vectors;
 
@@ -59,4 +61,67 @@ fn every_line() {
         }
     }
     assert_eq!((of_one_list, of_two_lists), (97, 60));
+}
+
+/// The list with depths; a torn one as it is.
+fn with_depths(list: &[i32]) -> Vec<i32> {
+    let Some(mut conditions) = listed(list) else {
+        return list.to_vec();
+    };
+    for (condition, depth) in conditions.iter_mut().zip((0..8).rev().cycle()) {
+        condition.depth = depth;
+    }
+    spell_list(&conditions, Form::WithDepth)
+}
+
+/// The new list and its room are longer by a word for each condition.
+fn shorten_with_depths(fields: &Fields, place: i32) {
+    let list = fields.words("list");
+    let with = with_depths(&list);
+    let added = with.len() - list.len();
+    let mut due = shortened(fields);
+    let room = due.buffer.len() + added;
+    due.buffer.truncate(due.used);
+    due.buffer = match due.number {
+        0 => with_depths(&due.buffer),
+        _ => Vec::new(),
+    };
+    due.used = due.buffer.len();
+    due.buffer.resize(room, 0);
+    assert_eq!(shorten(&with, room), due, "line {place}");
+}
+
+/// In a list with depths, a condition stands a word further for each one before.
+fn shorter_with_depths(fields: &Fields, place: i32) {
+    let (old, new) = (fields.words("old"), fields.words("new"));
+    let index: i64 = fields.number("index");
+    for (old_with, new_with) in [(true, true), (true, false), (false, true)] {
+        let in_form = |list: &[i32], with| match with {
+            true => with_depths(list),
+            false => list.to_vec(),
+        };
+        let (old, new) = (in_form(&old, old_with), in_form(&new, new_with));
+        let mut due = shorter_part(fields);
+        let with = match due.side {
+            Side::Old => old_with,
+            Side::New => new_with,
+        };
+        if due.number == 0 && with {
+            due.start += index as usize;
+            due.end += index as usize;
+        }
+        assert_eq!(shorter(&old, &new, index), due, "line {place}");
+    }
+}
+
+#[test]
+fn every_line_with_depths() {
+    for (place, line) in (1..).zip(VECTORS.lines()) {
+        let fields = Fields::of(line);
+        if fields.names().contains(&"list") {
+            shorten_with_depths(&fields, place);
+        } else {
+            shorter_with_depths(&fields, place);
+        }
+    }
 }

@@ -1,9 +1,9 @@
 //! Request P1: the text of conditions to the byte, its refusals and the room;
-//! with the variables of request P2.
+//! with the variables of request P2 and lists in both forms of request P9.
 
 use reference::*;
 
-/// The words of example A's list.
+/// The words of example A's list, in the form that it had before request P9.
 const EXAMPLE_A: [i32; 94] = [
     25, 23, 19, 1, 0, 2, 0, 22, 18, 1, 0, 2, 0, 20, 2, 0, 1, 0, 1, 15, 18, //
     25, 23, 19, 1, 0, 2, 0, 18, 1, 0, 2, 0, 19, 1, 0, 2, 0, 2, 15, 17, //
@@ -41,6 +41,15 @@ fn list_of(formula: &[i32]) -> Vec<i32> {
     [formula, &[4, 0, formula.len() as i32, 1]].concat()
 }
 
+/// The list with depths.
+fn with_depths(list: &[i32]) -> Vec<i32> {
+    let mut conditions = listed(list).expect("a list");
+    for (condition, depth) in conditions.iter_mut().zip((0..8).cycle()) {
+        condition.depth = depth;
+    }
+    spell_list(&conditions, Form::WithDepth)
+}
+
 const AMPLE: usize = 1 << 20;
 
 /// The text of the condition, which must be written.
@@ -55,7 +64,9 @@ fn text(list: &[i32], index: i64) -> String {
 
 /// The declarations and the asserted formula of a condition alone in its list.
 fn parts(formula: &[i32]) -> (String, String) {
-    let text = text(&list_of(formula), 0);
+    let list = list_of(formula);
+    let text = text(&list, 0);
+    assert_eq!(self::text(&with_depths(&list), 0), text);
     let rest = text.strip_prefix("(set-logic QF_NIA)\n").expect("a logic");
     let rest = rest.strip_suffix("))\n(check-sat)\n").expect("an end");
     let (declarations, asserted) = rest.split_once("(assert (not ").expect("an assertion");
@@ -92,6 +103,7 @@ fn refused(number: u8, room: usize) -> Written {
 fn example_a_to_the_byte() {
     for (index, expected) in EXAMPLE_A_TEXTS.iter().enumerate() {
         assert_eq!(text(&EXAMPLE_A, index as i64), *expected);
+        assert_eq!(text(&with_depths(&EXAMPLE_A), index as i64), *expected);
     }
 }
 
@@ -417,5 +429,8 @@ fn another_reader_answers_the_same() {
             buffer,
         };
         assert_eq!(smt(list, index, room), expected);
+        if number != 20 {
+            assert_eq!(smt(&with_depths(list), index, room), expected);
+        }
     }
 }

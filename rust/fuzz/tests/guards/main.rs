@@ -5,6 +5,7 @@ mod bare;
 mod beside;
 mod by_chance;
 mod changed;
+mod forms;
 mod long;
 mod mended;
 mod shortened;

@@ -1,6 +1,6 @@
 //! The choice between two lists, made wrongly.
 
-use reference::{line_at, Line, ShorterPart, Side};
+use reference::{line_at, Form, Line, ShorterPart, Side};
 
 fuzz::faults! {
     /// One way in which the choice may be wrong.
@@ -49,6 +49,10 @@ fn part(side: Side, line: Line) -> ShorterPart {
     }
 }
 
+fn trailer_length(list: &[i32]) -> usize {
+    Form::of(list).expect("a list").trailer_length()
+}
+
 impl Choice {
     /// The answer with this fault.
     pub fn made(self, old: &[i32], new: &[i32], index: i64) -> ShorterPart {
@@ -75,7 +79,8 @@ impl Choice {
             part(Side::Old, in_old)
         };
         match self {
-            PartWithItsTrailer => found.end += 3,
+            PartWithItsTrailer if is_new => found.end += trailer_length(new),
+            PartWithItsTrailer => found.end += trailer_length(old),
             OldPartInTheNewList if is_new => found = part(Side::New, in_old),
             LengthForTheEnd => found.end -= found.start,
             _ => (),
@@ -115,8 +120,8 @@ impl Choice {
             AlwaysOld => false,
             AlwaysNew => true,
             NewIfTheListIsShorter => new_list.len() < old_list.len(),
-            OldWithItsTrailer => in_new < in_old + 3,
-            NewWithItsTrailer => in_new + 3 < in_old,
+            OldWithItsTrailer => in_new < in_old + trailer_length(old_list),
+            NewWithItsTrailer => in_new + trailer_length(new_list) < in_old,
             ByTheNewStart => new.start < old.start,
             _ => in_new < in_old,
         }

@@ -6,11 +6,11 @@ mod rules;
 mod shortening;
 
 use fuzz::{Answer, Reference, Subject, Written};
-use reference::{lines, Form, Line, ShorterPart, Verdict, LONGEST_LIST};
+use reference::{lines, listed, Form, Line, Listed, ShorterPart, Verdict, LONGEST_LIST};
 
 use choice::Choice;
 use rules::{faulty_rules, RuleFault, RULES};
-use shortening::{Condition, Shortener, Way};
+use shortening::{Shortener, Way};
 
 fuzz::faults! {
     /// One way in which a new list, the answer beside it or the choice may be wrong.
@@ -63,15 +63,13 @@ const MOST_WORDS: usize = 600;
 
 impl Misshortened {
     /// The new conditions; nothing for a torn list.
-    fn conditions(&self, list: &[i32]) -> Option<Vec<Condition>> {
-        let old = lines(list)?;
+    fn conditions(&self, list: &[i32]) -> Option<Vec<Listed>> {
+        let old = listed(list)?;
         let new = reference::shorten(list, LONGEST_LIST);
-        let new = &new.buffer[..new.used];
-        let right = |line: &Line| Condition::of(new, line);
-        let mut conditions: Vec<Condition> = lines(new)?.iter().map(right).collect();
+        let mut conditions = listed(&new.buffer[..new.used])?;
         if list.len() <= MOST_WORDS {
-            for (condition, line) in conditions.iter_mut().zip(&old) {
-                condition.formula = self.formula(&list[line.start..line.end]);
+            for (condition, old) in conditions.iter_mut().zip(&old) {
+                condition.formula = self.formula(&old.formula);
             }
         }
         let kept = match self.0 {
@@ -80,7 +78,7 @@ impl Misshortened {
             _ => 0..0,
         };
         for place in kept {
-            conditions[place] = Condition::of(list, &old[place]);
+            conditions[place] = old[place].clone();
         }
         match self.0 {
             ConditionsReversed => conditions.reverse(),
@@ -111,26 +109,21 @@ impl Misshortened {
         let (old, form) = (lines(list)?, Form::of(list)?);
         let mut words = Vec::new();
         for (condition, old) in conditions.iter().zip(&old) {
-            let Condition {
-                formula,
-                kind,
-                row,
-                depth,
-            } = condition;
-            let length = formula.len() as i32;
-            let (old_length, as_main) = ((old.end - old.start) as i32, (*kind).min(4));
-            words.extend(formula);
+            let (kind, row) = (condition.kind, condition.row);
+            let length = condition.formula.len() as i32;
+            let (old_length, as_main) = ((old.end - old.start) as i32, kind.min(4));
+            words.extend(&condition.formula);
             words.extend(match self.0 {
-                OldLengths => [*kind, *row, old_length],
-                LengthsWithTrailers => [*kind, *row, length + 3],
-                LengthsBeforeRows => [*kind, length, *row],
-                RowsLost => [*kind, 0, length],
-                KindsLost => [4, *row, length],
-                GuardsAsMain => [as_main, *row, length],
-                _ => [*kind, *row, length],
+                OldLengths => [kind, row, old_length],
+                LengthsWithTrailers => [kind, row, length + form.trailer_length() as i32],
+                LengthsBeforeRows => [kind, length, row],
+                RowsLost => [kind, 0, length],
+                KindsLost => [4, row, length],
+                GuardsAsMain => [as_main, row, length],
+                _ => [kind, row, length],
             });
             if form == Form::WithDepth {
-                words.push(*depth);
+                words.push(condition.depth);
             }
         }
         match self.0 {

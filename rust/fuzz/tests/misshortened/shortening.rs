@@ -1,7 +1,5 @@
 //! A list shortened by rules that may be wrong, and in ways that may be wrong.
 
-use reference::Line;
-
 use super::rules::{Ask, Becomes, Rule};
 
 fuzz::faults! {
@@ -123,24 +121,4 @@ fn length_of_first(words: &[i32]) -> usize {
         };
     }
     length
-}
-
-/// A line of a list: its formula, its kind, its row and its depth.
-#[derive(Clone)]
-pub struct Condition {
-    pub formula: Vec<i32>,
-    pub kind: i32,
-    pub row: i32,
-    pub depth: i32,
-}
-
-impl Condition {
-    pub fn of(list: &[i32], line: &Line) -> Condition {
-        Condition {
-            formula: list[line.start..line.end].to_vec(),
-            kind: line.kind,
-            row: line.row,
-            depth: line.depth,
-        }
-    }
 }
