@@ -45,7 +45,7 @@ bounds : (form : Form) → (3 ≤ trailer-length form) × (trailer-length form �
 bounds without-depth = (omega linear, omega linear)
 bounds with-depth = (omega linear, omega linear)
 
--- some length it has
+-- the length that the definition has
 pub tail-of : (ws : List ℤ) → Tail ws (trailer-length (form-of ws))
 tail-of ws = record { is = refl; least = bounds (form-of ws) .0; most = bounds (form-of ws) .1 }
 

@@ -33,7 +33,6 @@ module _ (ws : List ℤ) {n : ℕ} (tail : Tail ws n) (e : ℕ) where
   unfolding line-told
   told-short h = rw (← tail .is, lt-leb n e h)
 
-  -- the line found
   told-found : answer (line-ending ws e) .number ≡ 0 → answer (line-ending ws e) ≡ line-told ws e
   told-found z = go (ltb e n) refl (ltb (length ws) e) refl
     where

@@ -25,6 +25,7 @@ use Rattle.script.specs.Promise.{All-valid, List-valid, Demand-3}
 use Rattle.theorems.specs.Options.{some-inj}
 use Rattle.theorems.specs.ReadBack.{read-written, written-read}
 use Rattle.theorems.specs.Demand.{keeps, planned-list}
+use Rattle.theorems.specs.EitherForm.{valid-of}
 use Rattle.smt.specs.Verdicts.{List-unsatisfiable, unsatisfiable-iff}
 use Rattle.smt.specs.Refutations.{Refuted, refuted-iff}
 use Rattle.shortening.specs.Simplify.{Order, shorten-all}
@@ -32,10 +33,6 @@ use Rattle.shortening.specs.Laws.{Lawful, All, whole-law}
 use Rattle.shortening.specs.Shortened.{Written, written, used-words}
 use Rattle.shortening.specs.Lists.{count-same, all-valid-iff}
 use Rattle.shortening.specs.Answers.{room-enough, new-list}
-
--- what is read from the words is one list of conditions
-valid-of : (𝔸 : Arithmetic) (ws : List ℤ) (cs : List Condition) → read-list ws ≡ some cs → List-valid 𝔸 ws ↔ All-valid 𝔸 cs
-valid-of 𝔸 ws cs e = (λ h. h cs e, λ h ds q. subst (All-valid 𝔸) (some-inj (sym e ∙ q)) h)
 
 module _ (o : Order) where
   -- the new list is true in all states exactly where the old one is

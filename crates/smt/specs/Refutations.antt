@@ -2,8 +2,9 @@
 -- below the count a text was written whose script has no model (what a solver's `unsat` says, if it is right), then every run
 -- from a start that meets the precondition fails no assertion, divides by no zero, ends, meets the postcondition, and begins
 -- loops' bodies no more often than their variants say. These verdicts ask no more than demand 3 does: of a list that is read,
--- they stand at every index exactly where every condition is true in all states (`refuted-iff`). Assumes nothing.
-use Prim.Native.Nat.{ℕ, zero, suc, _<_}
+-- they stand at every index exactly where every condition is true in all states (`refuted-iff`). The same of a list that was stored
+-- in either form of 02, P9 (`verdicts-either`). Assumes nothing.
+use Prim.Native.Nat.{ℕ, zero, suc, _≤_, _<_}
 use mathlib.Core.Path.{_≡_, refl, sym, ap, _∙_, subst}
 use mathlib.Core.Logic.{_↔_}
 use mathlib.Core.Option.{some}
@@ -12,10 +13,12 @@ use native.Mathlib.Omega.{arith as linear}
 use borrow.Author.Tests.{le-ltb}
 use lib.Dec.{T}
 use lib.IntN.{ℤ, pos}
-use lib.ListN.{length, getElem?, take}
+use lib.ListN.{length, length-map, getElem?, take}
 use Rattle.script.specs.Meaning.{State, whole, holds}
 use Rattle.script.specs.Run.{Total-correctness}
-use Rattle.script.specs.Conditions.{Condition}
+use Rattle.script.specs.Conditions.{Condition, conditions}
+use Rattle.script.specs.Words.{Form}
+use Rattle.script.specs.Refusals.{accepted, verdict}
 use Rattle.script.specs.Trees.{tree}
 use Rattle.script.specs.Listing.{Found, lines, read-list}
 use Rattle.script.specs.Generated.{outcome}
@@ -24,6 +27,7 @@ use Rattle.theorems.specs.Options.{none-is-not, some-inj, went-on}
 use Rattle.theorems.specs.ReadBack.{conditions-of}
 use Rattle.theorems.specs.Lookup.{condition-of}
 use Rattle.theorems.specs.Demand.{planned-list}
+use Rattle.theorems.specs.EitherForm.{told-in, all-told-in, table-list, reads-either, valid-of, keeps-either}
 use Rattle.smt.specs.Smt.{Script, Satisfiable}
 use Rattle.smt.specs.Agreement.{no-model-iff}
 use Rattle.smt.specs.Translate.{script}
@@ -121,3 +125,14 @@ verdicts-to-runs table list scratch e refuted =
     let count : length cs ≡ outcome table list scratch .answer .conditions =
     ap length (some-inj (sym r ∙ p .reads)) ∙ sym (p .counts) in
     all-refuted _ cs r (λ i l. refuted i (subst (λ n. i < n) count l))
+
+-- of the list of a table's conditions in either form
+pub verdicts-either : (form : Form) (table : List ℤ) → verdict table ≡ accepted → length (table-list form table) ≤ 16384
+    → ((i : ℕ) → i < length (conditions (tree table)) → Refuted (table-list form table) i)
+    → (s : State) → T (holds whole s (tree table .pre)) → Total-correctness whole (tree table) s
+verdicts-either form table h short refuted =
+    let cs = conditions (tree table) in
+    let ws = table-list form table in
+    let r = reads-either form table h short in
+    let all = refuted-iff ws (all-told-in form cs) r .0 (λ i l. refuted i (subst (λ n. i < n) (length-map cs (told-in form)) l)) in
+    keeps-either whole form table h short (valid-of whole ws (all-told-in form cs) r .1 all)

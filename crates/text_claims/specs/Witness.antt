@@ -27,7 +27,7 @@ use Rattle.text_claims.specs.Runs.{Keeps-promise, has-reading, same-scri
 abbrev pub text : List ℕ
 text = bytes "pre 0 <= v0; while 0 < v0 keep 0 <= v0 fall v0 do v0 := v0 - 1 end; post v0 = 0"
 
-is-read : outcome 80 text ≡ given example-a
+pub is-read : outcome 80 text ≡ given example-a
 unfolding example-a example _⨾_ outcome scan scan-from token-at stuck out-of-range read reduce depth text-table text-rows table size roots flat
 is-read = refl
 

@@ -32,7 +32,7 @@ use Rattle.theorems.specs.InRange.{in-range-conditions}
 
 -- ---- the list of an accepted table
 
-some-conditions : (t : Tree) → 0 < length (conditions t)
+pub some-conditions : (t : Tree) → 0 < length (conditions t)
 unfolding conditions
 some-conditions t = rw (length-append (walk 0 (t .body) (t .post)) _) (omega linear)
 

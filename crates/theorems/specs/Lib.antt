@@ -69,6 +69,7 @@ pub mod ScratchRules
 pub mod Demand
 pub mod Depths
 pub mod FormerReader
+pub mod EitherForm
 pub mod StoredTables
 pub mod StoredLists
 -- ---- wrong answers: bodies, readers, rules, reads

@@ -2,7 +2,7 @@
 
 use leqwarti::{Condition, ConditionKind, Formula, Plan, Reason, Refusal};
 
-use crate::{Fault, Json, RefusedText, Shortened, Size, Source, Text, Unread};
+use crate::{Fault, Json, Order, RefusedText, Shortened, Size, Source, Text, Unread};
 
 /// What the generator says of a file.
 #[derive(Clone, Debug, PartialEq, Eq)]
@@ -63,30 +63,38 @@ impl Answer {
         }
     }
 
-    /// The answer as the proved program writes it. Where conditions are shortened,
-    /// a second line has the words of the new list, and how many less they are.
+    /// The answer as the proved program writes it; see `words_in`.
     pub fn words(&self) -> String {
+        self.words_in(Order::OfList)
+    }
+
+    /// The same with the conditions in some order. Where they are shortened, a second
+    /// line has the words of the new list, and how many less they are. By depth, a
+    /// line has the depth before those that have it.
+    pub fn words_in(&self, order: Order) -> String {
         let mut text = self.first_line();
         if let Some(shortened) = self.shortening() {
             let (words, saved) = (shortened.words(), shortened.saved());
             text += &format!("shortened {words} {saved}\n");
         }
-        for condition in self.plan().into_iter().flatten() {
-            text += &condition.kind.with_row(condition.row);
-            for word in condition.formula.words() {
-                text += &format!(" {word}");
-            }
-            text.push('\n');
+        if let Some(plan) = self.plan() {
+            text += &conditions_words(plan, order);
         }
         text
     }
 
     /// The answer for a person, with what the file says at the rows it names.
     pub fn text(&self) -> String {
+        self.text_in(Order::OfList)
+    }
+
+    /// The same with the conditions in some order.
+    pub fn text_in(&self, order: Order) -> String {
         let rest = match self {
-            Answer::Table(source, Ok(plan)) => conditions_text(plan, source),
+            Answer::Table(source, Ok(plan)) => conditions_text(plan, order, source),
             Answer::Short(source, shortened) => {
-                format!("{shortened}\n{}", conditions_text(&shortened.new, source))
+                let conditions = conditions_text(&shortened.new, order, source);
+                format!("{shortened}\n{conditions}")
             }
             Answer::Table(source, Err(refusal)) => refusal_text(refusal, source),
             Answer::Unread(text) => text.explanation(),
@@ -122,19 +130,41 @@ fn planned(plan: &Plan) -> String {
     format!("planned {conditions} {}\n", plan.words().len())
 }
 
-fn conditions_text(plan: &Plan, source: &Source) -> String {
-    let conditions = plan.conditions();
+fn conditions_words(plan: &Plan, order: Order) -> String {
+    let mut text = String::new();
+    let conditions = order.conditions(plan);
+    for of_one_depth in conditions.chunk_by(|one, next| one.depth == next.depth) {
+        if order == Order::ByDepth {
+            text += &format!("depth {}\n", of_one_depth[0].depth);
+        }
+        for condition in of_one_depth {
+            text += &condition.kind.with_row(condition.row);
+            for word in condition.formula.words() {
+                text += &format!(" {word}");
+            }
+            text.push('\n');
+        }
+    }
+    text
+}
+
+fn conditions_text(plan: &Plan, order: Order, source: &Source) -> String {
+    let conditions = order.conditions(plan).into_iter();
     conditions
-        .map(|condition| condition_text(&condition, source))
+        .map(|condition| condition_text(&condition, order, source))
         .collect()
 }
 
-fn condition_text(condition: &Condition, source: &Source) -> String {
-    let Condition { kind, row, formula } = *condition;
+fn condition_text(condition: &Condition, order: Order, source: &Source) -> String {
+    let (kind, row) = (condition.kind, condition.row);
     let (name, meaning) = (kind.with_row(row), meaning(kind));
+    let depth = match (order, condition.depth) {
+        (Order::OfList, 0) => String::new(),
+        (_, depth) => format!(", depth {depth}"),
+    };
     let (line, said) = (source.line(row), source.said(row));
-    let formula = formula_text(formula, source);
-    format!("\n{name}: {meaning}\nline {line}: {said}\n{formula}")
+    let formula = formula_text(condition.formula, source);
+    format!("\n{name}{depth}: {meaning}\nline {line}: {said}\n{formula}")
 }
 
 fn meaning(kind: ConditionKind) -> &'static str {
@@ -212,22 +242,22 @@ mod tests {
     fn a_plan_is_told_row_by_row() {
         let (text, words) =
             both("v0 is x\n16 0 0 0\n2 0 0 0\n2 0 0 0\n20 1 2 0\n32 0 0 0\n48 0 4 3 # all\n");
-        let expected = "planned 1 11\n\n\
+        let expected = "planned 1 12\n\n\
             main 5: the precondition gives what the script needs at its start\n\
             line 7: all\n    true\n  implies\n    x = x\n";
         assert_eq!(text, expected);
-        assert_eq!(words, "planned 1 11\nmain 5 25 16 20 2 0 2 0\n");
+        assert_eq!(words, "planned 1 12\nmain 5 25 16 20 2 0 2 0\n");
     }
 
     #[test]
     fn a_shortened_plan_says_what_is_saved() {
         let answer = Answer::to(b"pre true; v0 := v0 * 1; post v0 = v0 + 0");
         let answer = answer.unwrap().shortened();
-        let expected = "planned 1 20\nshortened to 9 words, 11 saved\n\n\
+        let expected = "planned 1 21\nshortened to 10 words, 11 saved\n\n\
             main 10: the precondition gives what the script needs at its start\n\
             line 1: pre true\n    v0 = v0\n";
         assert_eq!(answer.text(), expected);
-        let expected = "planned 1 20\nshortened 9 11\nmain 10 20 2 0 2 0\n";
+        let expected = "planned 1 21\nshortened 10 11\nmain 10 20 2 0 2 0\n";
         assert_eq!(answer.words(), expected);
     }
 

@@ -5,6 +5,7 @@ mod answer;
 mod json;
 mod mended;
 mod names;
+mod order;
 mod point;
 mod proof;
 mod refused_text;
@@ -23,6 +24,7 @@ pub use answer::Answer;
 pub use json::Json;
 pub use mended::MendedRows;
 pub use names::Names;
+pub use order::Order;
 pub use point::Point;
 pub use proof::{
     Asked, Contradiction, Finding, Outcome, Progress, Proof, Refutation, Report, Verdict, Wording,

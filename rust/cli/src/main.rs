@@ -1,5 +1,5 @@
-//! The command: `vcgen [list] [--words] FILE`, `vcgen smt FILE [INDEX]`,
-//! `vcgen smt --into FOLDER FILE` and
+//! The command: `vcgen [list] [--by-depth] [--words] FILE`,
+//! `vcgen smt FILE [INDEX]`, `vcgen smt --into FOLDER FILE` and
 //! `vcgen prove [--timeout SECONDS] [--json] FILE`, each also with `--short`; and
 //! `vcgen mend [--json] FILE` and `vcgen size [--json] FILE`.
 
@@ -105,8 +105,8 @@ fn unreadable(told: String) -> Failure {
 fn list(request: &List) -> Result<u8, Failure> {
     let answer = answer_with(request.file, request.is_short)?;
     print(&match request.as_words {
-        true => answer.words(),
-        false => answer.text(),
+        true => answer.words_in(request.order),
+        false => answer.text_in(request.order),
     })?;
     Ok(match answer.plan() {
         Some(_) => 0,

@@ -5,7 +5,7 @@ use std::ffi::{OsStr, OsString};
 use std::path::Path;
 use std::time::Duration;
 
-use cli::HELP;
+use cli::{Order, HELP};
 
 pub enum Request<'a> {
     Help,
@@ -20,6 +20,7 @@ pub struct List<'a> {
     pub file: &'a Path,
     /// Whether the conditions are shortened; below too.
     pub is_short: bool,
+    pub order: Order,
     pub as_words: bool,
 }
 
@@ -153,7 +154,7 @@ impl Subcommand {
     /// Its options, each with what has to follow it.
     fn options(self) -> &'static [(&'static str, Option<&'static str>)] {
         match self {
-            Subcommand::List => &[("--short", None), ("--words", None)],
+            Subcommand::List => &[("--short", None), ("--by-depth", None), ("--words", None)],
             Subcommand::Smt => &[("--short", None), ("--into", Some("FOLDER"))],
             Subcommand::Prove => &[
                 ("--short", None),
@@ -226,6 +227,7 @@ impl<'a> Given<'a> {
                 Request::List(List {
                     file,
                     is_short,
+                    order: self.order(),
                     as_words: self.has("--words"),
                 })
             }
@@ -258,6 +260,13 @@ impl<'a> Given<'a> {
                 })
             }
         })
+    }
+
+    fn order(&self) -> Order {
+        match self.has("--by-depth") {
+            true => Order::ByDepth,
+            false => Order::OfList,
+        }
     }
 
     fn wanted(&self, rest: &[&'a OsStr]) -> Result<Wanted<'a>, String> {
@@ -346,7 +355,11 @@ mod tests {
             Ok(Request::Help) => "help".to_string(),
             Ok(Request::List(list)) => {
                 let (short, file) = (short(list.is_short), list.file.display());
-                format!("list{short} {file} {}", list.as_words)
+                let order = match list.order {
+                    Order::OfList => "",
+                    Order::ByDepth => " by depth",
+                };
+                format!("list{short}{order} {file} {}", list.as_words)
             }
             Ok(Request::Smt(smt)) => {
                 let (short, file) = (short(smt.is_short), smt.file.display());
@@ -413,6 +426,10 @@ mod tests {
             ("--short a", "list short a false"),
             ("a --short --words", "list short a true"),
             ("list --words --short a", "list short a true"),
+            ("--by-depth a", "list by depth a false"),
+            ("a --by-depth --words", "list by depth a true"),
+            ("list --by-depth --short a", "list short by depth a false"),
+            ("smt --into --by-depth a", "smt a into --by-depth"),
             ("smt --short a", "smt short a"),
             ("smt --short a 0", "smt short a at 0"),
             ("smt a 0 --short", "smt short a at 0"),
@@ -491,6 +508,13 @@ mod tests {
             "--short --short a",
             "--short prove a",
             "smt --short a 0 --short",
+            "--by-depth",
+            "--by-depth --by-depth a",
+            "--by-depth list a",
+            "prove --by-depth a",
+            "smt --by-depth a",
+            "mend --by-depth a",
+            "size --by-depth a",
             "prove --shorter a",
             "mend",
             "mend a b",
@@ -521,7 +545,7 @@ mod tests {
     #[test]
     fn what_is_wrong_comes_before_the_usage() {
         let usage_of = |name: &str| match name {
-            "list" => "usage: ./vcgen [list] [--short] [--words] FILE",
+            "list" => "usage: ./vcgen [list] [--short] [--by-depth] [--words] FILE",
             "smt" => {
                 "usage: ./vcgen smt [--short] FILE [INDEX]\n       \
                  ./vcgen smt [--short] --into FOLDER FILE"
@@ -535,6 +559,32 @@ mod tests {
             ("--word a", "list", "`--word` is no option of list"),
             ("--words --words a", "list", "--words is given twice"),
             ("--short a --short", "list", "--short is given twice"),
+            (
+                "--by-depth a --by-depth",
+                "list",
+                "--by-depth is given twice",
+            ),
+            ("--by-depth list a", "list", "`list` has to stand first"),
+            (
+                "prove --by-depth a",
+                "prove",
+                "`--by-depth` is no option of prove",
+            ),
+            (
+                "smt --by-depth a",
+                "smt",
+                "`--by-depth` is no option of smt",
+            ),
+            (
+                "mend --by-depth a",
+                "mend",
+                "`--by-depth` is no option of mend",
+            ),
+            (
+                "size --by-depth a",
+                "size",
+                "`--by-depth` is no option of size",
+            ),
             ("smt --short a --short", "smt", "--short is given twice"),
             ("prove --short --short a", "prove", "--short is given twice"),
             (

@@ -70,12 +70,12 @@ mod tests {
         let size = size_of("pre true; skip; post true");
         let text = "\
 table    16 words (4 rows)
-list      7 words (1 condition)
+list      8 words (1 condition)
 scratch   8 words
 ";
         assert_eq!(size.text(), text);
         let json =
-            r#"{"verdict":"planned","rows":4,"table":16,"conditions":1,"list":7,"scratch":8}"#;
+            r#"{"verdict":"planned","rows":4,"table":16,"conditions":1,"list":8,"scratch":8}"#;
         assert_eq!(size.json().to_string(), json);
     }
 
@@ -85,7 +85,7 @@ scratch   8 words
         let size = size_of(&format!("pre 0 <= v0; {}post 0 <= v0", branch.repeat(8)));
         let text = "\
 table      440 words (110 rows)
-list     11004 words (1 condition)
+list     11005 words (1 condition)
 scratch    220 words
 ";
         assert_eq!(size.text(), text);

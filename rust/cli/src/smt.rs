@@ -64,7 +64,7 @@ mod tests {
 
     /// As many conditions `true`, floor of row 7.
     fn file_names(count: i32) -> Vec<String> {
-        let words = [[16, 2, 7, 1].repeat(count as usize), vec![count]].concat();
+        let words = [[16, 2, 7, 1, 0].repeat(count as usize), vec![-count]].concat();
         let plan = Plan::read(words).unwrap();
         scripts(&plan).map(|script| script.file_name()).collect()
     }

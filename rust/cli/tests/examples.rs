@@ -96,7 +96,7 @@ fn a_guard_that_divides_has_a_condition() {
     let script = example("pump-stop.script");
     let words = vcgen(&["--words", "-"], &script);
     let smt = vcgen(&["smt", "-"], &script);
-    let shown = "planned 5 144\nguard 21 25 19 1 0 2 1 21 2 1 1 0\nexit 21 25 ";
+    let shown = "planned 5 149\nguard 21 25 19 1 0 2 1 21 2 1 1 0\nexit 21 25 ";
     assert!(written(&words).1.starts_with(shown));
     let shown = "; guard 21\n(set-logic QF_NIA)\n(declare-const v1 Int)\n\
         (assert (not (=> (<= 0 v1) (distinct v1 0))))\n(check-sat)\n; exit 21\n";
@@ -140,7 +140,7 @@ fn what_cannot_be_read_has_status_2_and_its_line() {
 fn wrong_usage_is_told() {
     let usage = |problem: &str| {
         format!(
-            "vcgen: {problem}\nusage: ./vcgen [list] [--short] [--words] FILE\n\
+            "vcgen: {problem}\nusage: ./vcgen [list] [--short] [--by-depth] [--words] FILE\n\
              ./vcgen --help says more\n"
         )
     };

@@ -134,7 +134,7 @@ fn the_largest_tables_are_mended() {
     assert!(text.starts_with(head), "{text}");
     assert!(text.contains("#   row 0, line 1, once: 16 0 0 0\n#   row 1, line 2, 1022 times: "));
     let listed = vcgen(&["-"], &text);
-    assert!(written(&listed).1.starts_with("planned 1 7\n"));
+    assert!(written(&listed).1.starts_with("planned 1 8\n"));
 
     let again = mended(&text);
     assert!(again.starts_with("# nothing to mend: "));

@@ -991,7 +991,7 @@ fn values_of_a_short_condition_are_those_of_its_own() {
         PADDED_AND_FALSE_FAR_AWAY,
     );
     let (head, rest) = short.out.split_once('\n').unwrap();
-    assert_eq!(head, "shortened to 12 words, 16 saved");
+    assert_eq!(head, "shortened to 13 words, 16 saved");
     let line = "main 18, line 1: false where v0 = 123579456 (z3 TIME)\n\nnot proved: ";
     assert!(without_times(rest).starts_with(line), "{short:?}");
     let part = "\nFalse there:\n    v0 <> (123456 * 1001): 123579456 on the left, ";

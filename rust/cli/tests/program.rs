@@ -54,7 +54,7 @@ fn shortened(output: &str) -> String {
         let formula = parts.next().unwrap().split(' ');
         let formula: Vec<i32> = formula.map(|word| word.parse().unwrap()).collect();
         let formula = shortened_formula(&formula);
-        words += formula.len() + 3;
+        words += formula.len() + 4;
         lines += &format!("{name} {row}");
         lines.extend(formula.iter().map(|word| format!(" {word}")));
         lines.push('\n');

@@ -214,14 +214,11 @@ fn a_line_stands_for_each_condition_as_the_list_names_it() {
         let listed = expected(file);
         let mut paragraphs = listed.split("\n\n").skip(1);
         for line in run.lines() {
-            let head = format!("{}: ", line.name);
             let place = format!("\nline {}: ", line.line);
             let paragraph = paragraphs.next().unwrap();
-            assert!(
-                paragraph.starts_with(&head),
-                "{}: {paragraph}",
-                file.display()
-            );
+            let head = paragraph.split(": ").next().unwrap();
+            let name = head.split(", depth ").next();
+            assert_eq!(name, Some(&line.name[..]), "{}", file.display());
             assert!(
                 paragraph.contains(&place),
                 "{}: {paragraph}",
@@ -513,7 +510,7 @@ fn what_is_false_is_shown_as_it_is_asked_for() {
     assert!(out.ends_with(part), "{out}");
 
     let short = prove_with(&["--short", "-"], script).timeless();
-    let head = format!("shortened to 10 words, 12 saved\n{line}");
+    let head = format!("shortened to 11 words, 12 saved\n{line}");
     assert!(short.starts_with(&head), "{short}");
     let part = "\nFalse there:\n    (-(x)) <= 5: 6 on the left, 5 on the right\n";
     assert!(short.ends_with(part), "{short}");
@@ -662,8 +659,8 @@ fn with_short_the_object_has_what_is_saved() {
                 );
                 let told = ["words", "saved"].map(|name| json.number(name));
                 let wanted = match file {
-                    "oil-bill.script" => ["176", "104"],
-                    _ => ["94", "0"],
+                    "oil-bill.script" => ["180", "104"],
+                    _ => ["98", "0"],
                 };
                 assert_eq!(told, wanted);
             }
@@ -707,6 +704,26 @@ fn assert_condition(condition: &Json, line: &Line) {
     assert_eq!(values, is_false.then(|| line.values()));
     assert_eq!(condition.field("false_part").is_some(), is_false);
     assert_eq!(condition.field("problem"), None);
+}
+
+#[test]
+fn the_object_has_the_depths() {
+    let (_, json) = json_of(&[example("grease-pot.script").to_str().unwrap()], "");
+    let conditions = json.list("conditions").iter();
+    let told = conditions.map(|condition| {
+        let [row, depth] = ["row", "depth"].map(|name| condition.number(name));
+        format!("{} {row}, depth {depth}", condition.text("name"))
+    });
+    let wanted = [
+        "exit 65, depth 0",
+        "floor 65, depth 0",
+        "exit 52, depth 1",
+        "floor 52, depth 1",
+        "step 52, depth 1",
+        "step 65, depth 0",
+        "main 77, depth 0",
+    ];
+    assert_eq!(told.collect::<Vec<_>>(), wanted);
 }
 
 #[test]
@@ -798,7 +815,7 @@ fn the_help_names_what_the_object_has() {
         let (_, json) = json_of(&[&timeout[..], &[path.to_str().unwrap()]].concat(), "");
         names_and_words(&json, &mut found);
     }
-    assert!(found.len() >= 27, "{found:?}");
+    assert!(found.len() >= 28, "{found:?}");
     assert!(["words", "saved"].iter().all(|name| found.contains(*name)));
     let mut paragraphs = cli::HELP.split("\n\n");
     let object = paragraphs.find(|one| one.starts_with("--json prints one object"));

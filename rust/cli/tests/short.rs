@@ -53,10 +53,10 @@ impl Listed {
         }
     }
 
-    /// The words of the list that it is of: each condition has three words behind
+    /// The words of the list that it is of: each condition has four words behind
     /// its formula, and the list a count.
     fn length(&self) -> usize {
-        let formulas = self.conditions.iter().map(|(_, formula)| formula.len() + 3);
+        let formulas = self.conditions.iter().map(|(_, formula)| formula.len() + 4);
         formulas.sum::<usize>() + 1
     }
 
@@ -116,6 +116,30 @@ fn the_readme_tells_what_is_saved_of_branches() {
     assert_eq!([bytes(&["--short"]), bytes(&[])], [94, 4_018]);
     let readme = text(&top().join("README.md"));
     assert!(readme.contains("have 94 in place of 4,018"));
+}
+
+/// What it says of all examples as text, in bytes.
+#[test]
+fn the_readme_tells_what_is_saved_of_the_examples() {
+    let bytes = |arguments: &[&str], file: &Path| {
+        let scripts = printed(&[&["smt"], arguments].concat(), file);
+        let lines = scripts.lines().filter(|line| !line.starts_with(';'));
+        lines.map(|line| line.len() + 1).sum::<usize>()
+    };
+    let mut texts = planned();
+    texts.retain(|file| file.extension().is_some_and(|end| end == "script"));
+    let total = |arguments: &[&str]| {
+        let bytes = texts.iter().map(|file| bytes(arguments, file));
+        bytes.sum::<usize>()
+    };
+    assert_eq!([total(&["--short"]), total(&[])], [39_708, 40_142]);
+    let bill = top().join("examples/oil-bill.script");
+    assert_eq!(bytes(&[], &bill) - bytes(&["--short"], &bill), 256);
+
+    let readme = text(&top().join("README.md")).replace('\n', " ");
+    let told =
+        "39,708 bytes in place of 40,142, and more than half of it, 256 bytes, is oil-bill's";
+    assert!(readme.contains(told));
 }
 
 #[test]
@@ -231,7 +255,7 @@ fn a_refusal_stays_as_it_is() {
     assert!(refused >= 4, "{refused} files");
 }
 
-/// The list that `--words` tells of, made anew.
+/// The list that `--words` tells of, made anew in the form that has no depths.
 fn plan_of(listed: &Listed) -> Plan {
     let exit = 1;
     let mut words = Vec::new();

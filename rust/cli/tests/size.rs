@@ -123,7 +123,7 @@ fn the_largest_table_is_sized() {
     let skips = format!("pre true; {}skip; post true", "skip; ".repeat(1_022));
     let told = "\
 table    8192 words (2048 rows)
-list        7 words (1 condition)
+list        8 words (1 condition)
 scratch  4096 words
 ";
     assert_eq!(sized(&[], &skips), told);
@@ -172,7 +172,7 @@ fn what_is_refused_is_told_as_list_tells_it() {
 /// Nobody is told to lend more than a list may have.
 #[test]
 fn a_list_that_is_too_long_is_refused_with_12() {
-    assert!(sized(&[], &branches(8)).contains("list     11004 words (1 condition)\n"));
+    assert!(sized(&[], &branches(8)).contains("list     11005 words (1 condition)\n"));
     let told = "refused 12 0\nthe list is longer than its buffer, or than 16,384 words\n";
     assert_eq!(assert_refused_as_listed(&branches(9)), told);
 }
@@ -251,12 +251,37 @@ fn the_readme_shows_what_is_lent() {
         scratch_words(LARGEST_TABLE / 4),
     ];
     assert_eq!(most, [8_192, 16_384, 4_096]);
-    let words: Vec<&str> = readme.split_whitespace().collect();
-    let readme = words.join(" ");
+    let readme = on_one_line(&readme);
     for told in [
-        "With 93 words for the list the answer is 12, with 39 for the scratch it is 11",
+        "With 97 words for the list the answer is 12, with 39 for the scratch it is 11",
         "8,192 words for the table, 16,384 for the list and 4,096 for the scratch suffice",
     ] {
         assert!(readme.contains(told), "{told}");
     }
+}
+
+/// Of branches in a row, and of as many in one another.
+#[test]
+fn the_readme_tells_how_long_lists_get() {
+    let last = "if v1 < 3 then v0 := v0 + 1 else v0 := v0 + 2 end".to_string();
+    let around = |inner: String, _| format!("if v1 < 3 then v0 := v0 + 1 else {inner} end");
+    let nested = format!("pre 0 <= v0; {}; post 0 <= v0", (1..8).fold(last, around));
+    let lists = [branches(4), branches(8), nested].map(|script| {
+        let json = Json::read(&sized(&["--json"], &script));
+        json.number("list").to_string()
+    });
+    assert_eq!(lists, ["493", "11005", "195"]);
+
+    let readme = on_one_line(&text(&top().join("README.md")));
+    for told in [
+        "in a row take 493 words and just fit the program's 512; eight take 11,005, and nine no longer fit 16,384",
+        "eight of them, each the else side of the one before, take 195 words",
+    ] {
+        assert!(readme.contains(told), "{told}");
+    }
+}
+
+fn on_one_line(text: &str) -> String {
+    let words: Vec<&str> = text.split_whitespace().collect();
+    words.join(" ")
 }

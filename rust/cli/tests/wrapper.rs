@@ -108,6 +108,7 @@ fn wrong_usage_builds_nothing() {
         "prove --json --timeout 5",
         "prove --short",
         "--short --words",
+        "--by-depth",
         "list",
         "smt",
         "mend",
@@ -154,7 +155,10 @@ fn wrong_usage_builds_nothing() {
             "`prove` has to stand first",
         ),
         (&["--short smt a.script 5"], "`smt` has to stand first"),
-        (&["--words list a.script"], "`list` has to stand first"),
+        (
+            &["--words list a.script", "--by-depth list a.script"],
+            "`list` has to stand first",
+        ),
         (&["--json mend a.script"], "`mend` has to stand first"),
         (&["--json size a.script"], "`size` has to stand first"),
     ] {
@@ -248,6 +252,8 @@ fn what_is_built_gets_the_arguments_as_they_are() {
         "prove -",
         "list --words a.script",
         "--short a.script",
+        "--by-depth a.script",
+        "list --words --by-depth a.script",
         "smt a.script 5",
         "smt --short a.script 5",
         "smt --into none a.script",

@@ -4,7 +4,7 @@ use std::collections::BTreeMap;
 use std::fmt;
 use std::path::PathBuf;
 
-use reference::{Line, Side, Verdict};
+use reference::{lines, Form, Line, Side, Verdict};
 
 use crate::divisions::places_of_divisions;
 use crate::inputs::Input;
@@ -73,6 +73,10 @@ pub struct Tally {
     pub accepted: u64,
     pub dividing: u64,
     pub divisions: BTreeMap<&'static str, u64>,
+    /// The lists of inputs by their form, whole and torn, and the depths of lines that
+    /// were read.
+    pub forms: BTreeMap<&'static str, u64>,
+    pub depths: BTreeMap<i32, u64>,
 }
 
 impl Tally {
@@ -87,6 +91,16 @@ impl Tally {
 }
 
 impl Tally {
+    fn count_form(&mut self, list: &[i32]) {
+        let name = match (lines(list), Form::of(list)) {
+            (Some(_), Some(Form::WithoutDepth)) => "without depths",
+            (Some(_), _) => "with depths",
+            (None, Some(Form::WithDepth)) => "torn, with a negative word at the end",
+            (None, _) => "torn",
+        };
+        *self.forms.entry(name).or_default() += 1;
+    }
+
     fn count_mended(&mut self, old: &[i32], answer: &MendAnswer, new: &[i32], origins: &[i32]) {
         count(&mut self.mend, answer.number);
         self.copied += u64::from(answer.copied > 0);
@@ -170,6 +184,16 @@ pub fn compare_input(
     tally: &mut Tally,
 ) -> Result<(), String> {
     match input {
+        Input::List(list) | Input::Text { list, .. } | Input::Shorten { list, .. } => {
+            tally.count_form(list);
+        }
+        Input::Shorter { old, new, .. } => {
+            tally.count_form(old);
+            tally.count_form(new);
+        }
+        _ => (),
+    }
+    match input {
         Input::Table {
             words,
             list_len,
@@ -241,12 +265,15 @@ fn number_of(verdict: Verdict) -> u8 {
 }
 
 fn compare_list(subject: &mut dyn Subject, list: &[i32], tally: &mut Tally) -> Result<(), String> {
-    let lines = reference::lines(list);
-    let steps = lines.as_ref().map_or(2, |lines| lines.len() + 2);
+    let found = lines(list);
+    let steps = found.as_ref().map_or(2, |lines| lines.len() + 2);
     let walked = Reference.walk(list, steps);
-    walked
-        .iter()
-        .for_each(|line| count(&mut tally.walk, line.number));
+    for line in &walked {
+        count(&mut tally.walk, line.number);
+        if line.number == 0 {
+            *tally.depths.entry(line.depth).or_default() += 1;
+        }
+    }
     same_lines("walk", &walked, &subject.walk(list, steps))?;
     for index in indexes(list, steps) {
         let expected = reference::line_at(list, index);

@@ -2,8 +2,9 @@
 
 use std::fmt::Write;
 
-use reference::{check, conditions, list_words, need, script_of, Verdict, LONGEST_LIST};
+use reference::{need, LONGEST_LIST};
 
+use crate::forms::{any_list_in_a_form, in_any_form, list_of_table};
 use crate::limits::{dividing_limit_words, limit_words, list_of_length, nested, unread_words};
 use crate::mending::{any_rooms_for_mended, any_table_to_mend};
 use crate::mutate::{change_words, list_with_length, made_up_list, random_words, tear, tiny_list};
@@ -72,8 +73,8 @@ impl Input {
         };
         match random.below(32) {
             0..=27 => table_with_any_lengths(words, random),
-            28..=29 => Input::List(torn_at_times(list_of(&words), random)),
-            30 => any_text_of(list_of(&words), random),
+            28..=29 => Input::List(torn_at_times(list_of_table(&words, random), random)),
+            30 => any_text_of(list_of_table(&words, random), random),
             _ => Input::Bytes(bytes_of(&words)),
         }
     }
@@ -115,6 +116,29 @@ impl Input {
         let list = any_list_to_shorten(random);
         let room = any_room_for_list(&list, random);
         Input::Shorten { list, room }
+    }
+
+    /// Lists in both forms, read, written for solvers and shortened, and pairs of them;
+    /// many are damaged, most of these in what tells the form.
+    pub fn any_form(random: &mut Prng) -> Input {
+        let list = any_list_in_a_form(random);
+        match random.below(8) {
+            0..=3 => Input::List(list),
+            4 => any_text_of(list, random),
+            5 | 6 => {
+                let room = any_room_for_list(&list, random);
+                Input::Shorten { list, room }
+            }
+            _ => {
+                let new = match random.below(3) {
+                    0 => any_list_in_a_form(random),
+                    _ => in_any_form(list.clone(), random),
+                };
+                let index = any_index_of_pair(&list, &new, random);
+                let old = list;
+                Input::Shorter { old, new, index }
+            }
+        }
     }
 
     /// Tables to be mended.
@@ -245,7 +269,7 @@ fn any_lengths(words: &[i32], random: &mut Prng) -> (usize, usize) {
             1 => two_a_row.saturating_sub(1),
             _ => random.below(2_000),
         };
-        return (random.pick(&[0, 1, 7, 94, 512]), scratch_len);
+        return (random.pick(&[0, 1, 7, 8, 94, 98, 512]), scratch_len);
     };
     let wanted = need.words.unwrap_or(LONGEST_LIST);
     let list_len = match random.below(32) {
@@ -253,8 +277,10 @@ fn any_lengths(words: &[i32], random: &mut Prng) -> (usize, usize) {
         10..=15 => wanted - 1,
         16..=20 => wanted + 1,
         21..=24 => wanted + random.below(100),
-        25..=28 => random.below(wanted + 1),
-        29 => random.pick(&[0, 1, 6, 7]),
+        25..=27 => random.below(wanted + 1),
+        // Mostly between the need before P9 and the need.
+        28 => wanted - 1 - random.below(wanted.min(8)),
+        29 => random.pick(&[0, 1, 6, 7, 8]),
         _ => random.pick(&[LONGEST_LIST - 1, LONGEST_LIST, LONGEST_LIST + 1, 20_000]),
     };
     (list_len, any_scratch(words, need, list_len, random))
@@ -295,16 +321,8 @@ fn list_of_generator(random: &mut Prng) -> Vec<i32> {
         rows: 4 + random.below(60),
         ..Shape::any(random)
     };
-    list_of(&script_words(random, shape))
-}
-
-/// The list of a table; no words where it is refused or too long.
-fn list_of(words: &[i32]) -> Vec<i32> {
-    if check(words) != Verdict::Accepted {
-        return Vec::new();
-    }
-    let listed = conditions(&script_of(words), LONGEST_LIST);
-    listed.map_or(Vec::new(), |conditions| list_words(&conditions))
+    let words = script_words(random, shape);
+    list_of_table(&words, random)
 }
 
 /// Lists as above and ones full of divisions, whole and torn.

@@ -11,6 +11,7 @@ pub mod compare;
 pub mod divisions;
 pub mod edge_texts;
 mod faults;
+pub mod forms;
 pub mod guarded;
 pub mod inputs;
 pub mod layouts;

@@ -105,7 +105,7 @@ pub fn nested(random: &mut Prng, nesting: usize) -> Vec<i32> {
     finish(arena, pre, statement, post, random)
 }
 
-/// A script whose list has exactly `length` words (from 112 on): four ifs on
+/// A script whose list has exactly `length` words (from 113 on): four ifs on
 /// end, each making Q into 2Q + 6 words.
 pub fn list_of_length(random: &mut Prng, length: usize) -> Vec<i32> {
     let mut arena = Arena::default();
@@ -120,8 +120,8 @@ pub fn list_of_length(random: &mut Prng, length: usize) -> Vec<i32> {
         });
     }
     let (pre, post) = (arena.leaf(16), arena.leaf(17));
-    let pre = nots(&mut arena, pre, (length - 112) % 16);
-    let post = nots(&mut arena, post, (length - 112) / 16);
+    let pre = nots(&mut arena, pre, (length - 113) % 16);
+    let post = nots(&mut arena, post, (length - 113) / 16);
     finish(arena, pre, statement.expect("four ifs"), post, random)
 }
 

@@ -1,7 +1,8 @@
 //! Tables with some words changed, and lists torn in every way.
 
-use reference::{shape, Role, LONGEST_LIST};
+use reference::{shape, Form, Role, LONGEST_LIST};
 
+use crate::forms::{any_form, push_trailer};
 use crate::prng::{Prng, KINDS};
 use crate::scripts::formula_words;
 
@@ -76,9 +77,10 @@ pub fn random_words(random: &mut Prng) -> Vec<i32> {
     words
 }
 
-/// A well-formed list that no generator need have written; with some `wrong`,
-/// numbers in it are off their range once in so many.
+/// A well-formed list of either form that no generator need have written; with some
+/// `wrong`, numbers in it are off their range once in so many.
 pub fn made_up_list(random: &mut Prng, wrong: usize) -> Vec<i32> {
+    let form = any_form(random);
     let wanted = match random.below(10) {
         0 => 100 + random.below(300),
         _ => 1 + random.below(8),
@@ -90,56 +92,59 @@ pub fn made_up_list(random: &mut Prng, wrong: usize) -> Vec<i32> {
         let size = 1 + random.below(most);
         let formula = formula_words(random, size, wrong);
         let length = formula.len();
-        if words.len() + length + 4 > LONGEST_LIST {
+        if words.len() + length + form.trailer_length() + 1 > LONGEST_LIST {
             break;
         }
         let any_row = random.between(0, 2_047);
         let row = random.pick(&[0, 2_047, any_row]);
         words.extend(formula);
-        words.extend([random.between(1, 5), row, length as i32]);
+        push_trailer(&mut words, form, row, length, random);
         count += 1;
     }
-    words.push(count as i32);
+    words.push(form.last_word(count));
     words
 }
 
 /// A few words, hardly ever a list.
 pub fn tiny_list(random: &mut Prng) -> Vec<i32> {
-    let length = random.below(8);
+    let length = random.below(9);
     let word = |random: &mut Prng| random.pick(&[-1, 0, 1, 1, 2, 3, 4, 5, 6, 16, 16, 17, 22]);
     (0..length).map(|_| word(random)).collect()
 }
 
-/// A well-formed list with exactly so many words, from 5 on.
+/// A well-formed list of either form with exactly so many words, from 5 on; one with
+/// depths has 6 at least.
 pub fn list_with_length(random: &mut Prng, length: usize) -> Vec<i32> {
+    let form = match length {
+        5 => Form::WithoutDepth,
+        _ => any_form(random),
+    };
+    let trailer = form.trailer_length();
     let longest_formula = random.pick(&[20, 3_000, length]);
     let mut words = Vec::new();
     let mut count = 0;
     while words.len() + 1 < length {
         let left = length - 1 - words.len();
-        let longest = left - 3;
-        let most = if left >= 8 {
+        let longest = left - trailer;
+        let most = if left >= 2 * (trailer + 1) {
             longest.min(longest_formula)
         } else {
             longest
         };
         // What is left after this line is either nothing or a whole line.
         let wanted = 1 + random.below(most);
-        let formula = if left - 3 - wanted >= 4 {
+        let formula = if longest - wanted > trailer {
             wanted
         } else {
             longest
         };
         words.extend(std::iter::repeat_n(22, formula - 1));
-        words.extend([
-            16,
-            random.between(1, 5),
-            random.between(0, 2_047),
-            formula as i32,
-        ]);
+        words.push(16);
+        let row = random.between(0, 2_047);
+        push_trailer(&mut words, form, row, formula, random);
         count += 1;
     }
-    words.push(count);
+    words.push(form.last_word(count));
     words
 }
 
@@ -151,7 +156,7 @@ pub fn tear(list: &mut Vec<i32>, random: &mut Prng) {
     }
     let last = list.len() - 1;
     let place = random.below(list.len());
-    match random.below(16) {
+    match random.below(18) {
         0..=2 => list[place] = random.word(),
         3 => list[place] = list[place].wrapping_add(random.pick(&[-1, 1])),
         4 => {
@@ -162,8 +167,9 @@ pub fn tear(list: &mut Vec<i32>, random: &mut Prng) {
             list.insert(place, word);
         }
         6 => list[last] = list[last].wrapping_add(random.pick(&[-1, 1])),
-        7 => list[last] = random.pick(&[0, -1, i32::MIN, i32::MAX, 16_384]),
-        8 | 9 => tear_trailer(list, random),
+        7 => list[last] = random.pick(&[0, -1, i32::MIN, i32::MAX, 16_384, -16_384]),
+        8 | 9 | 16 => tear_trailer(list, random),
+        17 => list[last] = list[last].wrapping_neg(),
         10 => list.push(random.pick(&[0, 1, list[last]])),
         11 => list.insert(0, random.pick(&[0, 16, 22])),
         12 => {
@@ -186,26 +192,34 @@ fn tear_trailer(list: &mut [i32], random: &mut Prng) {
         return;
     }
     let trailer = random.pick(&trailers);
-    let field = random.below(3);
+    let field = random.below(form_of(list).trailer_length());
     let change = random.pick(&[-1, 1]);
     list[trailer + field] = match (field, random.below(3)) {
         (0, 0) => random.pick(&[0, 6, -1, i32::MAX]),
         (0, _) => random.between(1, 5),
         (1, 0) => random.pick(&[-1, 2_048, i32::MIN]),
         (1, _) => random.between(0, 2_047),
+        (3, 0) => random.pick(&[-1, 8, 9, i32::MIN, i32::MAX]),
+        (3, _) => random.between(0, 7),
         (_, 0) => random.pick(&[0, -1, i32::MIN, i32::MAX, list[trailer + 2] + 4]),
         _ => list[trailer + 2].wrapping_add(change),
     };
 }
 
+/// The form that the last word of a list tells; 0 tells that from before P9.
+fn form_of(list: &[i32]) -> Form {
+    Form::of(list).unwrap_or(Form::WithoutDepth)
+}
+
 /// Where the trailers of a list stand, as far as its lengths make sense.
-fn trailers(list: &[i32]) -> Vec<usize> {
+pub fn trailers(list: &[i32]) -> Vec<usize> {
+    let trailer_length = form_of(list).trailer_length() as i64;
     let mut trailers = Vec::new();
     let mut end = list.len() as i64 - 1;
-    while end >= 4 {
-        let trailer = end - 3;
+    while end > trailer_length {
+        let trailer = end - trailer_length;
         trailers.push(trailer as usize);
-        let length = i64::from(list[(end - 1) as usize]);
+        let length = i64::from(list[trailer as usize + 2]);
         if length < 1 {
             break;
         }

@@ -1,9 +1,10 @@
 //! Lists that the other generators do not make: whole lines moved, dropped and doubled with the
-//! count left or mended, trailers with lengths at edges, words that are right but for one bit,
-//! constants that look like trailers, and lists longer than there may be.
+//! count left or mended, trailers with lengths and depths at edges, words that are right but for one
+//! bit, constants that look like trailers, and lists longer than there may be; in both forms.
 
-use reference::{check, conditions, lines, list_words, script_of, Verdict, LONGEST_LIST};
+use reference::{lines, Form, LONGEST_LIST};
 
+use crate::forms::{any_form, change_last_word, count_of, list_of_table, push_trailer};
 use crate::mutate::{list_with_length, made_up_list, tiny_list};
 use crate::odd_tables::{far, few_rows};
 use crate::prng::Prng;
@@ -29,11 +30,7 @@ pub fn any_odd_list(random: &mut Prng) -> Vec<i32> {
 /// The list of a script; no words where that has none.
 fn list_of_few_rows(random: &mut Prng) -> Vec<i32> {
     let words = few_rows(random);
-    if check(&words) != Verdict::Accepted {
-        return Vec::new();
-    }
-    let listed = conditions(&script_of(&words), LONGEST_LIST);
-    listed.map_or(Vec::new(), |conditions| list_words(&conditions))
+    list_of_table(&words, random)
 }
 
 fn of_length_around_the_longest(random: &mut Prng) -> Vec<i32> {
@@ -50,17 +47,16 @@ fn of_length_around_the_longest(random: &mut Prng) -> Vec<i32> {
 
 /// As many conditions as a list of the longest has, or one more.
 fn one_word_lines(random: &mut Prng) -> Vec<i32> {
-    let count = random.pick(&[1, 2, 4_094, 4_095, 4_096]);
-    let line = |_| {
-        [
-            random.pick(&[16, 17]),
-            random.between(1, 5),
-            random.between(0, 2_047),
-            1,
-        ]
-    };
-    let mut list: Vec<i32> = (0..count).flat_map(line).collect();
-    list.push(count);
+    let form = any_form(random);
+    let most = (LONGEST_LIST - 1) / (1 + form.trailer_length());
+    let count = random.pick(&[1, 2, most - 1, most, most + 1]);
+    let mut list = Vec::new();
+    for _ in 0..count {
+        list.push(random.pick(&[16, 17]));
+        let row = random.between(0, 2_047);
+        push_trailer(&mut list, form, row, 1, random);
+    }
+    list.push(form.last_word(count));
     list
 }
 
@@ -76,37 +72,39 @@ const SMALL_FORMULAS: [&[i32]; 7] = [
 
 /// Conditions of a few words.
 fn small_list(random: &mut Prng) -> Vec<i32> {
+    let form = any_form(random);
     let count = 1 + random.below(4);
     let mut list = Vec::new();
     for _ in 0..count {
         let formula = random.pick(&SMALL_FORMULAS);
-        push_line(&mut list, formula, random);
+        push_line(&mut list, form, formula, random);
     }
-    list.push(count as i32);
+    list.push(form.last_word(count));
     list
 }
 
 /// Comparisons of constants that look like trailers, like kinds, or like counts.
 fn like_trailers(random: &mut Prng) -> Vec<i32> {
+    let form = any_form(random);
     let count = 1 + random.below(3);
     let mut list = Vec::new();
     for _ in 0..count {
         let [a, b, c, d, e] = [(); 5].map(|()| look_alike(random));
         let formula = [24, 20, 1, a, 1, b, 22, 18, 1, c, 3, 1, d, 8, 1, e];
-        push_line(&mut list, &formula, random);
+        push_line(&mut list, form, &formula, random);
     }
-    list.push(count as i32);
+    list.push(form.last_word(count));
     list
 }
 
 fn look_alike(random: &mut Prng) -> i32 {
-    random.pick(&[1, 2, 3, 4, 5, 9, 16, 17, 18, 22, 23, 0, -1, 7, 15])
+    random.pick(&[1, 2, 3, 4, 5, 9, 16, 17, 18, 22, 23, 0, -1, -2, 7, 8, 15])
 }
 
-fn push_line(list: &mut Vec<i32>, formula: &[i32], random: &mut Prng) {
+fn push_line(list: &mut Vec<i32>, form: Form, formula: &[i32], random: &mut Prng) {
     let row = random.pick(&[0, 1, 2_046, 2_047]);
     list.extend(formula);
-    list.extend([random.between(1, 5), row, formula.len() as i32]);
+    push_trailer(list, form, row, formula.len(), random);
 }
 
 /// Changes a list in one way; some leave it well-formed.
@@ -116,38 +114,40 @@ fn change(list: &mut Vec<i32>, random: &mut Prng) {
     }
     let place = random.below(list.len());
     let last = list.len() - 1;
-    match random.below(9) {
+    match random.below(10) {
         0 | 1 => list[place] = far(list[place], random),
         2 => list[last] = far(list[last], random),
         3 => list.truncate(place),
         4 => {
             list.drain(..place);
         }
+        5 => change_last_word(list, random),
         _ => change_lines(list, random),
     }
 }
 
 /// Changes whole lines, or a trailer.
 fn change_lines(list: &mut Vec<i32>, random: &mut Prng) {
-    let Some(found) = lines(list) else {
+    let (Some(found), Some(form)) = (lines(list), Form::of(list)) else {
         return;
     };
     let (one, other) = (random.pick(&found), random.pick(&found));
-    let line = list[one.start..one.end + 3].to_vec();
+    let behind = one.end + form.trailer_length();
+    let line = list[one.start..behind].to_vec();
     let mends_count = random.once_in(2);
     let last = list.len() - 1;
-    match random.below(5) {
+    match random.below(6) {
         // Dropped.
         0 => {
-            list.drain(one.start..one.end + 3);
+            list.drain(one.start..behind);
             let last = list.len() - 1;
-            list[last] -= i32::from(mends_count);
+            list[last] -= form.last_word(usize::from(mends_count));
         }
         // Doubled, before another.
         1 => {
             list.splice(other.start..other.start, line);
             let last = list.len() - 1;
-            list[last] += i32::from(mends_count);
+            list[last] += form.last_word(usize::from(mends_count));
         }
         // The count one too many or too few.
         2 => list[last] += random.pick(&[-1, 1]),
@@ -157,6 +157,8 @@ fn change_lines(list: &mut Vec<i32>, random: &mut Prng) {
             let edges = [0, -1, one.end as i32, one.end as i32 + 1, longer];
             list[one.end + 2] = random.pick(&edges);
         }
+        // The depth; from before P9 what stands behind the length.
+        4 => list[one.end + 3] = random.between(-1, 9),
         _ => {
             let (kind, row) = (random.between(-1, 7), random.pick(&[-1, 0, 2_047, 2_048]));
             let (place, word) = random.pick(&[(one.end, kind), (one.end + 1, row)]);
@@ -167,7 +169,7 @@ fn change_lines(list: &mut Vec<i32>, random: &mut Prng) {
 
 /// Indexes of a list's conditions, around them, and at the edges of words.
 pub fn odd_index(list: &[i32], random: &mut Prng) -> i32 {
-    let count = list.last().copied().unwrap_or(0);
+    let count = count_of(list);
     let inside = random.between(0, count.saturating_sub(1).max(0));
     random.pick(&[
         inside,

@@ -1,7 +1,8 @@
 //! Lists, rooms and pairs of lists for shorter conditions (request P6).
 
-use reference::{lines, shorten, LONGEST_LIST};
+use reference::{lines, shorten, Form, LONGEST_LIST};
 
+use crate::forms::{any_form, in_any_form, push_trailer};
 use crate::mutate::{made_up_list, tear, tiny_list};
 use crate::odd_lists::any_odd_list;
 use crate::prng::Prng;
@@ -43,8 +44,8 @@ pub fn any_room_for_list(list: &[i32], random: &mut Prng) -> usize {
     }
 }
 
-/// An old list and a new one: its own shortened one, itself, or another; sometimes the
-/// other way round, sometimes torn.
+/// An old list and a new one: its own shortened one, itself, or another; sometimes in
+/// another form, sometimes the other way round, sometimes torn.
 pub fn any_pair(random: &mut Prng) -> (Vec<i32>, Vec<i32>) {
     let mut old = any_list_to_shorten(random);
     let mut new = match random.below(8) {
@@ -56,6 +57,9 @@ pub fn any_pair(random: &mut Prng) -> (Vec<i32>, Vec<i32>) {
         5 => with_lines_changed(&old, random),
         _ => any_list_to_shorten(random),
     };
+    if random.once_in(3) {
+        new = in_any_form(new, random);
+    }
     if random.once_in(10) {
         tear(&mut new, random);
     }
@@ -73,10 +77,11 @@ fn with_lines_changed(list: &[i32], random: &mut Prng) -> Vec<i32> {
         0 => list,
         _ => &shortened.buffer[..shortened.used],
     };
-    let Some(lines) = lines(list) else {
+    let (Some(lines), Some(form)) = (lines(list), Form::of(list)) else {
         return list.to_vec();
     };
-    let part = |place: usize| &list[lines[place].start..lines[place].end + 3];
+    let trailer = form.trailer_length();
+    let part = |place: usize| &list[lines[place].start..lines[place].end + trailer];
     let mut parts: Vec<&[i32]> = (0..lines.len()).map(part).collect();
     match random.below(3) {
         0 => parts.reverse(),
@@ -84,7 +89,7 @@ fn with_lines_changed(list: &[i32], random: &mut Prng) -> Vec<i32> {
         _ if parts.len() > 1 => _ = parts.remove(random.below(parts.len())),
         _ => (),
     }
-    [&parts.concat()[..], &[parts.len() as i32]].concat()
+    [&parts.concat()[..], &[form.last_word(parts.len())]].concat()
 }
 
 /// Mostly an index of both lists; of one, or of none.
@@ -94,13 +99,14 @@ pub fn any_index_of_pair(old: &[i32], new: &[i32], random: &mut Prng) -> i64 {
 }
 
 /// The words of a list with these formulas.
-fn list_of(formulas: &[Vec<i32>], random: &mut Prng) -> Vec<i32> {
+fn list_of(formulas: &[Vec<i32>], form: Form, random: &mut Prng) -> Vec<i32> {
     let mut words = Vec::new();
     for formula in formulas {
         words.extend(formula);
-        words.extend([random.between(1, 5), row(random), formula.len() as i32]);
+        let row = row(random);
+        push_trailer(&mut words, form, row, formula.len(), random);
     }
-    words.push(formulas.len() as i32);
+    words.push(form.last_word(formulas.len()));
     words
 }
 
@@ -122,7 +128,8 @@ pub fn shortening_list(random: &mut Prng) -> Vec<i32> {
         shortening_formula(random, size)
     };
     let formulas: Vec<Vec<i32>> = (0..count).map(formula).collect();
-    list_of(&formulas, random)
+    let form = any_form(random);
+    list_of(&formulas, form, random)
 }
 
 /// The words of a formula with about so many nodes. Where it has a part that a rule
@@ -395,28 +402,31 @@ fn chain_list(random: &mut Prng) -> Vec<i32> {
         chain(random, words)
     };
     let formulas: Vec<Vec<i32>> = (0..count).map(formula).collect();
-    list_of(&formulas, random)
+    let form = any_form(random);
+    list_of(&formulas, form, random)
 }
 
 /// A list of about as many words as there may be: a chain or two alone, many of them,
 /// or small conditions.
 fn long_list(random: &mut Prng) -> Vec<i32> {
+    let form = any_form(random);
+    let trailer = form.trailer_length();
     let words = LONGEST_LIST - 2 + random.below(4);
     let most = random.pick(&[SHORTEST_CHAIN, 40, 1_000, words]);
     let (mut formulas, mut left) = (Vec::new(), words - 1);
     while left > 0 {
-        let longest = left - 3;
+        let longest = left - trailer;
         let mut formula = match most {
             SHORTEST_CHAIN => shortening_formula(random, 2),
             _ => chain(random, most.min(longest)),
         };
         // What is left after this line is either nothing or enough for a chain.
         let more = longest - formula.len();
-        if more < SHORTEST_CHAIN + 3 {
+        if more < SHORTEST_CHAIN + trailer {
             formula.splice(0..0, vec![22; more]);
         }
-        left -= formula.len() + 3;
+        left -= formula.len() + trailer;
         formulas.push(formula);
     }
-    list_of(&formulas, random)
+    list_of(&formulas, form, random)
 }

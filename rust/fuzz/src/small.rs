@@ -77,7 +77,7 @@ fn joined(before: &[i32], sorts: &[&Vec<Vec<Vec<i32>>>], nodes: usize) -> Vec<Ve
 /// Values at the edges of what a word of a table or of a list may be.
 fn telling_values() -> impl Iterator<Item = i32> + Clone {
     let edges = [127, 128, 255, 256, 1_023, 1_024, 2_047, 2_048, 16_384];
-    (-2..52).chain(edges).chain([i32::MAX, i32::MIN])
+    (-9..52).chain(edges).chain([i32::MAX, i32::MIN])
 }
 
 /// The words with every one of them changed to every telling value, dropped

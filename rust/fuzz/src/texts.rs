@@ -2,6 +2,7 @@
 
 use reference::smt;
 
+use crate::forms::{any_form, count_of, push_trailer};
 use crate::prng::Prng;
 
 /// The bytes that the text at an index needs. Nothing for a refusal, nor for a
@@ -16,7 +17,7 @@ pub fn text_need(list: &[i32], index: i64) -> Option<usize> {
 
 /// Mostly an index of the list.
 pub fn any_index(list: &[i32], random: &mut Prng) -> i64 {
-    let count = list.last().copied().unwrap_or(0);
+    let count = count_of(list);
     let inside = random.between(0, count.saturating_sub(1).max(0));
     let edge = random.pick(&[-1, count, count.wrapping_add(1), i32::MIN, i32::MAX]);
     let any = random.word();
@@ -44,9 +45,10 @@ pub fn any_room(list: &[i32], index: i64, random: &mut Prng) -> usize {
     }
 }
 
-/// A well-formed list whose expressions divide, choose and negate, most of
-/// them a few levels deep.
+/// A well-formed list of either form whose expressions divide, choose and negate, most
+/// of them a few levels deep.
 pub fn dividing_list(random: &mut Prng) -> Vec<i32> {
+    let form = any_form(random);
     let mut words = Vec::new();
     let count = 1 + random.below(3);
     for _ in 0..count {
@@ -59,13 +61,10 @@ pub fn dividing_list(random: &mut Prng) -> Vec<i32> {
         let start = words.len();
         write_formula(depth, random, &mut words);
         let length = words.len() - start;
-        words.extend([
-            random.between(1, 5),
-            random.between(0, 2_047),
-            length as i32,
-        ]);
+        let row = random.between(0, 2_047);
+        push_trailer(&mut words, form, row, length, random);
     }
-    words.push(count as i32);
+    words.push(form.last_word(count));
     words
 }
 

@@ -116,7 +116,7 @@ enum Lack {
     /// All but main for loops that stand in an if or another loop: "Listing no
     /// conditions for a loop inside a branch or another loop."
     InnerLoops,
-    /// Everything: "gives the list `25 16 16 4 3 3 1` ... to all".
+    /// Everything: "gives the list `25 16 16 4 3 3 1` ... to all", as P9 writes it.
     All,
 }
 
@@ -167,15 +167,15 @@ impl Subject for Lacking {
         let mut count = 0;
         for line in lines(&list[..answer.words]).expect("a list of the generator") {
             if self.keeps(&line, words) {
-                kept.extend(&list[line.start..line.end + 3]);
+                kept.extend(&list[line.start..line.end + 4]);
                 count += 1;
             }
         }
         if count == 0 {
-            kept = vec![25, 16, 16, 4, 3, 3];
+            kept = vec![25, 16, 16, 4, 3, 3, 0];
             count = 1;
         }
-        kept.push(count);
+        kept.push(-count);
         list[..kept.len()].copy_from_slice(&kept);
         answer.words = kept.len();
         answer

@@ -61,7 +61,7 @@ fn valid_scripts_are_accepted() {
 fn limits_are_where_they_are_said_to_be() {
     let mut random = Prng::new(seed_from_environment());
     for _ in 0..50 {
-        for length in [112, 500, 16_383, 16_384] {
+        for length in [113, 500, 16_383, 16_384] {
             let words = limits::list_of_length(&mut random, length);
             assert_eq!(need(&words).unwrap().words, Some(length));
         }
@@ -180,9 +180,9 @@ fn exchanged(list: &[i32], first: usize, second: usize) -> Vec<i32> {
     order.swap(first, second);
     let mut words = Vec::new();
     for place in order {
-        words.extend(&list[lines[place].start..lines[place].end + 3]);
+        words.extend(&list[lines[place].start..lines[place].end + 4]);
     }
-    words.push(lines.len() as i32);
+    words.push(-(lines.len() as i32));
     words
 }
 

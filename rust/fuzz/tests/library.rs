@@ -10,7 +10,7 @@ use fuzz::small::every_small_change;
 use fuzz::texts::text_need;
 use fuzz::{compare_counting, compare_input, seed_from_environment, tell, Input, Prng, Tally};
 use leqwarti::{Plan, Refusal};
-use reference::{lines, need, Line, Outcome, LONGEST_LIST};
+use reference::{lines, listed, need, spell_list, Form, Line, Outcome, LONGEST_LIST};
 
 /// Two in three are tables, lists and bytes for the program; one is a list, an
 /// index and a room for the text of a condition.
@@ -55,6 +55,22 @@ fn not_one_difference_with_any_scratch() {
     assert!(result.is_ok(), "{}", result.unwrap_err());
     let is_common = |number| tally.generate[number] >= 20_000;
     assert!([0, 11, 12].iter().all(is_common));
+}
+
+/// Lists of both forms, half of them damaged.
+const FORM_CASES: u64 = 120_000;
+
+#[test]
+fn not_one_difference_in_either_form() {
+    let seed = seed_from_environment();
+    let mut tally = Tally::default();
+    let result = compare_counting(&mut Proved, Input::any_form, seed, FORM_CASES, &mut tally);
+    tell(format!("{FORM_CASES} cases: {tally:?}"));
+    assert!(result.is_ok(), "{}", result.unwrap_err());
+    assert_eq!(tally.forms.len(), 4);
+    assert!(tally.forms.values().all(|lists| *lists >= 10_000));
+    assert!(tally.depths.keys().copied().eq(0..8));
+    assert!(tally.depths.values().all(|lines| *lines >= 10_000));
 }
 
 fn compare_all(inputs: impl Iterator<Item = Input>) {
@@ -123,7 +139,14 @@ fn every_room_with_every_scratch() {
 #[test]
 fn every_small_tear_of_a_list() {
     let list = leqwarti::plan(&EXAMPLE_A).expect("a plan").words().to_vec();
-    compare_all(every_small_change(&list).map(Input::List));
+    for form in Form::BOTH {
+        let list = in_form(&list, form);
+        compare_all(every_small_change(&list).map(Input::List));
+    }
+}
+
+fn in_form(list: &[i32], form: Form) -> Vec<i32> {
+    spell_list(&listed(list).expect("a list"), form)
 }
 
 /// A guard before an exit, and as if no loop were there.
@@ -135,6 +158,8 @@ fn every_small_tear_of_a_list_with_a_guard() {
     let exit = [25, 16, 17, 1, 9, 3];
     let list = [&guard[..], &exit, &[2]].concat();
     assert_eq!(lines(&list).expect("a list").len(), 2);
+    compare_all(every_small_change(&list).map(Input::List));
+    let list = in_form(&list, Form::WithDepth);
     compare_all(every_small_change(&list).map(Input::List));
 }
 
@@ -180,12 +205,12 @@ fn every_number_in_place_of_a_variable() {
 
 #[test]
 fn every_number_in_place_of_a_variable_of_a_list() {
-    let list = |number| {
-        vec![
-            23, 20, 2, number, 2, 256, 20, 2, 255, 2, number, 4, 3, 11, 1,
-        ]
+    let list = |number, end: &[i32]| {
+        let front = [23, 20, 2, number, 2, 256, 20, 2, 255, 2, number, 4, 3, 11];
+        Input::List([&front, end].concat())
     };
-    compare_all(VARIABLE_NUMBERS.map(|number| Input::List(list(number))));
+    compare_all(VARIABLE_NUMBERS.map(|number| list(number, &[1])));
+    compare_all(VARIABLE_NUMBERS.map(|number| list(number, &[0, -1])));
 }
 
 /// Every room for the text of every condition, at indexes around them too.
@@ -278,10 +303,11 @@ fn as_answered(found: &Result<Plan, Refusal>) -> Result<Vec<Line>, (u8, usize)> 
             number: 0,
             kind: condition.kind as i32,
             row: condition.row as i32,
+            depth: condition.depth as i32,
             start,
             end: start + condition.formula.words().len(),
         };
-        start = line.end + 3;
+        start = line.end + 4;
         line
     };
     Ok(plan.conditions().map(line).collect())

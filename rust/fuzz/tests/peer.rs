@@ -3,6 +3,7 @@
 
 use std::collections::BTreeMap;
 
+use fuzz::forms::count_of;
 use fuzz::lent::{same, Lent};
 use fuzz::{seed_from_environment, tell, Input, Making, Prng};
 use leqwarti::entries;
@@ -21,6 +22,9 @@ const SCRIPTS: u64 = 100_000;
 
 /// And lists to be shortened, and pairs of lists.
 const SHORTENINGS: u64 = 100_000;
+
+/// And lists of both forms, half of them damaged.
+const FORMS: u64 = 100_000;
 
 /// And tables to be mended.
 const MENDINGS: u64 = 100_000;
@@ -53,6 +57,7 @@ fn line(found: peer::Line) -> entries::Line {
         number,
         kind,
         row,
+        depth,
         start,
         end,
     } = found;
@@ -60,6 +65,7 @@ fn line(found: peer::Line) -> entries::Line {
         number,
         kind,
         row,
+        depth,
         start,
         end,
     }
@@ -90,7 +96,7 @@ fn compare_table(
 }
 
 fn compare_list(list: &[i32], lists: &mut Tally) -> Result<(), String> {
-    let count = list.last().copied().unwrap_or(0);
+    let count = count_of(list);
     for index in [-1, 0, 1, count / 2, count.wrapping_sub(1), count, i32::MAX] {
         let expected = entries::line_at(list, index);
         *lists.entry(expected.number).or_default() += 1;
@@ -195,25 +201,18 @@ fn compare_shorter(old: &[i32], new: &[i32], index: i32, chosen: &mut Tally) -> 
 
 #[test]
 fn not_one_difference_in_shortenings() {
-    let seed = seed_from_environment();
-    let (mut shortened, mut chosen) = (Tally::new(), Tally::new());
-    for case in 0..SHORTENINGS {
-        let input = Input::any_shortening(&mut Prng::for_case(seed, case));
-        let result = match &input {
-            Input::Shorten { list, room } => compare_shortening(list, *room, &mut shortened),
-            Input::Shorter { old, new, index } => {
-                let index = i32::try_from(*index).expect("an index of 32 bits");
-                compare_shorter(old, new, index, &mut chosen)
-            }
-            _ => continue,
-        };
-        if let Err(what) = result {
-            panic!("seed {seed}, case {case}: {what}\n{}", input.text());
-        }
-    }
-    tell(format!("shortened {shortened:?}, chosen {chosen:?}"));
-    assert!(shortened.keys().copied().eq([0, 20, 31]));
-    assert!(chosen.keys().copied().eq([0, 20, 21]));
+    let tallies = compare_cases(Input::any_shortening, SHORTENINGS);
+    assert!(tallies.shortened.keys().copied().eq([0, 20, 31]));
+    assert!(tallies.chosen.keys().copied().eq([0, 20, 21]));
+}
+
+#[test]
+fn not_one_difference_in_either_form() {
+    let tallies = compare_cases(Input::any_form, FORMS);
+    assert!(tallies.lists.keys().copied().eq([0, 20, 21]));
+    assert!(tallies.texts.keys().copied().eq([0, 20, 21, 30]));
+    assert!(tallies.shortened.keys().copied().eq([0, 20, 31]));
+    assert!(tallies.chosen.keys().copied().eq([0, 20, 21]));
 }
 
 fn compare_mending(
@@ -280,6 +279,7 @@ fn not_one_difference() {
         tables,
         lists,
         texts,
+        ..
     } = compare_cases(Input::any, CASES);
     assert!(tables.values().sum::<u64>() >= 50_000);
     assert!(tables.keys().copied().eq(0..=12));
@@ -300,16 +300,27 @@ fn not_one_difference_with_any_scratch() {
     assert!([0, 11, 12].iter().all(is_common));
 }
 
-/// What the library gave for tables, lists and texts.
+/// What the library gave for tables, lists and texts, lists to be shortened and pairs of
+/// lists.
+#[derive(Debug, Default)]
 struct Tallies {
     tables: Tally,
     lists: Tally,
     texts: Tally,
+    shortened: Tally,
+    chosen: Tally,
 }
 
 fn compare_cases(making: Making, cases: u64) -> Tallies {
     let seed = seed_from_environment();
-    let (mut tables, mut lists, mut texts) = (Tally::new(), Tally::new(), Tally::new());
+    let mut tallies = Tallies::default();
+    let Tallies {
+        tables,
+        lists,
+        texts,
+        shortened,
+        chosen,
+    } = &mut tallies;
     for case in 0..cases {
         let input = making(&mut Prng::for_case(seed, case));
         let result = match &input {
@@ -317,25 +328,23 @@ fn compare_cases(making: Making, cases: u64) -> Tallies {
                 words,
                 list_len,
                 scratch_len,
-            } => compare_table(words, *list_len, *scratch_len, &mut tables, &mut lists),
-            Input::List(list) => compare_list(list, &mut lists),
+            } => compare_table(words, *list_len, *scratch_len, tables, lists),
+            Input::List(list) => compare_list(list, lists),
             Input::Text { list, index, room } => {
                 let index = i32::try_from(*index).expect("an index of 32 bits");
-                compare_text(list, index, *room, &mut texts)
+                compare_text(list, index, *room, texts)
             }
-            Input::Bytes(_) | Input::Script { .. } => Ok(()),
-            Input::Shorten { .. } | Input::Shorter { .. } | Input::Mend { .. } => Ok(()),
+            Input::Shorten { list, room } => compare_shortening(list, *room, shortened),
+            Input::Shorter { old, new, index } => {
+                let index = i32::try_from(*index).expect("an index of 32 bits");
+                compare_shorter(old, new, index, chosen)
+            }
+            Input::Bytes(_) | Input::Script { .. } | Input::Mend { .. } => Ok(()),
         };
         if let Err(what) = result {
             panic!("seed {seed}, case {case}: {what}\n{}", input.text());
         }
     }
-    tell(format!(
-        "tables {tables:?}, lists {lists:?}, texts {texts:?}"
-    ));
-    Tallies {
-        tables,
-        lists,
-        texts,
-    }
+    tell(format!("{tallies:?}"));
+    tallies
 }

@@ -1,4 +1,4 @@
-//! The answers of the proved library on 310,000 inputs, as recorded digests.
+//! The answers of the proved library on 350,000 inputs, as recorded digests.
 //!
 //! Inputs: tables with lengths of both buffers, through the check and both
 //! generators, with every answer and every word of both buffers; lists, through
@@ -39,14 +39,32 @@
 //! inputs of group 25: 100,000 more, with scratch around both needs. The digests of
 //! all other inputs are of the library from before P8, those to which both rules give
 //! 11 among them; that one gave the digests from before on every whole group.
+//!
+//! P9 gave each trailer a fourth word, the depth, and lists end in minus the count. So
+//! every list of the generator changed, and what a buffer for one needs. Each table is tried
+//! twice. First its buffer has a word more for each condition than its frozen room, and
+//! the answer is put back into the form from before: its fourth words are left out, the last
+//! one is negated, and the words used are fewer by the conditions. The digests of that are those
+//! from before. Then the room is the frozen one, and the answer is taken as it is; the
+//! digest of all these has the name P9. Lists that fitted before and have more than 16,384
+//! words now are in the latter alone: 15 in group 6. What reads a list is given those
+//! of the generator in the form from before, and has the digests from before; with the digest
+//! P9 it is given them as they are. Of other words P9 may have changed the answers only
+//! where the last one is negative: such inputs of group 9 have the digest P9 too. The digests
+//! of the rest of groups 6 and 9 are of the yardstick from before P9, which gave the digests
+//! from before on every whole group. Groups 26 to 28 are new: lists with depths, lists in
+//! either form, many of them damaged, and texts. All of P9's digests were made with the
+//! yardstick before the library was there; the library gives the same.
 
 mod digest;
 mod frozen;
 
 use std::collections::BTreeMap;
 
-use digest::tables::{digest_table, is_accepted, words_needed};
-use digest::{compare, expect, Digest};
+use digest::tables::{digest_table, digest_table_since_p9, is_accepted, list_before_p9};
+use digest::tables::{p9_may_change, words_needed};
+use digest::{compare, count_told, ends_in_a_negative_word, expect, Digest};
+use frozen::depths::{any_list_in_a_form, damage, list_with_depths};
 use frozen::divisions::{dividing_script, list_has_guard, put_kinds, table_divides_in_code};
 use frozen::limits::script_at_a_limit;
 use frozen::lists::{few_words, list, tear};
@@ -63,9 +81,10 @@ enum Since {
     P2,
     P5,
     P8,
+    P9,
 }
 
-use Since::{BeforeP2, P2, P5, P8};
+use Since::{BeforeP2, P2, P5, P8, P9};
 
 /// Of an input that P5 may have changed, or else another request.
 fn since(p5: bool, otherwise: Since) -> Since {
@@ -80,6 +99,15 @@ fn since(p5: bool, otherwise: Since) -> Since {
 fn since_with(script: &Script, lengths: Lengths, otherwise: Since) -> Since {
     if is_accepted(&script.words) && p8_may_change(&script.words, lengths) {
         P8
+    } else {
+        otherwise
+    }
+}
+
+/// Of words to be read, which P9 may have changed, or else another request.
+fn since_unless_negative(words: &[i32], otherwise: Since) -> Since {
+    if ends_in_a_negative_word(words) {
+        P9
     } else {
         otherwise
     }
@@ -113,6 +141,16 @@ impl Digests {
         } else {
             self.of_input(since)
         }
+    }
+
+    /// A table with lengths from before P9: as it was, unless its list became too long for
+    /// any buffer, and as it is.
+    fn add_table(&mut self, words: &[i32], lengths: Lengths, since: Since, is_counted: bool) {
+        self.counted += u64::from(is_counted);
+        if !p9_may_change(words, lengths) {
+            digest_table(words, lengths, self.of_input_beside(since));
+        }
+        digest_table_since_p9(words, lengths, self.of_input_beside(P9));
     }
 
     /// Of what else is tried of an input.
@@ -176,7 +214,7 @@ fn lengths_around_the_need(script: &Script, chance: &mut Chance) -> Lengths {
 }
 
 fn digest_list(words: &[i32], chance: &mut Chance, digest: &mut Digest) {
-    let count = words.last().copied().unwrap_or(0);
+    let count = count_told(words);
     let any = chance.below(LONGEST_LIST) as i32;
     let near = [
         count / 2,
@@ -185,7 +223,7 @@ fn digest_list(words: &[i32], chance: &mut Chance, digest: &mut Digest) {
         count.wrapping_add(1),
     ];
     for index in [i32::MIN, -1, 0, 1, any, i32::MAX].into_iter().chain(near) {
-        digest.add_line(entries::line_at(words, index));
+        add_line(entries::line_at(words, index), words, digest);
     }
     let first = entries::first_place(words);
     digest.add(first as u64);
@@ -195,12 +233,22 @@ fn digest_list(words: &[i32], chance: &mut Chance, digest: &mut Digest) {
     }
 }
 
+/// With its depth, where the words may tell one.
+fn add_line(line: entries::Line, words: &[i32], digest: &mut Digest) {
+    digest.add_line(line);
+    if ends_in_a_negative_word(words) {
+        digest.add(line.depth as u64);
+    } else {
+        assert_eq!(line.depth, 0, "{words:?}");
+    }
+}
+
 /// All steps from a place, up to one that is refused, and one more.
 fn digest_steps(words: &[i32], place: &mut usize, digest: &mut Digest) {
     let mut refused = 0;
     while refused < 2 {
         let line = entries::step(words, place);
-        digest.add_line(line);
+        add_line(line, words, digest);
         digest.add(*place as u64);
         refused += usize::from(line.number != 0);
     }
@@ -223,7 +271,7 @@ fn bytes_needed(words: &[i32], index: i32) -> usize {
 
 /// Mostly at an index that the list has, with a room about as large as it needs.
 fn digest_text(words: &[i32], chance: &mut Chance, digest: &mut Digest) {
-    let count = words.last().copied().unwrap_or(0);
+    let count = count_told(words);
     let any = chance.below(count.clamp(1, 5_000) as usize) as i32;
     let index = match chance.below(8) {
         0 => chance.pick(&[i32::MIN, -1, count, i32::MAX]),
@@ -244,43 +292,46 @@ fn digest_text(words: &[i32], chance: &mut Chance, digest: &mut Digest) {
 
 #[test]
 fn tables_accepted() {
-    const RECORDED: [(Since, u64); 3] = [
+    const RECORDED: [(Since, u64); 4] = [
         (BeforeP2, 0x61E1_4F40_4213_ABF7),
         (P5, 0x95D5_E0AA_7747_A3ED),
         (P8, 0x31E5_093A_6FD8_2F1D),
+        (P9, 0x26DA_E857_79F4_E0BD),
     ];
     compare_split(1, 50_000, &RECORDED, |chance, digests| {
         let script = script(chance);
         let otherwise = since(table_divides_in_code(&script.words), BeforeP2);
         let lengths = lengths_at_the_need(&script);
-        let digest = digests.of_input(since_with(&script, lengths, otherwise));
-        digest_table(&script.words, lengths, digest);
+        let since = since_with(&script, lengths, otherwise);
+        digests.add_table(&script.words, lengths, since, true);
     });
 }
 
 #[test]
 fn tables_with_rooms_around_the_need() {
-    const RECORDED: [(Since, u64); 3] = [
+    const RECORDED: [(Since, u64); 4] = [
         (BeforeP2, 0x344A_6F9B_27C8_2005),
         (P5, 0xBE5E_3B5A_43ED_2093),
         (P8, 0xE4CF_5A7A_3AAD_6D37),
+        (P9, 0x159C_B689_81B3_9CC7),
     ];
     compare_split(2, 30_000, &RECORDED, |chance, digests| {
         let script = script(chance);
         let otherwise = since(table_divides_in_code(&script.words), BeforeP2);
         let lengths = lengths_around_the_need(&script, chance);
-        let digest = digests.of_input(since_with(&script, lengths, otherwise));
-        digest_table(&script.words, lengths, digest);
+        let since = since_with(&script, lengths, otherwise);
+        digests.add_table(&script.words, lengths, since, true);
     });
 }
 
 #[test]
 fn tables_altered() {
-    const RECORDED: [(Since, u64); 4] = [
+    const RECORDED: [(Since, u64); 5] = [
         (BeforeP2, 0x3BE0_FC6F_789E_CDDF),
         (P2, 0x5784_E446_CB0C_0565),
         (P5, 0x4C68_FC04_FCDD_31F5),
         (P8, 0x6D83_A208_B87D_F7E5),
+        (P9, 0x9E99_39BF_ED1C_DCDB),
     ];
     compare_split(3, 50_000, &RECORDED, |chance, digests| {
         let script = altered_script(chance);
@@ -289,24 +340,24 @@ fn tables_altered() {
         let otherwise = since_p2_or_p5(has_new_number, divides);
         let lengths = lengths_at_the_need(&script);
         let since = since_with(&script, lengths, otherwise);
-        let digest = digests.of_input_unless(has_new_number, since);
-        digest_table(&script.words, lengths, digest);
+        digests.add_table(&script.words, lengths, since, !has_new_number);
     });
 }
 
 #[test]
 fn tables_with_names_or_nesting_out_of_place() {
-    const RECORDED: [(Since, u64); 3] = [
+    const RECORDED: [(Since, u64); 4] = [
         (BeforeP2, 0xB218_625D_0874_E377),
         (P5, 0x33BA_8CE2_053C_17F3),
         (P8, 0xF3B1_EA30_D91A_9111),
+        (P9, 0xE6EE_79E0_ACAC_A71B),
     ];
     compare_split(4, 20_000, &RECORDED, |chance, digests| {
         let script = faulty_script(chance);
         let otherwise = since(table_divides_in_code(&script.words), BeforeP2);
         let lengths = lengths_around_the_need(&script, chance);
-        let digest = digests.of_input(since_with(&script, lengths, otherwise));
-        digest_table(&script.words, lengths, digest);
+        let since = since_with(&script, lengths, otherwise);
+        digests.add_table(&script.words, lengths, since, true);
     });
 }
 
@@ -323,27 +374,33 @@ fn tables_of_random_rows() {
 
 #[test]
 fn tables_at_limits() {
-    const RECORDED: [(Since, u64); 2] = [
-        (BeforeP2, 0x6C67_47CC_FBB8_59E2),
-        (P8, 0x13D7_ED51_7AFE_020D),
+    const RECORDED: [(Since, u64); 3] = [
+        (BeforeP2, 0x76D8_5821_B57E_63D8),
+        (P8, 0x7BC8_B870_99AF_1035),
+        (P9, 0xD48B_36C6_D399_4A0C),
     ];
     compare_split(6, 1_000, &RECORDED, |chance, digests| {
         let script = script_at_a_limit(chance);
         let lengths = lengths_around_the_need(&script, chance);
-        let digest = digests.of_input(since_with(&script, lengths, BeforeP2));
-        digest_table(&script.words, lengths, digest);
+        let since = since_with(&script, lengths, BeforeP2);
+        digests.add_table(&script.words, lengths, since, true);
     });
 }
 
 #[test]
 fn lists_of_the_generator() {
-    const RECORDED: [(Since, u64); 2] = [
+    const RECORDED: [(Since, u64); 3] = [
         (BeforeP2, 0x6EA7_614C_9A91_4004),
         (P5, 0xC1ED_D968_6707_E613),
+        (P9, 0xEBF4_DD64_546A_91B4),
     ];
     compare_split(7, 9_000, &RECORDED, |chance, digests| {
         let script = script(chance);
         let digest = digests.of_input(since(table_divides_in_code(&script.words), BeforeP2));
+        if let Some(words) = list_before_p9(&script.words) {
+            digest_list(&words, chance, digest);
+        }
+        let digest = digests.of_input_beside(P9);
         if let Ok(plan) = leqwarti::plan(&script.words) {
             digest_list(plan.words(), chance, digest);
         }
@@ -360,10 +417,11 @@ fn lists_made_up() {
 
 #[test]
 fn lists_torn() {
-    const RECORDED: [(Since, u64); 3] = [
-        (BeforeP2, 0xA49E_80E4_9F8F_4EC9),
+    const RECORDED: [(Since, u64); 4] = [
+        (BeforeP2, 0xA2D6_7902_2254_20E3),
         (P2, 0xDC4C_982A_EDA7_6919),
-        (P5, 0x83EF_FEDE_F267_CDC2),
+        (P5, 0x1CEC_405D_FCAF_2C5D),
+        (P9, 0x0436_4FB7_FCB9_DA5B),
     ];
     compare_split(9, 10_000, &RECORDED, |chance, digests| {
         let mut words = match chance.below(4) {
@@ -374,7 +432,8 @@ fn lists_torn() {
             tear(&mut words, chance);
         }
         let has_new_number = list_has_new_number(&words);
-        let since = since_p2_or_p5(has_new_number, list_has_guard(&words));
+        let otherwise = since_p2_or_p5(has_new_number, list_has_guard(&words));
+        let since = since_unless_negative(&words, otherwise);
         let digest = digests.of_input_unless(has_new_number, since);
         digest_list(&words, chance, digest);
     });
@@ -396,8 +455,8 @@ fn texts_for_solvers() {
     });
 }
 
-/// A script, and its list and texts with some words changed, which P8 does not
-/// concern.
+/// A script, its list and texts as they were before P9, with some words changed, which
+/// P8 does not concern; and the list and texts as they are.
 fn digest_all(
     script: &Script,
     chance: &mut Chance,
@@ -406,16 +465,21 @@ fn digest_all(
     change: fn(&mut [i32], &mut Chance),
 ) {
     let lengths = lengths_at_the_need(script);
-    let digest = digests.of_input(since_with(script, lengths, otherwise));
-    digest_table(&script.words, lengths, digest);
-    let digest = digests.of_the_rest(otherwise);
-    if let Ok(plan) = leqwarti::plan(&script.words) {
-        let mut words = plan.words().to_vec();
+    let since = since_with(script, lengths, otherwise);
+    digests.add_table(&script.words, lengths, since, true);
+    if let Some(mut words) = list_before_p9(&script.words) {
         if chance.once_in(4) {
             change(&mut words, chance);
         }
+        let since = since_unless_negative(&words, otherwise);
+        let digest = digests.of_the_rest(since);
         digest_list(&words, chance, digest);
         digest_text(&words, chance, digest);
+    }
+    if let Ok(plan) = leqwarti::plan(&script.words) {
+        let digest = digests.of_the_rest(P9);
+        digest_list(plan.words(), chance, digest);
+        digest_text(plan.words(), chance, digest);
     }
 }
 
@@ -423,10 +487,11 @@ fn digest_all(
 /// one in four has numbers at the edges of the ranges too.
 #[test]
 fn numbers_that_p2_made_ordinary() {
-    const RECORDED: [(Since, u64); 3] = [
+    const RECORDED: [(Since, u64); 4] = [
         (P2, 0xD143_7E7B_A36B_C651),
         (P5, 0xB0C6_BC5D_7D48_398D),
         (P8, 0x4D86_ECA1_5C03_C34D),
+        (P9, 0x5B5A_3C4F_D1FD_4529),
     ];
     compare_split(11, 5_000, &RECORDED, |chance, digests| {
         let mut script = renumbered_script(chance);
@@ -444,7 +509,11 @@ fn numbers_that_p2_made_ordinary() {
 /// kinds in its trailers.
 #[test]
 fn divisions_in_code() {
-    const RECORDED: [(Since, u64); 2] = [(P5, 0xECBE_4E49_058E_1AEF), (P8, 0x0693_0381_1A30_FD35)];
+    const RECORDED: [(Since, u64); 3] = [
+        (P5, 0xECBE_4E49_058E_1AEF),
+        (P8, 0x0693_0381_1A30_FD35),
+        (P9, 0xE154_4BB9_DCDA_5CE6),
+    ];
     compare_split(17, 5_000, &RECORDED, |chance, digests| {
         let script = dividing_script(chance);
         digest_all(&script, chance, digests, P5, put_kinds);
@@ -454,11 +523,12 @@ fn divisions_in_code() {
 /// Scratches around the need and around the need from before P8.
 #[test]
 fn scratch_around_both_needs() {
-    const RECORDED: [(Since, u64); 4] = [
+    const RECORDED: [(Since, u64); 5] = [
         (BeforeP2, 0x4ED7_6830_F623_54A9),
         (P2, 0x4F85_2E4C_F5F9_4206),
         (P5, 0x1998_E0BA_21D2_8311),
         (P8, 0x1C04_521A_C750_0949),
+        (P9, 0x406B_8F15_0DC5_C236),
     ];
     compare_split(25, 100_000, &RECORDED, |chance, digests| {
         let script = any_script(chance);
@@ -469,8 +539,36 @@ fn scratch_around_both_needs() {
         };
         let has_new_number = table_has_new_number(&script.words);
         let otherwise = since_p2_or_p5(has_new_number, table_divides_in_code(&script.words));
-        let digest = digests.of_input(since_with(&script, lengths, otherwise));
-        digest_table(&script.words, lengths, digest);
+        let since = since_with(&script, lengths, otherwise);
+        digests.add_table(&script.words, lengths, since, true);
+    });
+}
+
+#[test]
+fn lists_with_depths() {
+    compare(26, 10_000, 0xE367_D961_93D0_6C18, |chance, digest| {
+        let words = list_with_depths(chance);
+        digest_list(&words, chance, digest);
+    });
+}
+
+/// In both forms, about half of them damaged.
+#[test]
+fn lists_in_either_form() {
+    compare(27, 20_000, 0xCB22_5AF8_3669_6E2F, |chance, digest| {
+        let words = any_list_in_a_form(chance);
+        digest_list(&words, chance, digest);
+    });
+}
+
+#[test]
+fn texts_of_lists_with_depths() {
+    compare(28, 10_000, 0xE053_112E_4021_3132, |chance, digest| {
+        let mut words = list_with_depths(chance);
+        if chance.once_in(8) {
+            damage(&mut words, chance);
+        }
+        digest_text(&words, chance, digest);
     });
 }
 

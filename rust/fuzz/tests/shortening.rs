@@ -10,8 +10,9 @@ use fuzz::shortening::{any_list_to_shorten, nested, shortening_list};
 use fuzz::shortening::{AROUND_EXPRESSIONS, AROUND_FORMULAS};
 use fuzz::small::{every_small_change, Kinds, Trees};
 use fuzz::{compare_counting, compare_input, seed_from_environment, tell, Input, Prng, Tally};
-use leqwarti::{entries, Plan};
-use reference::{lines, shorten, spelled_formula_is_true, Row, State, Variable};
+use leqwarti::{entries, Condition, Plan};
+use reference::{lines, listed, shorten, spell_list, spelled_formula_is_true};
+use reference::{Form, Listed, Row, State, Variable};
 use reference::{LONGEST_LIST, VARIABLES};
 
 /// Two in three are lists to be shortened, one is a pair of lists.
@@ -72,6 +73,17 @@ fn list_of_all() -> Vec<i32> {
     [&lines.concat()[..], &[2]].concat()
 }
 
+/// The same in both forms, the second with depths.
+fn lists_of_all() -> [Vec<i32>; 2] {
+    let old = list_of_all();
+    let mut conditions = listed(&old).expect("a list");
+    for (condition, depth) in conditions.iter_mut().zip([7, 1]) {
+        condition.depth = depth;
+    }
+    let new = spell_list(&conditions, Form::WithDepth);
+    [old, new]
+}
+
 fn shortened(list: &[i32]) -> Vec<i32> {
     let shortened = shorten(list, LONGEST_LIST);
     assert_eq!(shortened.number, 0, "{list:?}");
@@ -87,31 +99,42 @@ fn the_list_is_what_it_says() {
         25, 24, 16, 17, 19, 1, 1, 10, 16, 2, 16, 2, 17, 5, 2_047, 13, 2,
     ];
     assert_eq!(shortened(&list), [&sums[..], &joins].concat());
+
+    let [_, list] = lists_of_all();
+    let sums = [&sums[..], &[7]].concat();
+    let joins = [&joins[..joins.len() - 1], &[1, -2]].concat();
+    assert_eq!(shortened(&list), [sums, joins].concat());
 }
 
 #[test]
 fn every_small_change_of_a_list() {
-    let list = list_of_all();
-    compare_all(every_small_change(&list).map(|list| {
-        let room = list.len();
-        Input::Shorten { list, room }
-    }));
+    for list in lists_of_all() {
+        compare_all(every_small_change(&list).map(|list| {
+            let room = list.len();
+            Input::Shorten { list, room }
+        }));
+    }
 }
 
-/// Either of the lists changed, at each index.
+/// Either of the lists changed, at each index, in one form and in two.
 #[test]
 fn every_small_change_of_either_list() {
-    let old = list_of_all();
-    let new = shortened(&old);
-    for index in [0, 1, 2] {
-        compare_all(every_small_change(&old).map(|old| {
-            let new = new.clone();
-            Input::Shorter { old, new, index }
-        }));
-        compare_all(every_small_change(&new).map(|new| {
-            let old = old.clone();
-            Input::Shorter { old, new, index }
-        }));
+    let [without, with] = lists_of_all();
+    for (old, new) in [
+        (&without, shortened(&without)),
+        (&without, shortened(&with)),
+        (&with, shortened(&with)),
+    ] {
+        for index in [0, 1, 2] {
+            compare_all(every_small_change(old).map(|old| {
+                let new = new.clone();
+                Input::Shorter { old, new, index }
+            }));
+            compare_all(every_small_change(&new).map(|new| {
+                let old = old.clone();
+                Input::Shorter { old, new, index }
+            }));
+        }
     }
 }
 
@@ -120,7 +143,7 @@ fn every_room_up_to_the_need_and_past_it() {
     let example_a = leqwarti::plan(&EXAMPLE_A).expect("a plan").words().to_vec();
     let seed = seed_from_environment();
     let by_chance = (0..50).map(|case| shortening_list(&mut Prng::for_case(seed, case)));
-    let lists = by_chance.chain([list_of_all(), example_a]);
+    let lists = by_chance.chain(lists_of_all()).chain([example_a]);
     compare_all(lists.flat_map(|list| {
         let rooms = 0..list.len() + 3;
         let rooms = rooms.chain([LONGEST_LIST, LONGEST_LIST + 1, 20_000]);
@@ -136,13 +159,21 @@ fn every_room_up_to_the_need_and_past_it() {
 /// conditions or fewer.
 #[test]
 fn every_index_of_lists_with_other_counts() {
-    let list = |count: usize, formula: &[i32]| {
-        let line = [formula, &[4, 0, formula.len() as i32]].concat();
-        [&line.repeat(count)[..], &[count as i32]].concat()
+    let list = |count: usize, formula: &[i32], form| {
+        let condition = Listed {
+            kind: 4,
+            row: 0,
+            depth: 7,
+            formula: formula.to_vec(),
+        };
+        spell_list(&vec![condition; count], form)
     };
     let formulas: [&[i32]; 3] = [&[16], &[22, 16], &[18, 1, 1, 2, 0]];
     let counts = 0..4;
-    let lists = counts.flat_map(|count| formulas.map(|formula| list(count, formula)));
+    let lists = counts.flat_map(|count| {
+        let in_form = move |form| formulas.map(|formula| list(count, formula, form));
+        Form::BOTH.into_iter().flat_map(in_form)
+    });
     let lists: Vec<Vec<i32>> = lists.collect();
     compare_all(lists.iter().flat_map(|old| {
         lists.iter().flat_map(move |new| {
@@ -168,8 +199,14 @@ const KINDS: Kinds = Kinds {
 /// The most nodes of a formula here.
 const NODES: usize = 8;
 
+/// In either form: the formula's length tells which.
 fn list_of(formula: &[i32]) -> Vec<i32> {
-    [formula, &[4, 9, formula.len() as i32, 1]].concat()
+    let length = formula.len() as i32;
+    let last: &[i32] = match length % 2 {
+        0 => &[1],
+        _ => &[6, -1],
+    };
+    [formula, &[4, 9, length], last].concat()
 }
 
 #[test]
@@ -187,7 +224,7 @@ fn every_small_formula() {
 /// and some levels deep.
 #[test]
 fn parts_in_one_another() {
-    let words = [14, 15, 16, 17, 30, 61, LONGEST_LIST - 4];
+    let words = [14, 15, 16, 17, 30, 61, LONGEST_LIST - 5, LONGEST_LIST - 4];
     let formulas = AROUND_FORMULAS.iter().flat_map(|one| {
         AROUND_FORMULAS.iter().flat_map(move |other| {
             let truths: [&[i32]; 3] = [&[16], &[17], &[18, 2, 0, 1, 1]];
@@ -241,8 +278,8 @@ fn whole_list(random: &mut Prng) -> Vec<i32> {
     }
 }
 
-/// What the library writes is a list of as many conditions, with the kinds and rows of
-/// the old ones in their order, none longer than its old one, and each true in the same
+/// What the library writes is a list of as many conditions, with the kinds, rows and
+/// depths of the old ones in their order and in their form, none longer than its old one, and each true in the same
 /// states; and a second pass changes nothing.
 #[test]
 fn new_conditions_hold_in_the_same_states() {
@@ -254,9 +291,11 @@ fn new_conditions_hold_in_the_same_states() {
         let old = Plan::read(whole_list(random)).expect("a list");
         let new = old.shortened();
         assert_eq!(old.conditions().len(), new.conditions().len());
+        assert_eq!(old.has_depths(), new.has_depths());
         assert_eq!(new.shortened(), new, "case {case}");
         for (old, new) in old.conditions().zip(new.conditions()) {
-            assert_eq!((old.kind, old.row), (new.kind, new.row), "case {case}");
+            let told = |condition: &Condition| (condition.kind, condition.row, condition.depth);
+            assert_eq!(told(&old), told(&new), "case {case}");
             let (old, new) = (old.formula.words(), new.formula.words());
             assert!(new.len() < old.len() || new == old, "case {case}");
             shorter += u32::from(new.len() < old.len());

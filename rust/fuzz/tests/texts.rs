@@ -187,7 +187,7 @@ fn texts_mean_what_the_conditions_mean() {
             dividing_list(random)
         } else {
             let formula = formula_words(random, 30, 0);
-            [&formula[..], &[4, 0, formula.len() as i32, 1]].concat()
+            [&formula[..], &[4, 0, formula.len() as i32, 0, -1]].concat()
         };
         let line = lines(&list).expect("a list")[0];
         let written = smt(&list, 0, 1 << 16);

@@ -22,7 +22,7 @@ pub enum ConditionKind {
     /// ```
     /// use leqwarti::{ConditionKind, Plan};
     ///
-    /// let plan = Plan::read(vec![25, 18, 1, 0, 2, 1, 21, 2, 1, 1, 0, 5, 9, 11, 1])?;
+    /// let plan = Plan::read(vec![25, 18, 1, 0, 2, 1, 21, 2, 1, 1, 0, 5, 9, 11, 0, -1])?;
     /// let guard = plan.conditions().next().unwrap();
     /// assert_eq!((guard.kind, guard.row), (ConditionKind::Guard, 9));
     /// assert_eq!(guard.formula.to_string(), "(0 < v1) implies (v1 != 0)");
@@ -60,11 +60,27 @@ impl ConditionKind {
 }
 
 /// A condition to be proved: its kind, the row of its loop (of the script for
-/// main), and the formula that must be true in every state.
+/// main), how many loops have that one in their bodies (0 for main, and for every
+/// condition of a list from before P9), and the formula that must be true in every
+/// state.
+///
+/// ```
+/// use leqwarti::Plan;
+///
+/// // A loop at row 9 with one in its body at row 7, the conditions shortened to true.
+/// let words = vec![16, 1, 9, 1, 0, 16, 2, 9, 1, 0, 16, 1, 7, 1, 1, 16, 4, 11, 1, 0, -4];
+/// let plan = Plan::read(words)?;
+/// let mut day: Vec<_> = plan.conditions().collect();
+/// day.sort_by_key(|condition| condition.depth);
+/// let rows: Vec<_> = day.iter().map(|condition| (condition.depth, condition.row)).collect();
+/// assert_eq!(rows, [(0, 9), (0, 9), (0, 11), (1, 7)]);
+/// # Ok::<(), leqwarti::Refusal>(())
+/// ```
 #[derive(Clone, Copy, Debug, PartialEq, Eq)]
 pub struct Condition<'a> {
     pub kind: ConditionKind,
     pub row: usize,
+    pub depth: usize,
     pub formula: Formula<'a>,
 }
 
@@ -74,6 +90,7 @@ impl<'a> Condition<'a> {
         Condition {
             kind: ConditionKind::of(line.kind),
             row: line.row,
+            depth: line.depth,
             formula: Formula::new(&list[line.start..line.end]),
         }
     }
@@ -88,13 +105,15 @@ pub struct Plan {
 }
 
 impl Plan {
-    /// Reads a finished list, as one that was saved; refused where it is torn.
+    /// Reads a finished list, as one that was saved; refused where it is torn. Lists
+    /// from before P9, which end in the count and tell no depths, are read too.
     ///
     /// ```
     /// use leqwarti::{Plan, Reason};
     ///
+    /// assert_eq!(Plan::read(vec![25, 16, 16, 4, 3, 3, 0, -1])?.conditions().len(), 1);
     /// assert_eq!(Plan::read(vec![25, 16, 16, 4, 3, 3, 1])?.conditions().len(), 1);
-    /// assert_eq!(Plan::read(vec![16, 4, 3, 3, 1]).unwrap_err().reason, Reason::TornList);
+    /// assert_eq!(Plan::read(vec![16, 4, 3, 3, 0, -1]).unwrap_err().reason, Reason::TornList);
     /// # Ok::<(), leqwarti::Refusal>(())
     /// ```
     pub fn read(words: Vec<i32>) -> Result<Plan, Refusal> {
@@ -114,6 +133,20 @@ impl Plan {
         &self.words
     }
 
+    /// Whether the list tells how deep its loops stand. One from before P9 does not,
+    /// and each [`Condition::depth`] of it is 0.
+    ///
+    /// ```
+    /// use leqwarti::Plan;
+    ///
+    /// assert!(Plan::read(vec![16, 4, 3, 1, 0, -1])?.has_depths());
+    /// assert!(!Plan::read(vec![16, 4, 3, 1, 1])?.has_depths());
+    /// # Ok::<(), leqwarti::Refusal>(())
+    /// ```
+    pub fn has_depths(&self) -> bool {
+        self.words.last().is_some_and(|&last| last < 0)
+    }
+
     /// The conditions in the list's order.
     pub fn conditions(&self) -> Conditions<'_> {
         Conditions {
@@ -127,7 +160,7 @@ impl Plan {
     /// ```
     /// use leqwarti::Plan;
     ///
-    /// let plan = Plan::read(vec![18, 2, 3, 1, -5, 4, 9, 5, 1])?;
+    /// let plan = Plan::read(vec![18, 2, 3, 1, -5, 4, 9, 5, 0, -1])?;
     /// let script = "\
     /// (set-logic QF_NIA)
     /// (declare-const v3 Int)
@@ -142,12 +175,13 @@ impl Plan {
     }
 
     /// The plan with its conditions shortened; see [`shorten`](crate::shorten).
-    /// It has as many conditions, of the same kinds and rows in order.
+    /// It has as many conditions, of the same kinds, rows and depths in order, and
+    /// its list the same form.
     ///
     /// ```
     /// use leqwarti::Plan;
     ///
-    /// let plan = Plan::read(vec![25, 16, 18, 2, 3, 3, 1, 5, 1, 0, 4, 9, 10, 1])?;
+    /// let plan = Plan::read(vec![25, 16, 18, 2, 3, 3, 1, 5, 1, 0, 4, 9, 10, 0, -1])?;
     /// let main = plan.conditions().next().unwrap();
     /// assert_eq!(main.formula.to_string(), "true implies (v3 < (5 + 0))");
     ///
@@ -176,7 +210,7 @@ impl<'a> IntoIterator for &'a Plan {
 /// ```
 /// use leqwarti::{ConditionKind, Plan};
 ///
-/// let plan = Plan::read(vec![16, 1, 5, 1, 17, 4, 9, 1, 2])?;
+/// let plan = Plan::read(vec![16, 1, 5, 1, 0, 17, 4, 9, 1, 0, -2])?;
 /// let kinds: Vec<_> = plan.conditions().rev().map(|condition| condition.kind).collect();
 /// assert_eq!(kinds, [ConditionKind::Main, ConditionKind::Exit]);
 /// # Ok::<(), leqwarti::Refusal>(())

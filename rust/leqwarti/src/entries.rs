@@ -44,6 +44,7 @@ mod exported {
             number: *mut usize,
             kind: *mut usize,
             row: *mut usize,
+            depth: *mut usize,
             start: *mut usize,
             end: *mut usize,
         );
@@ -55,6 +56,7 @@ mod exported {
             number: *mut usize,
             kind: *mut usize,
             row: *mut usize,
+            depth: *mut usize,
             start: *mut usize,
             end: *mut usize,
         );
@@ -137,12 +139,15 @@ pub struct Answer {
     pub words: usize,
 }
 
-/// What the list reader answers: the formula stands from `start` up to `end`.
+/// What the list reader answers: the formula stands from `start` up to `end`, and
+/// the row's loop in the bodies of `depth` loops, as a list tells since P9; 0 for a
+/// list from before.
 #[derive(Clone, Copy, Debug, Default, PartialEq, Eq)]
 pub struct Line {
     pub number: usize,
     pub kind: usize,
     pub row: usize,
+    pub depth: usize,
     pub start: usize,
     pub end: usize,
 }
@@ -272,6 +277,7 @@ pub fn line_at(words: &[i32], index: i32) -> Line {
             from_mut(&mut line.number),
             from_mut(&mut line.kind),
             from_mut(&mut line.row),
+            from_mut(&mut line.depth),
             from_mut(&mut line.start),
             from_mut(&mut line.end),
         );
@@ -296,7 +302,8 @@ pub fn first_place(words: &[i32]) -> usize {
 /// returned is copied as a whole right after the fields were stored, which costs
 /// as much as the step.
 pub fn step(words: &[i32], place: &mut usize) -> Line {
-    let (mut number, mut kind, mut row, mut start, mut end) = (0, 0, 0, 0, 0);
+    let (mut number, mut kind, mut row, mut depth) = (0, 0, 0, 0);
+    let (mut start, mut end) = (0, 0);
     // SAFETY: as in `check`, for all words and every place.
     unsafe {
         exported::leqwarti_step(
@@ -306,6 +313,7 @@ pub fn step(words: &[i32], place: &mut usize) -> Line {
             from_mut(&mut number),
             from_mut(&mut kind),
             from_mut(&mut row),
+            from_mut(&mut depth),
             from_mut(&mut start),
             from_mut(&mut end),
         );
@@ -314,6 +322,7 @@ pub fn step(words: &[i32], place: &mut usize) -> Line {
         number,
         kind,
         row,
+        depth,
         start,
         end,
     }
@@ -361,9 +370,10 @@ pub fn read_text(text: &[u8], words: &mut [i32]) -> ReadAnswer {
     answer
 }
 
-/// A list with its conditions shortened. Whatever the buffer held before the
-/// call, after it the new list is followed by zeros; refused, the buffer is all
-/// zeros. The deepest list takes 400 KiB of the caller's stack.
+/// A list with its conditions shortened, in the form of the one that is read.
+/// Whatever the buffer held before the call, after it the new list is followed by
+/// zeros; refused, the buffer is all zeros. The deepest list takes 400 KiB of the
+/// caller's stack.
 pub fn shorten(list: &[i32], short: &mut [i32]) -> Written {
     let mut written = Written::default();
     // SAFETY: as in `check`, for all words and every length of the buffer.

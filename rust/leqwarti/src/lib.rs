@@ -24,7 +24,7 @@
 //! assert_eq!(plan.conditions().len(), 4);
 //!
 //! let exit = plan.conditions().next().unwrap();
-//! assert_eq!((exit.kind, exit.row), (ConditionKind::Exit, 15));
+//! assert_eq!((exit.kind, exit.row, exit.depth), (ConditionKind::Exit, 15, 0));
 //! assert_eq!(
 //!     exit.formula.to_string(),
 //!     "((0 <= v0) and (not (0 < v0))) implies (v0 = 0)"
@@ -40,6 +40,12 @@
 //! let refusal = leqwarti::plan(&[16, 0, 0, 0, 99, 0, 0, 0]).unwrap_err();
 //! assert_eq!((refusal.reason, refusal.row), (Reason::UnknownKind, 1));
 //! ```
+//!
+//! A list is words that can be stored, and [`Plan::read`] reads it again. Since P9
+//! ("How deep was that loop?") it has a fourth word in each trailer, how many loops
+//! have the named one in their bodies, and ends in minus the number of conditions.
+//! Lists from before, with trailers of three words and the number itself at the end,
+//! are read by everything that reads a list, with depth 0.
 //!
 //! A condition is also written as a script for solvers, with [`Plan::smt`],
 //! [`Plan::shortened`] has shorter conditions that hold in the same states,
@@ -131,7 +137,7 @@ pub fn plan(table: &[i32]) -> Result<Plan, Refusal> {
 ///
 /// let row = |kind, first, second, third| Record { kind, first, second, third };
 /// let mut skip = [row(16, 0, 0, 0), row(32, 0, 0, 0), row(16, 0, 0, 0), row(48, 0, 1, 2)];
-/// assert_eq!(leqwarti::plan_records(&skip)?.words(), [25, 16, 16, 4, 3, 3, 1]);
+/// assert_eq!(leqwarti::plan_records(&skip)?.words(), [25, 16, 16, 4, 3, 3, 0, -1]);
 ///
 /// skip[1].kind = 99;
 /// let refusal = leqwarti::plan_records(&skip).unwrap_err();
@@ -169,7 +175,7 @@ fn with_longest_list(
 /// let skip = [16, 0, 0, 0, 32, 0, 0, 0, 16, 0, 0, 0, 48, 0, 1, 2];
 /// let (mut list, mut scratch) = ([7; 10], [7; 8]);
 /// let words = leqwarti::plan_into(&skip, &mut list, &mut scratch)?;
-/// assert_eq!(words, [25, 16, 16, 4, 3, 3, 1]);
+/// assert_eq!(words, [25, 16, 16, 4, 3, 3, 0, -1]);
 ///
 /// let refusal = leqwarti::plan_into(&skip, &mut list, &mut scratch[..7]).unwrap_err();
 /// assert_eq!(refusal.reason, Reason::ScratchTooShort);
@@ -188,13 +194,14 @@ pub fn plan_into<'a>(
 
 /// The condition at an index of a finished list, from the front. It reads the
 /// whole list; [`Plan::read`] and its iterator read it once for all conditions.
+/// A list from before P9 is read too, with depth 0.
 ///
 /// ```
 /// use leqwarti::{ConditionKind, Reason};
 ///
-/// let list = [25, 16, 16, 4, 3, 3, 1];
+/// let list = [25, 16, 16, 4, 3, 3, 0, -1];
 /// let main = leqwarti::condition_at(&list, 0)?;
-/// assert_eq!((main.kind, main.row), (ConditionKind::Main, 3));
+/// assert_eq!((main.kind, main.row, main.depth), (ConditionKind::Main, 3, 0));
 /// assert_eq!(main.formula.words(), [25, 16, 16]);
 /// assert_eq!(leqwarti::condition_at(&list, 1).unwrap_err().reason, Reason::NoSuchLine);
 /// assert_eq!(leqwarti::condition_at(&list[1..], 0).unwrap_err().reason, Reason::TornList);

@@ -10,7 +10,8 @@ use crate::{Refusal, LONGEST_LIST};
 /// F implies true become true; not true becomes false, and not false true. All else
 /// stays, as `or`, F implies false, 0 * E and not not F do, and 0 - 0 becomes -0. A
 /// new condition holds in the same states as its old one, and is never longer; kinds,
-/// rows and order stay.
+/// rows, depths and order stay, and so does the form: a list from before P9 is written
+/// as one.
 ///
 /// It refuses with [`TornList`](crate::Reason::TornList) alone, lists of more than
 /// [`LONGEST_LIST`] words too.
@@ -19,8 +20,10 @@ use crate::{Refusal, LONGEST_LIST};
 /// use leqwarti::Reason;
 ///
 /// // true implies (0 <= (v0 - 0))
-/// let list = [25, 16, 19, 1, 0, 4, 2, 0, 1, 0, 4, 9, 10, 1];
-/// assert_eq!(leqwarti::shorten(&list)?, [19, 1, 0, 2, 0, 4, 9, 5, 1]);
+/// let list = [25, 16, 19, 1, 0, 4, 2, 0, 1, 0, 4, 9, 10, 0, -1];
+/// assert_eq!(leqwarti::shorten(&list)?, [19, 1, 0, 2, 0, 4, 9, 5, 0, -1]);
+/// let old_form = [25, 16, 19, 1, 0, 4, 2, 0, 1, 0, 4, 9, 10, 1];
+/// assert_eq!(leqwarti::shorten(&old_form)?, [19, 1, 0, 2, 0, 4, 9, 5, 1]);
 /// assert_eq!(leqwarti::shorten(&list[1..]).unwrap_err().reason, Reason::TornList);
 /// # Ok::<(), leqwarti::Refusal>(())
 /// ```
@@ -34,7 +37,7 @@ pub fn shorten(words: &[i32]) -> Result<Vec<i32>, Refusal> {
 
 /// The shorter of the conditions at an index of two lists, as a part of the list
 /// that it stands in; the old one if both are as long. The lists need not belong
-/// together.
+/// together, nor have the same form.
 ///
 /// It refuses with [`TornList`](crate::Reason::TornList), then with
 /// [`NoSuchLine`](crate::Reason::NoSuchLine), for the old list, and only then for the
@@ -43,11 +46,11 @@ pub fn shorten(words: &[i32]) -> Result<Vec<i32>, Refusal> {
 /// ```
 /// use leqwarti::Reason;
 ///
-/// let old = [22, 17, 1, 5, 2, 17, 4, 9, 1, 2];
+/// let old = [22, 17, 1, 5, 2, 0, 17, 4, 9, 1, 0, -2];
 /// let new = leqwarti::shorten(&old)?;
-/// assert_eq!(new, [16, 1, 5, 1, 17, 4, 9, 1, 2]);
+/// assert_eq!(new, [16, 1, 5, 1, 0, 17, 4, 9, 1, 0, -2]);
 /// assert_eq!(leqwarti::shorter(&old, &new, 0)?, &new[..1]);
-/// assert_eq!(leqwarti::shorter(&old, &new, 1)?, &old[5..6]);
+/// assert_eq!(leqwarti::shorter(&old, &new, 1)?, &old[6..7]);
 /// assert_eq!(leqwarti::shorter(&old, &new, 2).unwrap_err().reason, Reason::NoSuchLine);
 /// assert_eq!(leqwarti::shorter(&old, &new[1..], 0).unwrap_err().reason, Reason::TornList);
 /// assert_eq!(leqwarti::shorter(&old, &new[1..], 2).unwrap_err().reason, Reason::NoSuchLine);

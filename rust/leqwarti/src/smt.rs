@@ -39,7 +39,7 @@ const STACK: usize = 4 << 20;
 /// use leqwarti::Reason;
 ///
 /// // (0 <= v0) implies (0 <= v0)
-/// let list = [25, 19, 1, 0, 2, 0, 19, 1, 0, 2, 0, 4, 19, 11, 1];
+/// let list = [25, 19, 1, 0, 2, 0, 19, 1, 0, 2, 0, 4, 19, 11, 0, -1];
 /// let script = "\
 /// (set-logic QF_NIA)
 /// (declare-const v0 Int)

@@ -31,10 +31,10 @@ fn expect(name: &str, rows: &[Row], room: usize, scratch: usize, wanted: &str, w
 
 #[test]
 fn four_records() {
-    let list = [25, 16, 16, 4, 3, 3, 1];
-    expect("room for it", &FOUR_ROWS, 7, 8, "planned 1 7", &list);
+    let list = [25, 16, 16, 4, 3, 3, 0, -1];
+    expect("room for it", &FOUR_ROWS, 8, 8, "planned 1 8", &list);
     let name = "a word of scratch too few";
-    expect(name, &FOUR_ROWS, 7, 7, "refused 11 0", &[]);
+    expect(name, &FOUR_ROWS, 8, 7, "refused 11 0", &[]);
     let to_itself = edited(&FOUR_ROWS, 3, [48, 0, 1, 3]);
     expect("row 3 names itself", &to_itself, 7, 7, "refused 4 3", &[]);
 }
@@ -42,8 +42,8 @@ fn four_records() {
 #[test]
 fn example_a() {
     let list = numbers(EXAMPLE_A_LIST);
-    expect("room for it", &EXAMPLE_A, 94, 40, "planned 4 94", &list);
-    expect("too little room", &EXAMPLE_A, 93, 40, "refused 12 0", &[]);
+    expect("room for it", &EXAMPLE_A, 98, 40, "planned 4 98", &list);
+    expect("too little room", &EXAMPLE_A, 97, 40, "refused 12 0", &[]);
     let name = "room for four words, and a word of scratch too few";
     expect(name, &EXAMPLE_A, 4, 39, "refused 11 0", &[]);
 }

@@ -1,16 +1,18 @@
 //! The generator: room and scratch at their edges, the largest tables and
 //! lists, and scripts of each shape with their whole lists. The answers wanted
 //! are worked out from document 01's rules, with the range of variables from
-//! document 02, P2, and the need of scratch from P8. Document 01's trial rows,
-//! which the program `trials` runs, are among them as P8 has moved them: here the
-//! buffers are looked at too. `generator_cases.txt` has cases that an independent
-//! reading of P2 answered; in seven of them code divides, and their answers are
-//! those since P5; two had 12 and, without any scratch, have 11 since P8.
+//! document 02, P2, the need of scratch from P8 and the depths from P9. Document
+//! 01's trial rows, which the program `trials` runs, are among them as P8 and P9
+//! have moved them: here the buffers are looked at too. `generator_cases.txt` has
+//! cases that an independent reading of P2 answered; in seven of them code divides,
+//! and their answers are those since P5; two had 12 and, without any scratch, have
+//! 11 since P8. Their lists are from before P9.
 
 mod common;
 
-use common::{answer, cases, edited, expect, expect_list, longest_path, nested, number, numbers};
-use common::{parts, planned, refused, rows, sum_of_all_variables, sum_of_all_variables_list};
+use common::{answer, cases, edited, expect, expect_list, expect_recorded_before_p9, longest_path};
+use common::{nested, number, parts, planned, refused, rows};
+use common::{sum_of_all_variables, sum_of_all_variables_list};
 use common::{Row, Script, EVERY_KIND, EXAMPLE_A, EXAMPLE_A_LIST, FOUR_ROWS};
 
 /// A case to a line: room, scratch, and the answer.
@@ -68,33 +70,33 @@ fn refusals_by_number() {
 
 /// Each if adds 7 words to W: and, implies, true, implies, not, true and the
 /// else part's Q. Main of eight: 1 + 1 + 1 + 8 * 7, its trailer and the count:
-/// 63.
+/// 64.
 ///
-/// Eight loops, each with its trailers: floor 9 + 3; exit 5 + 3 and its Q,
-/// which is 1 word for the outermost and 7 for the others; step 10 + 3 and W of
+/// Eight loops, each with its trailers: floor 9 + 4; exit 5 + 4 and its Q,
+/// which is 1 word for the outermost and 7 for the others; step 10 + 4 and W of
 /// its body, which is 7 words for the innermost and 1 for the others. With main
-/// 3 + 3 and the count: 8 * 12 + 8 * 8 + 1 + 7 * 7 + 8 * 13 + 7 + 7 * 1 + 6 + 1
-/// = 335 words, 25 conditions.
+/// 3 + 4 and the count: 8 * 13 + 8 * 9 + 1 + 7 * 7 + 8 * 14 + 7 + 7 * 1 + 7 + 1
+/// = 360 words, 25 conditions.
 #[test]
 fn nesting() {
-    expect_answers("8 ifs", &nested(8, 0), "512, 5120 | planned 1 63");
+    expect_answers("8 ifs", &nested(8, 0), "512, 5120 | planned 1 64");
     expect_answers("9 ifs", &nested(9, 0), "512, 5632 | refused 10 0");
-    expect_answers("8 whiles", &nested(0, 8), "512, 5120 | planned 25 335");
+    expect_answers("8 whiles", &nested(0, 8), "512, 5120 | planned 25 360");
     expect_answers("9 whiles", &nested(0, 9), "512, 5632 | refused 10 0");
 }
 
 /// 2,048 rows: a precondition of 2,045 words, skip, true. Main has 1 + 2045 + 1
-/// words; with its trailer and the count 2,051.
+/// words; with its trailer and the count 2,052.
 #[test]
 fn the_largest_table() {
     expect_answers(
         "2,048 rows",
         &longest_path([16, 0, 0, 0]),
         "
-        2051, 4096 | planned 1 2051
+        2052, 4096 | planned 1 2052
+        2052, 4095 | refused 11 0
+        2051, 4096 | refused 12 0
         2051, 4095 | refused 11 0
-        2050, 4096 | refused 12 0
-        2050, 4095 | refused 11 0
         ",
     );
 }
@@ -107,50 +109,50 @@ fn edges_of_room_and_scratch() {
         "4 rows",
         &FOUR_ROWS,
         "
-        6, 7    | refused 11 0
-        6, 8    | refused 12 0
         7, 7    | refused 11 0
-        7, 8    | planned 1 7
+        7, 8    | refused 12 0
         8, 7    | refused 11 0
-        8, 8    | planned 1 7
-        7, 9    | planned 1 7
-        7, 5120 | planned 1 7
+        8, 8    | planned 1 8
+        9, 7    | refused 11 0
+        9, 8    | planned 1 8
+        8, 9    | planned 1 8
+        8, 5120 | planned 1 8
         ",
     );
     expect_answers(
         "20 rows",
         &EXAMPLE_A,
         "
-        93, 39    | refused 11 0
-        93, 40    | refused 12 0
-        93, 5120  | refused 12 0
-        94, 39    | refused 11 0
-        94, 40    | planned 4 94
-        95, 39    | refused 11 0
-        95, 40    | planned 4 94
-        94, 41    | planned 4 94
+        97, 39    | refused 11 0
+        97, 40    | refused 12 0
+        97, 5120  | refused 12 0
+        98, 39    | refused 11 0
+        98, 40    | planned 4 98
+        99, 39    | refused 11 0
+        99, 40    | planned 4 98
+        98, 41    | planned 4 98
         512, 39   | refused 11 0
-        512, 5120 | planned 4 94
+        512, 5120 | planned 4 98
         ",
     );
     expect_answers(
         "44 rows, 8 whiles",
         &nested(0, 8),
         "
-        334, 87 | refused 11 0
-        334, 88 | refused 12 0
-        335, 87 | refused 11 0
-        335, 88 | planned 25 335
+        359, 87 | refused 11 0
+        359, 88 | refused 12 0
+        360, 87 | refused 11 0
+        360, 88 | planned 25 360
         ",
     );
     expect_answers(
         "28 rows, 8 ifs",
         &nested(8, 0),
         "
-        62, 55 | refused 11 0
-        62, 56 | refused 12 0
         63, 55 | refused 11 0
-        63, 56 | planned 1 63
+        63, 56 | refused 12 0
+        64, 55 | refused 11 0
+        64, 56 | planned 1 64
         ",
     );
 }
@@ -159,13 +161,13 @@ fn edges_of_room_and_scratch() {
 /// a small room too little. The comments have the answers from before.
 #[test]
 fn what_was_enough_before_p8() {
-    expect_answers("4 rows", &FOUR_ROWS, "7, 13 | planned 1 7"); // 11
-    expect_answers("20 rows", &EXAMPLE_A, "94, 281 | planned 4 94"); // 11
-    expect_answers("20 rows", &EXAMPLE_A, "93, 278 | refused 12 0"); // 11
+    expect_answers("4 rows", &FOUR_ROWS, "8, 15 | planned 1 8"); // 11
+    expect_answers("20 rows", &EXAMPLE_A, "98, 293 | planned 4 98"); // 11
+    expect_answers("20 rows", &EXAMPLE_A, "97, 290 | refused 12 0"); // 11
     expect_answers("20 rows", &EXAMPLE_A, "13, 39 | refused 11 0"); // 12
-    expect_answers("20 rows", &EXAMPLE_A, "512, 40 | planned 4 94"); // 11
+    expect_answers("20 rows", &EXAMPLE_A, "512, 40 | planned 4 98"); // 11
 
-    // Ten assignments to what nothing reads: main is true implies true, in 7 words.
+    // Ten assignments to what nothing reads: main is true implies true, in 8 words.
     let assignment = |row: i32| [[1, 0, 0, 0], [33, 0, row, 0]];
     let mut rows: Vec<Row> = vec![[16, 0, 0, 0], [32, 0, 0, 0]];
     for _ in 0..10 {
@@ -179,12 +181,12 @@ fn what_was_enough_before_p8() {
         "34 rows",
         &rows,
         "
+        8, 16 | refused 11 0
+        8, 67 | refused 11 0
+        8, 68 | planned 1 8
         7, 14 | refused 11 0
         7, 67 | refused 11 0
-        7, 68 | planned 1 7
-        6, 12 | refused 11 0
-        6, 67 | refused 11 0
-        6, 68 | refused 12 0
+        7, 68 | refused 12 0
         ",
     );
 }
@@ -232,14 +234,14 @@ fn long_buffers() {
         &FOUR_ROWS,
         "
         16383, 7     | refused 11 0
-        16383, 8     | planned 1 7
+        16383, 8     | planned 1 8
         16384, 7     | refused 11 0
-        16384, 8     | planned 1 7
+        16384, 8     | planned 1 8
         16385, 7     | refused 11 0
-        16385, 8     | planned 1 7
+        16385, 8     | planned 1 8
         20000, 7     | refused 11 0
-        20000, 8     | planned 1 7
-        20000, 32768 | planned 1 7
+        20000, 8     | planned 1 8
+        20000, 32768 | planned 1 8
         ",
     );
     expect_answers(
@@ -247,8 +249,8 @@ fn long_buffers() {
         &EXAMPLE_A,
         "
         20000, 39    | refused 11 0
-        20000, 40    | planned 4 94
-        20000, 49152 | planned 4 94
+        20000, 40    | planned 4 98
+        20000, 49152 | planned 4 98
         ",
     );
     expect_answers(
@@ -256,38 +258,38 @@ fn long_buffers() {
         &nested(0, 8),
         "
         20000, 87     | refused 11 0
-        20000, 88     | planned 25 335
-        20000, 163840 | planned 25 335
+        20000, 88     | planned 25 360
+        20000, 163840 | planned 25 360
         ",
     );
 }
 
 /// The longest list that fits. An if with skip in both parts makes 6 + 2 * q
-/// words of q: ten of them make 1024 * (q + 6) - 6, which is 16,378 for q = 10.
-/// With implies, the precondition, the trailer and the count: 16,378 + 1 + 1 +
-/// 3 + 1 = 16,384. A longer precondition is one too many, in a longer buffer
-/// too. Forty ifs would make a list of more than 2 to the 42nd words.
+/// words of q: eight of them make 256 * (q + 6) - 6, which is 16,122 for q = 57.
+/// With implies, a precondition of 256 words, the trailer and the count: 16,122 + 1
+/// + 256 + 4 + 1 = 16,384. A longer precondition is one too many, in a longer
+/// buffer too. Forty ifs would make a list of more than 2 to the 42nd words.
 #[test]
 fn the_longest_list() {
     let ifs = |start: Script, count: usize| start.in_if().repeated(count - 1, Script::then_if);
     expect_answers(
-        "ten ifs before a postcondition of 10 words",
-        &ifs(Script::skip(), 10).before(9),
+        "eight ifs between conditions of 256 and 57 words",
+        &ifs(Script::skip_after(255), 8).before(56),
         "
-        16384, 122   | planned 1 16384
-        20000, 122   | planned 1 16384
+        16384, 706   | planned 1 16384
+        20000, 706   | planned 1 16384
         20000, 49152 | planned 1 16384
-        16383, 122   | refused 12 0
-        16384, 121   | refused 11 0
+        16383, 706   | refused 12 0
+        16384, 705   | refused 11 0
         ",
     );
     expect_answers(
-        "the same with a precondition of two words",
-        &ifs(Script::skip_after_not(), 10).before(9),
+        "the same with a precondition of 257 words",
+        &ifs(Script::skip_after(256), 8).before(56),
         "
-        16384, 124   | refused 12 0
-        20000, 124   | refused 12 0
-        20000, 123   | refused 11 0
+        16384, 708   | refused 12 0
+        20000, 708   | refused 12 0
+        20000, 707   | refused 11 0
         20000, 49152 | refused 12 0
         ",
     );
@@ -325,7 +327,7 @@ fn the_order_of_refusals() {
 #[test]
 fn the_lists_of_the_trial_rows() {
     expect_list("example A", &EXAMPLE_A, EXAMPLE_A_LIST);
-    expect_list("four rows", &FOUR_ROWS, "25 16 16 4 3 3 1");
+    expect_list("four rows", &FOUR_ROWS, "25 16 16 4 3 3 0 -1");
 }
 
 /// Example A whose body assigns to a variable that P2 made ordinary; 3 before
@@ -337,11 +339,11 @@ fn targets_from_256_to_1023() {
             &format!("target {target}"),
             &edited(&EXAMPLE_A, 14, [33, target, 13, 0]),
             "
-            25 23 19 1 0 2 0 22 18 1 0 2 0 20 2 0 1 0 1 15 18,
-            25 23 19 1 0 2 0 18 1 0 2 0 19 1 0 2 0 2 15 17,
-            25 23 23 19 1 0 2 0 18 1 0 2 0 20 2 0 9 15 23 19 1 0 2 0 18 2 0 9 15 3 15 29,
-            25 19 1 0 2 0 19 1 0 2 0 4 19 11,
-            4
+            25 23 19 1 0 2 0 22 18 1 0 2 0 20 2 0 1 0 1 15 18 0,
+            25 23 19 1 0 2 0 18 1 0 2 0 19 1 0 2 0 2 15 17 0,
+            25 23 23 19 1 0 2 0 18 1 0 2 0 20 2 0 9 15 23 19 1 0 2 0 18 2 0 9 15 3 15 29 0,
+            25 19 1 0 2 0 19 1 0 2 0 4 19 11 0,
+            -4
             ",
         );
     }
@@ -365,12 +367,12 @@ fn variables_from_256_to_1023() {
 #[test]
 fn all_ordinary_variables_in_one_expression() {
     let (table, list) = (sum_of_all_variables().concat(), sum_of_all_variables_list());
-    assert_eq!((table.len() / 4, list.len()), (1_797, 2_696));
-    for room in [2_696, 4_000] {
-        let written = expect("the sum", &table, room, 3_594, planned(1, 2_696));
+    assert_eq!((table.len() / 4, list.len()), (1_797, 2_697));
+    for room in [2_697, 4_000] {
+        let written = expect("the sum", &table, room, 3_594, planned(1, 2_697));
         assert_eq!(written, list);
     }
-    expect("no room", &table, 2_695, 3_594, refused(12, 0));
+    expect("no room", &table, 2_696, 3_594, refused(12, 0));
 }
 
 /// v257 := v256 + 1; v258 := v257 + 1; .. before v656 = v0: all 400 pass into
@@ -394,12 +396,12 @@ fn assignments_to_400_variables() {
     rows.push([48, 0, next - 1, next + 2]);
 
     let sum = [vec![3; 400], vec![2, 256], [1, 1].repeat(400)].concat();
-    let trailer = vec![4, next + 3, 1_207, 1];
+    let trailer = vec![4, next + 3, 1_207, 0, -1];
     let list = [vec![25, 16, 20], sum, vec![2, 0], trailer].concat();
-    assert_eq!((next + 4, list.len()), (2_004, 1_211));
-    let written = expect("400", &rows.concat(), 1_211, 4_008, planned(1, 1_211));
+    assert_eq!((next + 4, list.len()), (2_004, 1_212));
+    let written = expect("400", &rows.concat(), 1_212, 4_008, planned(1, 1_212));
     assert_eq!(written, list);
-    expect("400", &rows.concat(), 1_211, 2_422, refused(11, 0));
+    expect("400", &rows.concat(), 1_212, 2_422, refused(11, 0));
 }
 
 /// Loops in branches, in sequence and in loops, with empty bodies.
@@ -417,14 +419,14 @@ fn loops() {
             ",
         ),
         "
-        25 23 16 22 16 16 1 7 6,
-        25 23 16 16 19 1 0 1 0 2 7 9,
-        25 23 23 16 16 20 1 0 9 7 23 16 18 1 0 9 7 3 7 17,
-        25 23 16 22 17 16 1 13 6,
-        25 23 16 17 19 1 0 1 1 2 13 9,
-        25 23 23 16 17 20 1 1 9 13 23 16 18 1 1 9 13 3 13 17,
-        25 16 23 25 16 16 25 22 16 16 4 16 10,
-        7
+        25 23 16 22 16 16 1 7 6 0,
+        25 23 16 16 19 1 0 1 0 2 7 9 0,
+        25 23 23 16 16 20 1 0 9 7 23 16 18 1 0 9 7 3 7 17 0,
+        25 23 16 22 17 16 1 13 6 0,
+        25 23 16 17 19 1 0 1 1 2 13 9 0,
+        25 23 23 16 17 20 1 1 9 13 23 16 18 1 1 9 13 3 13 17 0,
+        25 16 23 25 16 16 25 22 16 16 4 16 10 0,
+        -7
         ",
     );
     // while false (true, 0) do skip, then while false (true, 1) do assert true: the second one's
@@ -439,14 +441,14 @@ fn loops() {
             ",
         ),
         "
-        25 23 16 22 17 16 1 13 6,
-        25 23 16 17 19 1 0 1 1 2 13 9,
-        25 23 23 16 17 20 1 1 9 13 23 16 23 16 18 1 1 9 13 3 13 19,
-        25 23 16 22 17 16 1 6 6,
-        25 23 16 17 19 1 0 1 0 2 6 9,
-        25 23 23 16 17 20 1 0 9 6 23 16 18 1 0 9 6 3 6 17,
-        25 16 16 4 16 3,
-        7
+        25 23 16 22 17 16 1 13 6 0,
+        25 23 16 17 19 1 0 1 1 2 13 9 0,
+        25 23 23 16 17 20 1 1 9 13 23 16 23 16 18 1 1 9 13 3 13 19 0,
+        25 23 16 22 17 16 1 6 6 0,
+        25 23 16 17 19 1 0 1 0 2 6 9 0,
+        25 23 23 16 17 20 1 0 9 6 23 16 18 1 0 9 6 3 6 17 0,
+        25 16 16 4 16 3 0,
+        -7
         ",
     );
     // the outer invariant reads a frozen name; the inner invariant and variant read the outer mark;
@@ -461,14 +463,14 @@ fn loops() {
             ",
         ),
         "
-        25 23 19 2 0 2 128 22 18 1 0 2 0 17 1 17 14,
-        25 23 19 2 0 2 128 18 1 0 2 0 19 1 0 2 0 2 17 17,
-        25 23 20 2 0 9 17 22 17 23 19 2 0 2 128 18 2 0 9 17 1 16 20,
-        25 23 20 2 0 9 17 17 19 1 0 9 17 2 16 13,
-        25 23 23 20 2 0 9 17 17 20 9 17 9 16 23 20 2 0 9 17 18 9 17 9 16 3 16 25,
-        25 23 23 19 2 0 2 128 18 1 0 2 0 20 2 0 9 17 20 2 0 9 17 3 17 23,
-        25 16 19 2 0 2 128 4 19 7,
-        7
+        25 23 19 2 0 2 128 22 18 1 0 2 0 17 1 17 14 0,
+        25 23 19 2 0 2 128 18 1 0 2 0 19 1 0 2 0 2 17 17 0,
+        25 23 20 2 0 9 17 22 17 23 19 2 0 2 128 18 2 0 9 17 1 16 20 1,
+        25 23 20 2 0 9 17 17 19 1 0 9 17 2 16 13 1,
+        25 23 23 20 2 0 9 17 17 20 9 17 9 16 23 20 2 0 9 17 18 9 17 9 16 3 16 25 1,
+        25 23 23 19 2 0 2 128 18 1 0 2 0 20 2 0 9 17 20 2 0 9 17 3 17 23 0,
+        25 16 19 2 0 2 128 4 19 7 0,
+        -7
         ",
     );
 }
@@ -488,8 +490,8 @@ fn sequences() {
             ",
         ),
         "
-        25 16 23 21 5 3 2 0 1 1 1 2 1 0 18 5 3 2 0 1 1 1 2 1 9 4 18 25,
-        1
+        25 16 23 21 5 3 2 0 1 1 1 2 1 0 18 5 3 2 0 1 1 1 2 1 9 4 18 25 0,
+        -1
         ",
     );
     // x := x + 1; (x := x * 2; assert x unequal 0)
@@ -503,8 +505,8 @@ fn sequences() {
             ",
         ),
         "
-        25 16 23 21 5 3 2 0 1 1 1 2 1 0 18 5 3 2 0 1 1 1 2 1 9 4 18 25,
-        1
+        25 16 23 21 5 3 2 0 1 1 1 2 1 0 18 5 3 2 0 1 1 1 2 1 9 4 18 25 0,
+        -1
         ",
     );
     // three loops at rows 6, 12 and 18; Q of each exit is the invariant of the next: true, false,
@@ -519,17 +521,17 @@ fn sequences() {
             ",
         ),
         "
-        25 23 16 22 17 17 1 18 6,
-        25 23 16 17 19 1 0 1 3 2 18 9,
-        25 23 23 16 17 20 1 3 9 18 23 16 18 1 3 9 18 3 18 17,
-        25 23 17 22 16 16 1 12 6,
-        25 23 17 16 19 1 0 1 2 2 12 9,
-        25 23 23 17 16 20 1 2 9 12 23 17 18 1 2 9 12 3 12 17,
-        25 23 16 22 16 17 1 6 6,
-        25 23 16 16 19 1 0 1 1 2 6 9,
-        25 23 23 16 16 20 1 1 9 6 23 16 18 1 1 9 6 3 6 17,
-        25 16 16 4 22 3,
-        10
+        25 23 16 22 17 17 1 18 6 0,
+        25 23 16 17 19 1 0 1 3 2 18 9 0,
+        25 23 23 16 17 20 1 3 9 18 23 16 18 1 3 9 18 3 18 17 0,
+        25 23 17 22 16 16 1 12 6 0,
+        25 23 17 16 19 1 0 1 2 2 12 9 0,
+        25 23 23 17 16 20 1 2 9 12 23 17 18 1 2 9 12 3 12 17 0,
+        25 23 16 22 16 17 1 6 6 0,
+        25 23 16 16 19 1 0 1 1 2 6 9 0,
+        25 23 23 16 16 20 1 1 9 6 23 16 18 1 1 9 6 3 6 17 0,
+        25 16 16 4 22 3 0,
+        -10
         ",
     );
     // the same, joined the other way
@@ -543,17 +545,17 @@ fn sequences() {
             ",
         ),
         "
-        25 23 16 22 17 17 1 18 6,
-        25 23 16 17 19 1 0 1 3 2 18 9,
-        25 23 23 16 17 20 1 3 9 18 23 16 18 1 3 9 18 3 18 17,
-        25 23 17 22 16 16 1 12 6,
-        25 23 17 16 19 1 0 1 2 2 12 9,
-        25 23 23 17 16 20 1 2 9 12 23 17 18 1 2 9 12 3 12 17,
-        25 23 16 22 16 17 1 6 6,
-        25 23 16 16 19 1 0 1 1 2 6 9,
-        25 23 23 16 16 20 1 1 9 6 23 16 18 1 1 9 6 3 6 17,
-        25 16 16 4 22 3,
-        10
+        25 23 16 22 17 17 1 18 6 0,
+        25 23 16 17 19 1 0 1 3 2 18 9 0,
+        25 23 23 16 17 20 1 3 9 18 23 16 18 1 3 9 18 3 18 17 0,
+        25 23 17 22 16 16 1 12 6 0,
+        25 23 17 16 19 1 0 1 2 2 12 9 0,
+        25 23 23 17 16 20 1 2 9 12 23 17 18 1 2 9 12 3 12 17 0,
+        25 23 16 22 16 17 1 6 6 0,
+        25 23 16 16 19 1 0 1 1 2 6 9 0,
+        25 23 23 16 16 20 1 1 9 6 23 16 18 1 1 9 6 3 6 17 0,
+        25 16 16 4 22 3 0,
+        -10
         ",
     );
 }
@@ -571,8 +573,8 @@ fn expressions() {
             ",
         ),
         "
-        25 16 23 25 18 2 0 1 0 19 1 0 8 2 0 25 22 18 2 0 1 0 19 1 0 2 0 4 12 27,
-        1
+        25 16 23 25 18 2 0 1 0 19 1 0 8 2 0 25 22 18 2 0 1 0 19 1 0 2 0 4 12 27 0,
+        -1
         ",
     );
     // x := x + 1; y := x, before choose(x < 5, x, y) = x: each x becomes x + 1 once, and y too
@@ -585,8 +587,8 @@ fn expressions() {
             ",
         ),
         "
-        25 16 20 10 18 3 2 0 1 1 1 5 3 2 0 1 1 3 2 0 1 1 3 2 0 1 1 4 16 27,
-        1
+        25 16 20 10 18 3 2 0 1 1 1 5 3 2 0 1 1 3 2 0 1 1 3 2 0 1 1 4 16 27 0,
+        -1
         ",
     );
     // a loop in a branch of a loop, with assertions, both marks, a frozen name, and every kind of
@@ -595,17 +597,17 @@ fn expressions() {
         "every kind",
         &EVERY_KIND,
         "
-        25 23 20 2 0 2 0 22 24 17 22 18 2 0 1 3 20 2 255 1 0 1 52 21,
-        25 23 20 2 0 2 0 24 17 22 18 2 0 1 3 19 1 0 10 19 2 0 1 5 3 2 0 2 1 5 2 0 1 2 2 52 34,
-        25 23 19 9 52 2 128 22 16 23 20 2 0 2 0 18 10 19 2 0 1 5 3 2 0 2 1 5 2 0 1 2 9 52 1 48 34,
-        25 23 19 9 52 2 128 16 19 1 0 8 2 1 2 48 14,
+        25 23 20 2 0 2 0 22 24 17 22 18 2 0 1 3 20 2 255 1 0 1 52 21 0,
+        25 23 20 2 0 2 0 24 17 22 18 2 0 1 3 19 1 0 10 19 2 0 1 5 3 2 0 2 1 5 2 0 1 2 2 52 34 0,
+        25 23 19 9 52 2 128 22 16 23 20 2 0 2 0 18 10 19 2 0 1 5 3 2 0 2 1 5 2 0 1 2 9 52 1 48 34 1,
+        25 23 19 9 52 2 128 16 19 1 0 8 2 1 2 48 14 1,
         25 23 23 19 9 52 2 128 16 20 8 2 1 9 48 23 23 21 1 2 1 0 21 1 3 1 0 23 20 9 48 9 52 23 19
-          9 52 2 128 18 8 7 6 2 0 1 2 1 3 9 48 3 48 51,
+          9 52 2 128 18 8 7 6 2 0 1 2 1 3 9 48 3 48 51 1,
         25 23 23 20 2 0 2 0 24 17 22 18 2 0 1 3 20 10 19 2 0 1 5 3 2 0 2 1 5 2 0 1 2 9 52 23 21 9
           52 2 0 23 25 23 16 25 16 17 19 9 52 2 128 25 22 23 16 25 16 17 23 20 2 0 2 0 18 10 19 2 0
-          1 5 3 2 0 2 1 5 2 0 1 2 9 52 3 52 85,
-        25 16 20 2 0 2 0 4 61 7,
-        7
+          1 5 3 2 0 2 1 5 2 0 1 2 9 52 3 52 85 0,
+        25 16 20 2 0 2 0 4 61 7 0,
+        -7
         ",
     );
 }
@@ -616,7 +618,7 @@ fn constants() {
     expect_list(
         "constants",
         &rows("1 -2147483648 0 0, 1 2147483647 0 0, 20 0 1 0, 32 0 0 0, 16 0 0 0, 48 2 3 4"),
-        "25 20 1 -2147483648 1 2147483647 16 4 5 7, 1",
+        "25 20 1 -2147483648 1 2147483647 16 4 5 7 0, -1",
     );
 }
 
@@ -624,10 +626,9 @@ fn constants() {
 fn the_recorded_cases() {
     let mut tried = 0;
     for case in cases(include_str!("generator_cases.txt")).skip(1) {
-        let [table, room, scratch, wanted, list] = parts(case, "|");
-        let (room, scratch) = (number(room), number(scratch));
-        let written = expect(case, &numbers(table), room, scratch, answer(wanted));
-        assert_eq!(written, numbers(list), "{case}");
+        expect_recorded_before_p9(case, |table, room, scratch, wanted| {
+            expect(case, table, room, scratch, wanted)
+        });
         tried += 1;
     }
     assert_eq!(tried, 75);

@@ -1,19 +1,23 @@
 //! The list reader: the line at an index, words that are no list (20), and
 //! indexes that a list does not have (21). What is wanted is from document 01,
 //! with the range of variables from document 02, P2, and kind 5 from P5;
-//! `listing_cases.txt` has cases that an independent reading of P2 answered.
+//! `listing_cases.txt` has cases that an independent reading of P2 answered. The
+//! lists are from before P9, and are read as ever, with depth 0; a whole one is read
+//! a second time with depths. `depth.rs` has more lists that tell them.
 
 mod common;
 
-use common::{cases, number, numbers, parts, sum_of_all_variables_list, EXAMPLE_A_LIST};
+use common::{cases, number, numbers, parts, sum_of_all_variables_list, with_depths};
+use common::{without_depths, EXAMPLE_A_LIST, EXAMPLE_A_OLD_LIST};
 use leqwarti::entries::{first_place, line_at, step, Line};
 
-/// A line whose formula stands from start up to end.
+/// A line of depth 0 whose formula stands from start up to end.
 fn line(kind: usize, row: usize, start: usize, end: usize) -> Line {
     Line {
         number: 0,
         kind,
         row,
+        depth: 0,
         start,
         end,
     }
@@ -37,7 +41,19 @@ fn expect_lines(text: &str) {
         let [words, index, kind, row, place, _why] = parts(case, "|");
         let [start, end] = parts(place, "to");
         let wanted = line(number(kind), number(row), number(start), number(end));
-        expect_line(case, &numbers(words), number(index), wanted);
+        let (words, index) = (numbers(words), number(index));
+        expect_line(case, &words, index, wanted);
+
+        let depths: Vec<i32> = (0..words[words.len() - 1])
+            .map(|line| (3 + line) % 8)
+            .collect();
+        let deeper = Line {
+            depth: (3 + index as usize) % 8,
+            start: wanted.start + index as usize,
+            end: wanted.end + index as usize,
+            ..wanted
+        };
+        expect_line(case, &with_depths(&words, &depths), index, deeper);
     }
 }
 
@@ -74,12 +90,21 @@ fn expect_all_torn(text: &str) {
 #[test]
 fn example_a() {
     let list = numbers(EXAMPLE_A_LIST);
-    assert_eq!(first_place(&list), 93);
+    assert_eq!((list.len(), first_place(&list)), (98, 97));
     assert_eq!(passed(&list), 4);
     expect_line("exit", &list, 0, line(1, 15, 0, 18));
-    expect_line("floor", &list, 1, line(2, 15, 21, 38));
-    expect_line("step", &list, 2, line(3, 15, 41, 76));
-    expect_line("main", &list, 3, line(4, 19, 79, 90));
+    expect_line("floor", &list, 1, line(2, 15, 22, 39));
+    expect_line("step", &list, 2, line(3, 15, 43, 78));
+    expect_line("main", &list, 3, line(4, 19, 82, 93));
+
+    let old = numbers(EXAMPLE_A_OLD_LIST);
+    assert_eq!(old, without_depths(&list));
+    assert_eq!((old.len(), first_place(&old)), (94, 93));
+    assert_eq!(passed(&old), 4);
+    expect_line("exit", &old, 0, line(1, 15, 0, 18));
+    expect_line("floor", &old, 1, line(2, 15, 21, 38));
+    expect_line("step", &old, 2, line(3, 15, 41, 76));
+    expect_line("main", &old, 3, line(4, 19, 79, 90));
 }
 
 #[test]
@@ -117,12 +142,14 @@ fn numbers_at_their_limits() {
 
 #[test]
 fn indexes_that_the_list_does_not_have() {
-    let list = numbers(EXAMPLE_A_LIST);
-    for index in [4, i32::MAX, -1, i32::MIN] {
-        expect_line("example A", &list, index, no_line(21));
+    for list in [EXAMPLE_A_LIST, EXAMPLE_A_OLD_LIST].map(numbers) {
+        for index in [4, i32::MAX, -1, i32::MIN, -4] {
+            expect_line("example A", &list, index, no_line(21));
+        }
     }
     for index in [1, -1] {
         expect_line("one line", &[16, 4, 0, 1, 1], index, no_line(21));
+        expect_line("one line", &[16, 4, 0, 1, 0, -1], index, no_line(21));
     }
 }
 
@@ -266,8 +293,10 @@ fn every_variable() {
 #[test]
 fn a_list_with_all_ordinary_variables() {
     let list = sum_of_all_variables_list();
-    expect_line("the sum", &list, 0, line(4, 1_796, 0, 2_692));
-    assert_eq!(passed(&list), 1);
+    for list in [without_depths(&list), list] {
+        expect_line("the sum", &list, 0, line(4, 1_796, 0, 2_692));
+        assert_eq!(passed(&list), 1);
+    }
 }
 
 #[test]
@@ -300,7 +329,7 @@ fn torn_by_words_left_at_the_front() {
 /// between, in the last.
 #[test]
 fn torn_by_one_line_of_several() {
-    let list = numbers(EXAMPLE_A_LIST);
+    let list = numbers(EXAMPLE_A_OLD_LIST);
     for (name, wrong) in [
         ("the first formula", &[(0, 3)][..]),
         ("the first kind", &[(18, 0)]),
@@ -389,6 +418,7 @@ fn the_recorded_cases() {
             number: number(told),
             kind: number(kind),
             row: number(row),
+            depth: 0,
             start: number(start),
             end: number(end),
         };

@@ -1,10 +1,10 @@
 //! The reader that keeps the words and its place and walks back. The lists are
 //! those of document 01, example A's and that of the four trial rows, each
-//! whole and torn.
+//! whole and torn, with depths (document 02, P9) and from before.
 
 mod common;
 
-use common::{numbers, EXAMPLE_A_LIST};
+use common::{numbers, EXAMPLE_A_LIST, EXAMPLE_A_OLD_LIST};
 use leqwarti::entries::{first_place, step, Line};
 
 /// What a step reads, as the program writes it: name, row and formula words of
@@ -42,7 +42,9 @@ const PAST_THE_FIRST: &str = "refused 21";
 #[test]
 fn the_last_condition_first_and_two_steps_past_the_first() {
     let wanted = [MAIN, STEP, FLOOR, EXIT, PAST_THE_FIRST, PAST_THE_FIRST];
-    assert_eq!(walk(&numbers(EXAMPLE_A_LIST), 6), wanted);
+    for list in [EXAMPLE_A_LIST, EXAMPLE_A_OLD_LIST] {
+        assert_eq!(walk(&numbers(list), 6), wanted);
+    }
 }
 
 #[test]
@@ -58,7 +60,23 @@ fn the_step_after_n_others() {
 /// front and inside a line the place stays.
 #[test]
 fn the_step_from_a_place() {
-    let list = numbers(EXAMPLE_A_LIST);
+    let expect = |list: &[i32], place, wanted, moved_to| {
+        let mut at = place;
+        let line = step(list, &mut at);
+        assert_eq!(told(list, line), wanted, "from {place}");
+        assert_eq!(at, moved_to, "from {place}");
+    };
+    for (place, wanted, moved_to) in [
+        (97, MAIN, 82),
+        (82, STEP, 43),
+        (43, FLOOR, 22),
+        (22, EXIT, 0),
+        (0, PAST_THE_FIRST, 0),
+        (21, TORN, 21),
+        (3, TORN, 3),
+    ] {
+        expect(&numbers(EXAMPLE_A_LIST), place, wanted, moved_to);
+    }
     for (place, wanted, moved_to) in [
         (93, MAIN, 79),
         (79, STEP, 41),
@@ -67,10 +85,7 @@ fn the_step_from_a_place() {
         (0, PAST_THE_FIRST, 0),
         (20, TORN, 20),
     ] {
-        let mut at = place;
-        let line = step(&list, &mut at);
-        assert_eq!(told(&list, line), wanted, "from {place}");
-        assert_eq!(at, moved_to, "from {place}");
+        expect(&numbers(EXAMPLE_A_OLD_LIST), place, wanted, moved_to);
     }
 }
 
@@ -78,7 +93,7 @@ fn the_step_from_a_place() {
 #[test]
 fn the_formula_of_the_step_from_a_place() {
     let list = numbers(EXAMPLE_A_LIST);
-    for (place, wanted) in [(21, 0..18), (20, 0..0)] {
+    for (place, wanted) in [(22, 0..18), (21, 0..0)] {
         let line = step(&list, &mut place.clone());
         assert_eq!(line.start..line.end, wanted, "from {place}");
     }
@@ -86,14 +101,20 @@ fn the_formula_of_the_step_from_a_place() {
 
 #[test]
 fn torn_lists_at_every_step() {
-    let with_count = |count| {
-        let mut list = numbers(EXAMPLE_A_LIST);
-        list[93] = count;
+    let with_last = |list, last| {
+        let mut list = numbers(list);
+        *list.last_mut().unwrap() = last;
         list
     };
+    let (new, old) = (EXAMPLE_A_LIST, EXAMPLE_A_OLD_LIST);
     for (name, list, steps) in [
-        ("example A with the count 5", with_count(5), 3),
-        ("example A with a negative count", with_count(-4), 2),
+        ("example A with the count 5", with_last(new, -5), 3),
+        ("and no depths", with_last(old, 5), 3),
+        ("example A with a positive count", with_last(new, 4), 2),
+        ("and no depths but a negative count", with_last(old, -4), 2),
+        ("a kind that is none", vec![25, 16, 16, 6, 3, 3, 0, -1], 2),
+        ("a wrong length", vec![25, 16, 16, 4, 3, 2, 0, -1], 2),
+        ("one word", vec![-1], 2),
         ("a kind that is none", vec![25, 16, 16, 6, 3, 3, 1], 2),
         ("a wrong length", vec![25, 16, 16, 4, 3, 2, 1], 2),
         ("one word", vec![1], 2),
@@ -103,9 +124,10 @@ fn torn_lists_at_every_step() {
 }
 
 #[test]
-fn seven_words() {
+fn seven_and_eight_words() {
     let wanted = ["main 3 25 16 16", PAST_THE_FIRST, PAST_THE_FIRST];
     assert_eq!(walk(&[25, 16, 16, 4, 3, 3, 1], 3), wanted);
+    assert_eq!(walk(&[25, 16, 16, 4, 3, 3, 0, -1], 3), wanted);
 }
 
 /// A list of one loop whose guard divides: its first condition is read last.

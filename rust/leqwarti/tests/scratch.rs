@@ -1,9 +1,10 @@
 //! Two words of scratch for each row, whatever the room: document 02, P8.
-//! `scratch_cases.txt` has cases that an independent reading of it answered.
+//! `scratch_cases.txt` has cases that an independent reading of it answered, with
+//! lists from before P9.
 
 mod common;
 
-use common::{answer, cases, expect, longest_path, nested, number, numbers, parts, planned};
+use common::{cases, counted, expect, expect_recorded_before_p9, longest_path, nested, planned};
 use common::{refused, EVERY_KIND, EXAMPLE_A, FOUR_ROWS};
 use leqwarti::entries::{generate_records, Answer};
 use leqwarti::{scratch_words, Reason, Record, LARGEST_SCRATCH, LONGEST_LIST};
@@ -35,10 +36,9 @@ fn expect_both(name: &str, table: &[i32], room: usize, scratch: usize, wanted: A
 fn the_recorded_cases() {
     let mut tried = 0;
     for case in cases(include_str!("scratch_cases.txt")).skip(1) {
-        let [table, room, scratch, wanted, list] = parts(case, "|");
-        let (room, scratch) = (number(room), number(scratch));
-        let written = expect_both(case, &numbers(table), room, scratch, answer(wanted));
-        assert_eq!(written, numbers(list), "{case}");
+        expect_recorded_before_p9(case, |table, room, scratch, wanted| {
+            expect_both(case, table, room, scratch, wanted)
+        });
         tried += 1;
     }
     assert_eq!(tried, 85);
@@ -57,7 +57,6 @@ fn every_scratch_up_to_the_need_and_beyond() {
     ] {
         let table = rows.concat();
         let list = leqwarti::plan(&table).expect("a plan").words().to_vec();
-        let conditions = list[list.len() - 1] as usize;
         for scratch in 0..2 * rows.len() + 5 {
             for room in [0, 1, list.len() - 1, list.len(), LONGEST_LIST + 1] {
                 let wanted = if scratch < 2 * rows.len() {
@@ -65,7 +64,7 @@ fn every_scratch_up_to_the_need_and_beyond() {
                 } else if room < list.len() {
                     refused(12, 0)
                 } else {
-                    planned(conditions, list.len())
+                    planned(counted(&list), list.len())
                 };
                 let name = format!("{name}, room {room}, scratch {scratch}");
                 let written = expect_both(&name, &table, room, scratch, wanted);

@@ -1,13 +1,14 @@
 //! A list with its conditions shortened, the shorter of two formulas, and 31 for a
 //! buffer that is too short. What is wanted is from document 02, P6; `shorten_cases.txt`
 //! and `shorter_cases.txt` have cases that an independent reading of both documents
-//! answered.
+//! answered, with lists from before P9. Each list of this file is shortened in both
+//! forms, from before and with depths; what is written has the form that was read.
 
 mod common;
 
 use std::thread;
 
-use common::{cases, number, numbers, parts, EXAMPLE_A_LIST};
+use common::{cases, number, numbers, parts, with_depths, EXAMPLE_A_OLD_LIST};
 use leqwarti::entries::{self, ShorterPart, Written};
 use leqwarti::{ConditionKind, Plan, Reason, LONGEST_LIST};
 
@@ -30,8 +31,20 @@ fn expect_refusal(name: &str, list: &[i32], room: usize, number: usize) {
     assert_eq!(written(list, room), answer, "{name}, room {room}");
 }
 
-/// The new list at rooms around its length.
+/// The new list of one without depths, and of the same with some.
 fn expect(name: &str, list: &[i32], wanted: &[i32]) {
+    expect_around_the_need(name, list, wanted);
+    let depths: Vec<i32> = (0..list[list.len() - 1])
+        .map(|line| (5 + line) % 8)
+        .collect();
+    let [list, wanted] = [list, wanted].map(|words| with_depths(words, &depths));
+    if list.len() <= LONGEST_LIST {
+        expect_around_the_need(name, &list, &wanted);
+    }
+}
+
+/// The new list at rooms around its length.
+fn expect_around_the_need(name: &str, list: &[i32], wanted: &[i32]) {
     let need = wanted.len();
     for room in [need, need + 1, need + 100] {
         expect_list(name, list, room, wanted);
@@ -160,7 +173,7 @@ fn nothing_else_is_shortened() {
 
 #[test]
 fn example_a_and_the_four_rows() {
-    let example_a = numbers(EXAMPLE_A_LIST);
+    let example_a = numbers(EXAMPLE_A_OLD_LIST);
     expect("example A", &example_a, &example_a);
     let four_rows = [25, 16, 16, 4, 3, 3, 1];
     expect("the four rows", &four_rows, &[16, 4, 3, 1, 1]);
@@ -203,6 +216,15 @@ fn torn_lists_before_the_room() {
         "16 22 17 4 0 2 1",
         "20 2 1024 1 0 4 0 5 1",
         "22 17 4 0 2 16 4 0 1 1",
+        "-1",
+        "22 4 0 1 0 -1",
+        "22 17 4 0 1 0 -1",
+        "22 17 4 0 2 0 -2",
+        "22 17 4 0 2 0 1",
+        "22 17 4 0 2 -1",
+        "22 17 4 0 2 8 -1",
+        "22 17 4 0 2 -1 -1",
+        "22 17 4 0 2 0 -2147483648",
     ];
     for torn in torn {
         for room in [0, 1, 4, 5, 100] {

@@ -1,13 +1,14 @@
 //! A condition as an SMT-LIB 2 script, and 30 for a buffer that is too short.
 //! What is wanted is from document 02, P1 and P2; `smt_cases.txt` has cases that
-//! an independent reading of both documents answered.
+//! an independent reading of both documents answered, with lists from before P9. A
+//! condition's text does not tell its depth, so it is the same for both forms.
 
 mod common;
 
 use std::thread;
 
-use common::EXAMPLE_A_LIST;
 use common::{cases, number, numbers, ordinary_variables, parts, sum_of_all_variables_list};
+use common::{EXAMPLE_A_LIST, EXAMPLE_A_OLD_LIST};
 use leqwarti::entries::{self, Written};
 use leqwarti::{Plan, Reason, LONGEST_LIST, LONGEST_TEXT};
 
@@ -53,7 +54,7 @@ fn script(names: &str, condition: &str) -> String {
 
 /// A list of one condition.
 fn list_of(formula: &[i32]) -> Vec<i32> {
-    [formula, &[4, 0, formula.len() as i32, 1]].concat()
+    [formula, &[4, 0, formula.len() as i32, 0, -1]].concat()
 }
 
 /// A case to a line: the words of a formula, the names that it declares, and
@@ -68,7 +69,6 @@ fn expect_formulas(text: &str) {
 
 #[test]
 fn the_four_scripts_of_example_a() {
-    let list = numbers(EXAMPLE_A_LIST);
     let wanted = [
         "\
 (set-logic QF_NIA)
@@ -96,10 +96,12 @@ fn the_four_scripts_of_example_a() {
 (check-sat)
 ",
     ];
-    for (index, wanted) in wanted.into_iter().enumerate() {
-        expect("example A", &list, index as i32, wanted);
-        let plan = Plan::read(list.clone()).unwrap();
-        assert_eq!(plan.smt(index).as_deref(), Ok(wanted));
+    for list in [EXAMPLE_A_LIST, EXAMPLE_A_OLD_LIST].map(numbers) {
+        for (index, wanted) in wanted.into_iter().enumerate() {
+            expect("example A", &list, index as i32, wanted);
+            let plan = Plan::read(list.clone()).unwrap();
+            assert_eq!(plan.smt(index).as_deref(), Ok(wanted));
+        }
     }
 }
 
@@ -207,10 +209,16 @@ fn refusals_in_order() {
         list
     };
     let torn_at_the_front = with_word(0, 99);
-    let torn_at_the_last_kind = with_word(90, 6);
+    let torn_at_the_last_kind = with_word(93, 6);
+    let torn_at_the_last_depth = with_word(96, 8);
     for index in [0, 3, 4, -1, i32::MIN, i32::MAX] {
         for room in [0, 1, 1_000] {
-            for torn in [&torn_at_the_front, &torn_at_the_last_kind, &vec![]] {
+            for torn in [
+                &torn_at_the_front,
+                &torn_at_the_last_kind,
+                &torn_at_the_last_depth,
+                &vec![],
+            ] {
                 expect_refusal("torn", torn, index, room, 20);
             }
         }
@@ -263,8 +271,8 @@ fn a_text_has_a_limit() {
 #[test]
 fn a_formula_that_leans_left_is_written() {
     let written = || {
-        for words in [511, 2_047, 2_049, 4_095, LONGEST_LIST - 1] {
-            let ands = (words - 5) / 2;
+        for words in [512, 2_048, 2_050, 4_096, LONGEST_LIST] {
+            let ands = (words - 6) / 2;
             let list = list_of(&[vec![23; ands], vec![16; ands + 1]].concat());
             assert_eq!(list.len(), words);
             let formula = "(and ".repeat(ands) + "true" + &" true)".repeat(ands);
@@ -277,11 +285,11 @@ fn a_formula_that_leans_left_is_written() {
 
 #[test]
 fn the_deepest_formula_is_written() {
-    let nots = 16_379;
+    let nots = 16_378;
     let list = list_of(&[vec![22; nots], vec![16]].concat());
     assert_eq!(list.len(), leqwarti::LONGEST_LIST);
     let formula = "(not ".repeat(nots) + "true" + &")".repeat(nots);
-    expect("16,379 nots", &list, 0, &script("", &formula));
+    expect("16,378 nots", &list, 0, &script("", &formula));
 }
 
 #[test]

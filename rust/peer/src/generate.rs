@@ -79,8 +79,8 @@ fn write_list(
     walk.writer.put(25)?;
     walk.writer.write(precondition)?;
     walk.write_before(statement as u16)?;
-    walk.finish(start, 4, last as u16)?;
-    walk.writer.put(walk.conditions)?;
+    walk.finish(start, 4, last as u16, 0)?;
+    walk.writer.put(-walk.conditions)?;
     Ok((walk.conditions as usize, walk.writer.place()))
 }
 
@@ -136,7 +136,7 @@ impl Walk<'_> {
         self.writer.put(25)?;
         let invariant_words = self.writer.write(invariant)?;
         self.writer.write_divisors(guard)?;
-        self.finish(start, 5, row)?;
+        self.finish(start, 5, row, self.open.len())?;
         Ok(invariant_words)
     }
 
@@ -159,7 +159,7 @@ impl Walk<'_> {
         self.writer.put(22)?;
         let guard_words = self.writer.write(guard)?;
         self.write_before(self.follow[usize::from(row)] as Follow)?;
-        self.finish(start, 1, row)?;
+        self.finish(start, 1, row, self.open.len())?;
 
         let start = self.writer.place();
         self.writer.put(25)?;
@@ -172,7 +172,7 @@ impl Walk<'_> {
         self.writer.put(1)?;
         self.writer.put(0)?;
         let variant_words = self.writer.write(variant)?;
-        self.finish(start, 2, row)?;
+        self.finish(start, 2, row, self.open.len())?;
 
         self.follow[body as usize] = i32::from(BODY | self.open.len() as u16);
         self.open.push(Open {
@@ -201,17 +201,18 @@ impl Walk<'_> {
         self.writer.put(9)?;
         self.writer.put(row.into())?;
         self.write_before(body as u16)?;
-        self.finish(start, 3, row)?;
         self.open.pop();
+        self.finish(start, 3, row, self.open.len())?;
         Ok(())
     }
 
-    /// The trailer of a condition.
-    fn finish(&mut self, start: usize, kind: i32, row: u16) -> Result<(), Full> {
+    /// The trailer of a condition; `depth` loops are open around its own.
+    fn finish(&mut self, start: usize, kind: i32, row: u16, depth: usize) -> Result<(), Full> {
         let length = self.writer.place() - start;
         self.writer.put(kind)?;
         self.writer.put(row.into())?;
         self.writer.put(length as i32)?;
+        self.writer.put(depth as i32)?;
         self.conditions += 1;
         Ok(())
     }

@@ -1,4 +1,4 @@
-//! A yardstick for the proved library: document 01 and requests P1, P2 and P4 to P8
+//! A yardstick for the proved library: document 01 and requests P1, P2 and P4 to P9
 //! written by hand for speed.
 //!
 //! Nothing of it is proved. `fuzz/tests/peer.rs` compares it with the proved
@@ -89,6 +89,7 @@ pub struct Line {
     pub number: usize,
     pub kind: usize,
     pub row: usize,
+    pub depth: usize,
     pub start: usize,
     pub end: usize,
 }

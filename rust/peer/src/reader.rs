@@ -93,6 +93,7 @@ const fn no_line(number: usize) -> Line {
         number,
         kind: 0,
         row: 0,
+        depth: 0,
         start: 0,
         end: 0,
     }
@@ -102,38 +103,59 @@ const TORN: Line = no_line(20);
 const NO_SUCH_LINE: Line = no_line(21);
 
 /// The words before the trailer that ends the words, where its formula begins, and its
-/// kind and row.
+/// kind, row and depth, which is 0 for a list that tells none.
 #[inline(always)]
-pub fn trailer(words: &[i32]) -> Option<(&[i32], usize, [i32; 2])> {
+pub fn trailer<const DEPTHS: bool>(words: &[i32]) -> Option<(&[i32], usize, [i32; 3])> {
+    let (&depth, words) = if DEPTHS {
+        words.split_last()?
+    } else {
+        (&0, words)
+    };
     let (before, &[kind, row, length]) = words.split_last_chunk()?;
     let start = before.len().checked_sub(length as u32 as usize)?;
-    let in_range = (1..=5).contains(&kind) && (0..=2_047).contains(&row);
-    in_range.then_some((before, start, [kind, row]))
+    let in_range =
+        (1..=5).contains(&kind) && (0..=2_047).contains(&row) && (0..=7).contains(&depth);
+    in_range.then_some((before, start, [kind, row, depth]))
 }
 
 /// The line whose trailer ends the words.
 #[inline(always)]
-fn last_line(words: &[i32]) -> Option<Line> {
-    let (before, start, [kind, row]) = trailer(words)?;
+fn last_line<const DEPTHS: bool>(words: &[i32]) -> Option<Line> {
+    let (before, start, [kind, row, depth]) = trailer::<DEPTHS>(words)?;
     is_formula(&before[start..]).then_some(Line {
         number: 0,
         kind: kind as usize,
         row: row as usize,
+        depth: depth as usize,
         start,
         end: before.len(),
     })
 }
 
+/// The words before the last one, how many lines it counts, and whether they tell
+/// depths. As an unsigned number even minus the least word is a count.
+#[inline(always)]
+pub fn counted(words: &[i32]) -> Option<(&[i32], u32, bool)> {
+    let (&last, rest) = words.split_last()?;
+    let is_list = last != 0 && words.len() <= LONGEST_LIST;
+    is_list.then_some((rest, last.unsigned_abs(), last < 0))
+}
+
 /// The line at an index, after all were read.
 #[inline(always)]
 fn read(words: &[i32], index: i32) -> Option<Line> {
-    let (&count, mut rest) = words.split_last()?;
-    if count < 1 || words.len() > LONGEST_LIST {
-        return None;
+    match counted(words)? {
+        (rest, count, true) => read_lines::<true>(rest, count, index as u32),
+        (rest, count, false) => read_lines::<false>(rest, count, index as u32),
     }
-    let mut found = NO_SUCH_LINE;
+}
+
+/// A negative index is larger than every count.
+#[inline(always)]
+fn read_lines<const DEPTHS: bool>(words: &[i32], count: u32, index: u32) -> Option<Line> {
+    let (mut rest, mut found) = (words, NO_SUCH_LINE);
     for place in (0..count).rev() {
-        let line = last_line(rest)?;
+        let line = last_line::<DEPTHS>(rest)?;
         if place == index {
             found = line;
         }
@@ -162,7 +184,13 @@ pub fn step(words: &[i32], place: &mut usize) -> Line {
     if *place == 0 {
         return NO_SUCH_LINE;
     }
-    let Some(line) = words.get(..*place).and_then(last_line) else {
+    let passed = words.get(..*place);
+    let line = if words.last().is_some_and(|&last| last < 0) {
+        passed.and_then(last_line::<true>)
+    } else {
+        passed.and_then(last_line::<false>)
+    };
+    let Some(line) = line else {
         return TORN;
     };
     *place = line.start;

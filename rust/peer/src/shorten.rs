@@ -8,7 +8,7 @@
 //! writing, and no word is moved. A node that a literal before its second part makes
 //! that part is no node from the first, and a formula in which no rule applies is copied.
 
-use crate::reader::{line_at, trailer};
+use crate::reader::{counted, line_at, trailer};
 use crate::stack::{Stack, Storage};
 use crate::{ShorterPart, Written, LARGEST_NUMBER, LONGEST_LIST};
 
@@ -73,24 +73,36 @@ pub fn shorten(list: &[i32], short: &mut [i32]) -> Written {
     Written { number, used }
 }
 
-/// The words of the new list; nothing for a torn one.
+/// The words of the new list, in the form of the old one; nothing for a torn one.
 #[inline(always)]
 fn shortened<'a>(list: &[i32], memory: &'a mut Memory) -> Option<&'a [i32]> {
-    let (&count, mut rest) = list.split_last()?;
-    if count < 1 || list.len() > LONGEST_LIST {
-        return None;
+    match counted(list)? {
+        (_, count, true) => shortened_lines::<true>(list, count, memory),
+        (_, count, false) => shortened_lines::<false>(list, count, memory),
     }
+}
+
+#[inline(always)]
+fn shortened_lines<'a, const DEPTHS: bool>(
+    list: &[i32],
+    count: u32,
+    memory: &'a mut Memory,
+) -> Option<&'a [i32]> {
+    let (&last, mut rest) = list.split_last()?;
     let mut writer = Writer {
         new: memory.new.filled(list.len(), 0),
         at: list.len(),
         parts: memory.parts.stack(),
     };
-    writer.put(count);
+    writer.put(last);
     for _ in 0..count {
-        let (before, start, [kind, row]) = trailer(rest)?;
+        let (before, start, [kind, row, depth]) = trailer::<DEPTHS>(rest)?;
         let formula = &before[start..];
         let mut nodes = memory.nodes.stack();
         let is_padded = note_nodes(formula, &mut nodes, &mut memory.awaited.stack())?;
+        if DEPTHS {
+            writer.put(depth);
+        }
         let end = writer.at - 3;
         writer.at = end;
         if is_padded {

@@ -1,6 +1,7 @@
 //! "Conditions": weakest preconditions and the verification conditions listed
-//! on the way; with the divisors of request P5.
+//! on the way; with the divisors of request P5 and the depths of request P9.
 
+use crate::list::{spell_list, Form, Listed};
 use crate::table::{Row, Variable};
 use crate::tree::{Comparison, Connective, Expression, Formula, Loop, Script, Statement};
 
@@ -20,7 +21,23 @@ pub enum ConditionKind {
 pub struct Condition {
     pub kind: ConditionKind,
     pub row: Row,
+    /// "how many loops enclose the named one, 0 for main"
+    pub depth: usize,
     pub formula: Formula,
+}
+
+impl Condition {
+    /// The condition as words.
+    fn listed(&self) -> Listed {
+        let mut formula = Vec::new();
+        self.formula.write(&mut formula);
+        Listed {
+            kind: self.kind as i32,
+            row: self.row.0 as i32,
+            depth: self.depth as i32,
+            formula,
+        }
+    }
 }
 
 /// The list would be longer than the limit given.
@@ -33,6 +50,7 @@ pub fn conditions(script: &Script, limit: usize) -> Result<Vec<Condition>, TooLo
     let mut walk = Walk {
         limit,
         length: 1,
+        depth: 0,
         conditions: Vec::new(),
     };
     let before = walk.weakest_precondition(&script.statement, script.postcondition.clone())?;
@@ -42,24 +60,24 @@ pub fn conditions(script: &Script, limit: usize) -> Result<Vec<Condition>, TooLo
     Ok(walk.conditions)
 }
 
-/// The words of the list: each formula with its trailer, then the count.
+/// The words of the list, in the form of request P9.
 pub fn list_words(conditions: &[Condition]) -> Vec<i32> {
-    let mut words = Vec::new();
-    for condition in conditions {
-        let start = words.len();
-        condition.formula.write(&mut words);
-        let length = (words.len() - start) as i32;
-        words.extend([condition.kind as i32, condition.row.0 as i32, length]);
-    }
-    words.push(conditions.len() as i32);
-    words
+    list_words_in(conditions, Form::WithDepth)
+}
+
+/// The words of the list in either form.
+pub fn list_words_in(conditions: &[Condition], form: Form) -> Vec<i32> {
+    let listed: Vec<Listed> = conditions.iter().map(Condition::listed).collect();
+    spell_list(&listed, form)
 }
 
 /// The walk over the statements, with the conditions listed so far.
 struct Walk {
     limit: usize,
-    /// How many words the list has so far, its count included.
+    /// How many words the list has so far, its last one included.
     length: usize,
+    /// How many loops have the statement walked in their bodies.
+    depth: usize,
     conditions: Vec<Condition>,
 }
 
@@ -130,7 +148,9 @@ impl Walk {
 
         // all conditions of its body, walked with (I and (V less m))
         let less = compare(Comparison::Less, variant(), mark());
+        self.depth += 1;
         let before = self.weakest_precondition(&the_loop.body, and(invariant(), less))?;
+        self.depth -= 1;
 
         // step: ((I and B) and (V equal m)) implies W(body, I and (V less m))
         let begun = compare(Comparison::Equal, variant(), mark());
@@ -139,9 +159,14 @@ impl Walk {
     }
 
     fn list(&mut self, kind: ConditionKind, row: Row, formula: Formula) -> Result<(), TooLong> {
-        self.length += formula.length() + 3;
+        self.length += formula.length() + Form::WithDepth.trailer_length();
         self.fits(self.length)?;
-        self.conditions.push(Condition { kind, row, formula });
+        self.conditions.push(Condition {
+            kind,
+            row,
+            depth: self.depth,
+            formula,
+        });
         Ok(())
     }
 

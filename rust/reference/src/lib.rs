@@ -1,4 +1,4 @@
-//! Document 01 and requests P1, P2 and P4 to P8 a second time, written from the
+//! Document 01 and requests P1, P2 and P4 to P9 a second time, written from the
 //! documents alone: trees, `Vec` and `Box`, clear rather than fast.
 //!
 //! Whole numbers of runs are kept as `i128`. Where a value would leave that
@@ -28,15 +28,17 @@ mod tree;
 mod unparse;
 
 pub use check::{check, Verdict};
-pub use conditions::{conditions, list_words, Condition, ConditionKind, TooLong};
+pub use conditions::{conditions, list_words, list_words_in};
 pub use conditions::{divisors_of_expression, divisors_of_formula, guard_condition};
+pub use conditions::{Condition, ConditionKind, TooLong};
 pub use evaluate::{
     div, formula_is_true, modulo, spelled_formula_is_true, value_of, State, TooLarge,
 };
 pub use evaluate::{worked_out_truth, worked_out_value, NoValue};
 pub use generate::{generate, need, Need, Outcome, LONGEST_LIST};
 pub use kinds::{shape, Role, Shape, Sort};
-pub use list::{is_whole_formula, line_at, lines, Line, ListReader};
+pub use list::{is_whole_formula, line_at, lines, lines_in, Line, ListReader};
+pub use list::{listed, spell_list, Form, Listed};
 pub use mend::{mend, Mended};
 pub use program::{output_with, program_output};
 pub use run::{run, run_observed, Arrival, End, Run};

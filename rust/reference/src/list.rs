@@ -1,27 +1,110 @@
-//! "Reading a finished list".
+//! "Reading a finished list"; with the two forms of a list since request P9.
 
 use crate::generate::LONGEST_LIST;
 use crate::kinds::{shape, Role, Sort};
 use crate::table::Variable;
 
+/// What a list is written in: "the reader, P1 and P6 take both forms".
+#[derive(Clone, Copy, Debug, PartialEq, Eq)]
+pub enum Form {
+    /// That of document 01: trailers of three words, and last the count.
+    WithoutDepth,
+    /// That of request P9: "Every trailer gains a fourth word after the length:
+    /// how many loops enclose the named one, 0 for main. Such lists end in
+    /// minus the count."
+    WithDepth,
+}
+
+impl Form {
+    pub const BOTH: [Form; 2] = [Form::WithoutDepth, Form::WithDepth];
+
+    /// The form of a list, torn or not: the sign of its last word alone tells
+    /// it. Nothing for 0, and for a list without words.
+    pub fn of(list: &[i32]) -> Option<Form> {
+        match list.last()? {
+            1.. => Some(Form::WithoutDepth),
+            0 => None,
+            ..0 => Some(Form::WithDepth),
+        }
+    }
+
+    /// How many words a trailer has.
+    pub fn trailer_length(self) -> usize {
+        match self {
+            Form::WithoutDepth => 3,
+            Form::WithDepth => 4,
+        }
+    }
+
+    /// The last word of a list of so many conditions.
+    pub fn last_word(self, count: usize) -> i32 {
+        match self {
+            Form::WithoutDepth => count as i32,
+            Form::WithDepth => -(count as i32),
+        }
+    }
+}
+
+/// A condition of a list: its formula's words, and what its trailer says of it
+/// beside their number.
+#[derive(Clone, Debug, PartialEq, Eq)]
+pub struct Listed {
+    pub kind: i32,
+    pub row: i32,
+    /// Written in a list with depths only.
+    pub depth: i32,
+    pub formula: Vec<i32>,
+}
+
+/// The words of a list in this form: each formula with its trailer, then the
+/// count, or minus the count.
+pub fn spell_list(conditions: &[Listed], form: Form) -> Vec<i32> {
+    let mut words = Vec::new();
+    for condition in conditions {
+        words.extend(&condition.formula);
+        words.extend([condition.kind, condition.row]);
+        words.push(condition.formula.len() as i32);
+        if form == Form::WithDepth {
+            words.push(condition.depth);
+        }
+    }
+    words.push(form.last_word(conditions.len()));
+    words
+}
+
+/// The conditions of a well-formed list, from the front; nothing for a torn one.
+pub fn listed(list: &[i32]) -> Option<Vec<Listed>> {
+    let listed = |line: &Line| Listed {
+        kind: line.kind,
+        row: line.row,
+        depth: line.depth,
+        formula: list[line.start..line.end].to_vec(),
+    };
+    Some(lines(list)?.iter().map(listed).collect())
+}
+
 /// What the list reader answers: "number 0, kind, row and the formula as the
-/// part of the caller's words where it stands", from `start` up to `end`.
+/// part of the caller's words where it stands", from `start` up to `end`; by
+/// request P9 the depth "beside the row, 0 for an old list".
 #[derive(Clone, Copy, Debug, PartialEq, Eq)]
 pub struct Line {
     pub number: u8,
     pub kind: i32,
     pub row: i32,
+    pub depth: i32,
     pub start: usize,
     pub end: usize,
 }
 
 impl Line {
-    /// "refused, kind and row are 0 with the empty part at the front".
+    /// "refused, kind and row are 0 with the empty part at the front"; and so is
+    /// the depth.
     fn refused(number: u8) -> Line {
         Line {
             number,
             kind: 0,
             row: 0,
+            depth: 0,
             start: 0,
             end: 0,
         }
@@ -65,18 +148,27 @@ impl ListReader {
     }
 }
 
-/// The lines of a well-formed list, from the front; nothing for a torn one.
+/// The lines of a well-formed list of either form, from the front; nothing for
+/// a torn one.
+pub fn lines(list: &[i32]) -> Option<Vec<Line>> {
+    lines_in(list, Form::of(list)?)
+}
+
+/// The lines of a well-formed list of this form alone, from the front. A reader
+/// from before request P9 takes those without depths, and "an old reader gives
+/// 20 to a new list".
 ///
 /// "A well-formed list has a count of 1 or more, at most 16,384 words, that
 /// many trailers, ...; nothing left at the front."
-pub fn lines(list: &[i32]) -> Option<Vec<Line>> {
-    let (&count, mut rest) = list.split_last()?;
-    if count < 1 || list.len() > LONGEST_LIST {
+pub fn lines_in(list: &[i32], form: Form) -> Option<Vec<Line>> {
+    if Form::of(list) != Some(form) || list.len() > LONGEST_LIST {
         return None;
     }
+    let (last, mut rest) = list.split_last()?;
     let mut lines = Vec::new();
-    for _ in 0..count {
-        let line = last_line(rest)?;
+    // The count of -2147483648 is no 32-bit signed number.
+    for _ in 0..last.unsigned_abs() {
+        let line = last_line(rest, form)?;
         lines.push(line);
         rest = &rest[..line.start];
     }
@@ -86,17 +178,24 @@ pub fn lines(list: &[i32]) -> Option<Vec<Line>> {
 
 /// The line at the end of `words`: a trailer "with a kind 1 to 4, a row from 0
 /// to 2,047 and the true length of one whole formula"; since request P5, "The
-/// list reader takes kind 5."
-fn last_line(words: &[i32]) -> Option<Line> {
-    let end = words.len().checked_sub(3)?;
+/// list reader takes kind 5", and of request P9's fourth word, "20 when the
+/// fourth word is not 0 to 7".
+fn last_line(words: &[i32], form: Form) -> Option<Line> {
+    let end = words.len().checked_sub(form.trailer_length())?;
     let (kind, row, length) = (words[end], words[end + 1], words[end + 2]);
+    let depth = match form {
+        Form::WithoutDepth => 0,
+        Form::WithDepth => words[end + 3],
+    };
     let start = end.checked_sub(usize::try_from(length).ok()?)?;
-    let in_range = (1..=5).contains(&kind) && (0..=2_047).contains(&row);
+    let ranges = [(kind, 1..=5), (row, 0..=2_047), (depth, 0..=7)];
+    let in_range = ranges.iter().all(|(word, range)| range.contains(word));
     let whole = in_range && is_whole_formula(&words[start..end]);
     whole.then_some(Line {
         number: 0,
         kind,
         row,
+        depth,
         start,
         end,
     })

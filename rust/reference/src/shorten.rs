@@ -6,7 +6,7 @@
 //! stack kept here.
 
 use crate::kinds::{shape, Role};
-use crate::list::{is_whole_formula, line_at, lines, Line, TORN_LIST};
+use crate::list::{is_whole_formula, line_at, listed, spell_list, Form, Line, TORN_LIST};
 
 /// "it gives 0 and the words or bytes used, with zeros after them; refusing,
 /// it leaves zeros in all it writes and gives zeros for counts"; beside them
@@ -38,16 +38,14 @@ pub fn shorten(list: &[i32], room: usize) -> Shortened {
 const OUTPUT_TOO_SHORT: u8 = 31;
 
 /// The words of the new list, or the number of a refusal. "Trailers get the
-/// new lengths."
+/// new lengths"; and by request P9, "P6 writing the one it read", of the forms.
 fn shortened_list(list: &[i32], room: usize) -> Result<Vec<i32>, u8> {
-    let lines = lines(list).ok_or(TORN_LIST)?;
-    let mut words = Vec::new();
-    for line in &lines {
-        let formula = shortened_formula(&list[line.start..line.end]);
-        words.extend(&formula);
-        words.extend([line.kind, line.row, formula.len() as i32]);
+    let form = Form::of(list).ok_or(TORN_LIST)?;
+    let mut conditions = listed(list).ok_or(TORN_LIST)?;
+    for condition in &mut conditions {
+        condition.formula = shortened_formula(&condition.formula);
     }
-    words.push(lines.len() as i32);
+    let words = spell_list(&conditions, form);
     if words.len() > room {
         return Err(OUTPUT_TOO_SHORT);
     }

@@ -1,6 +1,7 @@
 //! Every trial row of document 01, example A to the byte, and the five wrong
 //! turns; of variables, what request P2 makes of them, of condition kinds, what
-//! request P5 does, and of scratch, what request P8 does.
+//! request P5 does, of scratch, what request P8 does, and of trailers, what
+//! request P9 does.
 
 mod example_a;
 
@@ -8,7 +9,7 @@ use example_a::{Words4, EXAMPLE_A};
 use reference::*;
 
 const EXAMPLE_A_OUTPUT: &str = "\
-planned 4 94
+planned 4 98
 exit 15 25 23 19 1 0 2 0 22 18 1 0 2 0 20 2 0 1 0
 floor 15 25 23 19 1 0 2 0 18 1 0 2 0 19 1 0 2 0
 step 15 25 23 23 19 1 0 2 0 18 1 0 2 0 20 2 0 9 15 23 19 1 0 4 2 0 1 1 18 4 2 0 1 1 9 15
@@ -77,18 +78,21 @@ fn the_program_refuses() {
 }
 
 /// Document 01 refuses scratch 281 with 11; by request P8 "A with scratch 281
-/// is planned, with 39 it is 11".
+/// is planned, with 39 it is 11". By request P9 "Example A grows to 98 words",
+/// and 93 and 94, "their trial rooms move with them".
 #[test]
 fn example_a_at_the_edges_of_room_and_scratch() {
     let table = words(&EXAMPLE_A);
     for scratch in [40, 41, 281, 282, 100_000] {
-        assert_eq!(answer(&table, 94, scratch), (0, 0, 4, 94), "{scratch}");
-        assert_eq!(answer(&table, 20_000, scratch), (0, 0, 4, 94), "{scratch}");
-        assert_eq!(answer(&table, 93, scratch), (12, 0, 0, 0), "{scratch}");
-        assert_eq!(answer(&table, 0, scratch), (12, 0, 0, 0), "{scratch}");
+        assert_eq!(answer(&table, 98, scratch), (0, 0, 4, 98), "{scratch}");
+        assert_eq!(answer(&table, 20_000, scratch), (0, 0, 4, 98), "{scratch}");
+        for room in [97, 94, 93, 0] {
+            let answer = answer(&table, room, scratch);
+            assert_eq!(answer, (12, 0, 0, 0), "{room} {scratch}");
+        }
     }
     for scratch in [0, 1, 39] {
-        for room in [0, 13, 93, 94, 20_000] {
+        for room in [0, 13, 97, 98, 20_000] {
             let answer = answer(&table, room, scratch);
             assert_eq!(answer, (11, 0, 0, 0), "{room} {scratch}");
         }
@@ -96,19 +100,22 @@ fn example_a_at_the_edges_of_room_and_scratch() {
 }
 
 /// Document 01 refuses scratch 13 with 11; by request P8 "the four-row trial
-/// script with 13 is planned".
+/// script with 13 is planned". By request P9 "the four-row script's list" grows
+/// to 8 words.
 #[test]
 fn the_skip_script() {
     let table = words(&SKIP_SCRIPT);
     for scratch in [8, 12, 13, 14] {
-        let list = generate(&table, 7, scratch).list;
-        assert_eq!(list, [25, 16, 16, 4, 3, 3, 1], "{scratch}");
-        assert_eq!(answer(&table, 7, scratch), (0, 0, 1, 7), "{scratch}");
-        assert_eq!(answer(&table, 6, scratch), (12, 0, 0, 0), "{scratch}");
-        assert_eq!(answer(&table, 0, scratch), (12, 0, 0, 0), "{scratch}");
+        let list = generate(&table, 8, scratch).list;
+        assert_eq!(list, [25, 16, 16, 4, 3, 3, 0, -1], "{scratch}");
+        assert_eq!(answer(&table, 8, scratch), (0, 0, 1, 8), "{scratch}");
+        for room in [7, 6, 0] {
+            let answer = answer(&table, room, scratch);
+            assert_eq!(answer, (12, 0, 0, 0), "{room} {scratch}");
+        }
     }
     for scratch in [0, 7] {
-        for room in [0, 3, 6, 7] {
+        for room in [0, 3, 7, 8] {
             let answer = answer(&table, room, scratch);
             assert_eq!(answer, (11, 0, 0, 0), "{room} {scratch}");
         }
@@ -154,15 +161,15 @@ fn skips(rows: usize) -> Vec<i32> {
 fn the_scratch_of_the_longest_table() {
     let table = skips(2_048);
     assert_eq!(table.len(), 8_192);
-    assert_eq!(answer(&table, 7, 4_096), (0, 0, 1, 7));
-    assert_eq!(answer(&table, 6, 4_096), (12, 0, 0, 0));
-    for room in [0, 6, 7, 16_384] {
+    assert_eq!(answer(&table, 8, 4_096), (0, 0, 1, 8));
+    assert_eq!(answer(&table, 7, 4_096), (12, 0, 0, 0));
+    for room in [0, 7, 8, 16_384] {
         assert_eq!(answer(&table, room, 4_095), (11, 0, 0, 0), "{room}");
     }
+    assert_eq!(answer(&table, 8, 16), (11, 0, 0, 0));
     assert_eq!(answer(&table, 7, 14), (11, 0, 0, 0));
-    assert_eq!(answer(&table, 6, 12), (11, 0, 0, 0));
     let output = String::from_utf8(program_output(&bytes(&table))).unwrap();
-    assert_eq!(output, "planned 1 7\nmain 2047 25 16 16\n");
+    assert_eq!(output, "planned 1 8\nmain 2047 25 16 16\n");
 }
 
 #[test]
@@ -313,7 +320,7 @@ fn only_the_very_variable_is_replaced() {
     let list = &outcome.list[..outcome.words];
     assert_eq!(
         list,
-        [25, 16, 23, 20, 2, 0, 2, 1_023, 21, 2, 255, 2, 512, 4, 10, 13, 1]
+        [25, 16, 23, 20, 2, 0, 2, 1_023, 21, 2, 255, 2, 512, 4, 10, 13, 0, -1]
     );
 }
 
@@ -393,7 +400,7 @@ fn substitution_is_all_at_once() {
     ]);
     let outcome = generate(&table, 100, 1_000);
     let list = &outcome.list[..outcome.words];
-    assert_eq!(list, [25, 16, 20, 3, 2, 0, 1, 1, 2, 1, 4, 8, 10, 1]);
+    assert_eq!(list, [25, 16, 20, 3, 2, 0, 1, 1, 2, 1, 4, 8, 10, 0, -1]);
 }
 
 /// Wrong turn 3: "Bounding the passes by v. With guard 0 ≤ x, variant x and
@@ -481,12 +488,13 @@ fn a_false_assertion_fails_the_run() {
 
 #[test]
 fn reading_the_list_of_example_a() {
-    let outcome = generate(&words(&EXAMPLE_A), 94, 282);
+    let outcome = generate(&words(&EXAMPLE_A), 98, 282);
     let list = &outcome.list;
     let first = Line {
         number: 0,
         kind: 1,
         row: 15,
+        depth: 0,
         start: 0,
         end: 18,
     };
@@ -494,8 +502,9 @@ fn reading_the_list_of_example_a() {
         number: 0,
         kind: 4,
         row: 19,
-        start: 79,
-        end: 90,
+        depth: 0,
+        start: 82,
+        end: 93,
     };
     assert_eq!(line_at(list, 0), first);
     assert_eq!(line_at(list, 3), main);
@@ -503,6 +512,7 @@ fn reading_the_list_of_example_a() {
         number: 21,
         kind: 0,
         row: 0,
+        depth: 0,
         start: 0,
         end: 0,
     };
@@ -524,6 +534,7 @@ fn torn_lists() {
         number: 20,
         kind: 0,
         row: 0,
+        depth: 0,
         start: 0,
         end: 0,
     };
@@ -596,7 +607,7 @@ fn doubling(count: usize) -> Vec<i32> {
 #[test]
 fn exponentially_long_lists_are_refused_at_once() {
     assert_eq!(answer(&doubling(400), 16_384, 2 * 16_384), (12, 0, 0, 0));
-    let length = 2 + 1 + (3 * (1 << 12) - 1) + 2 + 4;
+    let length = 2 + 1 + (3 * (1 << 12) - 1) + 2 + 5;
     assert_eq!(answer(&doubling(12), 16_384, 2 * 16_384), (0, 0, 1, length));
     assert_eq!(need(&doubling(13)).unwrap().words, None);
 }

@@ -34,6 +34,7 @@ impl Report<'_> {
         let condition = Json::object([
             ("name", Json::text(finding.kind.name())),
             ("row", Json::number(finding.row)),
+            ("depth", Json::number(finding.depth)),
             ("line", Json::number(self.source.line(finding.row))),
             ("verdict", Json::text(verdict_word(&finding.verdict))),
             (

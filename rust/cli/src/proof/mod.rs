@@ -36,6 +36,7 @@ pub struct Proof {
 pub struct Finding {
     pub kind: ConditionKind,
     pub row: usize,
+    pub depth: usize,
     pub verdict: Verdict,
     pub replies: Vec<Replied>,
 }
@@ -136,11 +137,11 @@ fn opposite_of_premise(condition: Condition) -> Option<Plan> {
     let (premise, _) = condition.formula.implication()?;
     let not = 22;
     let mut list = [&[not], premise.words()].concat();
-    let length = list.len();
-    let trailer = [condition.kind as usize, condition.row, length];
+    let (kind, length) = (condition.kind as usize, list.len());
+    let trailer = [kind, condition.row, length, condition.depth];
     list.extend(trailer.map(|word| word as i32));
-    let count = 1;
-    list.push(count);
+    let minus_count = -1;
+    list.push(minus_count);
     Some(Plan::read(list).expect("a premise is a formula"))
 }
 
@@ -194,12 +195,12 @@ impl<E> Settled<'_, E> {
 
 impl Finding {
     fn of(query: &Query, wording: Wording, replies: Vec<Replied>) -> Finding {
-        let Condition { kind, row, .. } = query.condition();
-        let verdict = Verdict::of(&query.evaluators(), wording, &replies);
+        let condition = query.condition();
         Finding {
-            kind,
-            row,
-            verdict,
+            kind: condition.kind,
+            row: condition.row,
+            depth: condition.depth,
+            verdict: Verdict::of(&query.evaluators(), wording, &replies),
             replies,
         }
     }
@@ -217,7 +218,7 @@ mod tests {
     /// Two conditions, `true` and `v0 < 5`.
     #[test]
     fn what_nobody_is_asked_is_not_proved() {
-        let list = vec![16, 1, 7, 1, 18, 2, 0, 1, 5, 4, 9, 5, 2];
+        let list = vec![16, 1, 7, 1, 0, 18, 2, 0, 1, 5, 4, 9, 5, 0, -2];
         let shortened = Shortened::of(Plan::read(list).unwrap());
         let watch: &mut dyn FnMut(Progress) -> Result<(), ()> = &mut |_| Err(());
         let proof = Proof::of(&shortened, Wording::Own, &[], Duration::MAX, watch).unwrap();
@@ -235,12 +236,12 @@ mod tests {
     #[test]
     fn only_main_and_floor_have_premises_that_are_asked() {
         let opposite = |kind| {
-            let list = vec![25, 19, 1, 0, 2, 0, 16, kind, 9, 7, 1];
+            let list = vec![25, 19, 1, 0, 2, 0, 16, kind, 9, 7, 3, -1];
             let plan = Plan::read(list).unwrap();
             let condition = plan.conditions().next().unwrap();
             opposite_of_premise(condition).map(|opposite| opposite.words().to_vec())
         };
-        let with_kind = |kind| Some(vec![22, 19, 1, 0, 2, 0, kind, 9, 6, 1]);
+        let with_kind = |kind| Some(vec![22, 19, 1, 0, 2, 0, kind, 9, 6, 3, -1]);
         assert_eq!([2, 4].map(opposite), [2, 4].map(with_kind));
         assert_eq!([1, 3, 5].map(opposite), [None, None, None]);
     }

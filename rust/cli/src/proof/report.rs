@@ -290,6 +290,7 @@ mod tests {
             vec![Finding {
                 kind: ConditionKind::Main,
                 row: 3,
+                depth: 0,
                 verdict: Verdict::Contradiction(contradiction),
                 replies: Vec::new(),
             }]

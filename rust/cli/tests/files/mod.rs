@@ -55,6 +55,15 @@ pub fn expected_short(file: &Path) -> Option<String> {
     stored.exists().then(|| text(&stored))
 }
 
+/// What the command is to print of an example with `--by-depth`, where that is stored.
+pub fn expected_by_depth(file: &Path) -> Option<String> {
+    let stored = match file.extension().and_then(|extension| extension.to_str()) {
+        Some("rows") => file.with_extension("by-depth.expected"),
+        _ => file.with_extension("script.by-depth.expected"),
+    };
+    stored.exists().then(|| text(&stored))
+}
+
 /// What `mend` is to print of an example of rows, where that is stored.
 pub fn expected_mended(file: &Path) -> Option<String> {
     let stored = file.with_extension("mend.expected");

@@ -17,6 +17,7 @@ fn line(found: entries::Line) -> Line {
         number: found.number as u8,
         kind: found.kind as i32,
         row: found.row as i32,
+        depth: found.depth as i32,
         start: found.start,
         end: found.end,
     }

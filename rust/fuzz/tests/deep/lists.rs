@@ -1,34 +1,45 @@
-//! Deep lists of 16,384 words, well-formed and torn.
+//! Deep lists of 16,384 words in both forms, well-formed and torn.
 
 use super::{Case, Input};
 
 const READ: usize = 0;
 const TORN: usize = 20;
 
-/// The words of a formula that is alone in the longest list.
-const WORDS: usize = 16_380;
+/// The words of the longest list.
+const WORDS: usize = 16_384;
+
+/// What stands behind the length of the only trailer: nothing or the depth, and the count.
+const FORMS: [(&str, &[i32]); 2] = [("", &[1]), (", with depths", &[7, -1])];
 
 pub fn cases() -> Vec<Case> {
     let case = |name: String, words, number| Case {
         name,
         input: Input::List { words, number },
     };
-    let whole = whole_formulas()
-        .map(|(name, formula)| case(format!("list of {name}"), list_of(&formula), READ));
-    let torn = TORN_WORDS.map(|(name, first, repeated)| {
-        let formula = repeat(first, repeated, WORDS);
-        case(format!("torn list {name}"), list_of(&formula), TORN)
-    });
+    let mut cases = Vec::new();
+    for (form, behind) in FORMS {
+        // The words of a formula that is alone in the list.
+        let words = WORDS - 3 - behind.len();
+        for (name, formula) in whole_formulas(words) {
+            let list = list_of(&formula, behind);
+            cases.push(case(format!("list of {name}{form}"), list, READ));
+        }
+        for (name, first, repeated) in TORN_WORDS {
+            let list = list_of(&repeat(first, repeated, words), behind);
+            cases.push(case(format!("torn list {name}{form}"), list, TORN));
+        }
+    }
     let bare = TORN_WORDS.map(|(name, first, repeated)| {
-        let words = repeat(first, repeated, WORDS + 4);
+        let words = repeat(first, repeated, WORDS);
         case(format!("words {name}"), words, TORN)
     });
-    whole.into_iter().chain(torn).chain(bare).collect()
+    cases.extend(bare);
+    cases
 }
 
 /// A list of one condition, main, with this formula.
-fn list_of(formula: &[i32]) -> Vec<i32> {
-    [formula, &[4, 0, formula.len() as i32, 1]].concat()
+fn list_of(formula: &[i32], behind: &[i32]) -> Vec<i32> {
+    [formula, &[4, 0, formula.len() as i32], behind].concat()
 }
 
 fn repeat(first: &[i32], repeated: &[i32], length: usize) -> Vec<i32> {
@@ -54,23 +65,23 @@ const TORN_WORDS: [TornWords; 12] = [
     ("20 10 16 10 16", &[20], &[10, 16]),
 ];
 
-/// Formulas of at most so many words that nest as deep as words allow; padded
-/// with nots in front.
-fn whole_formulas() -> [(&'static str, Vec<i32>); 26] {
+/// Formulas of so many words that nest as deep as words allow; padded with nots in
+/// front.
+fn whole_formulas(most: usize) -> [(&'static str, Vec<i32>); 26] {
     let zeros = |count: usize| [1, 0].repeat(count);
     let ones = |count: usize| [1, 1].repeat(count);
-    let (sums, twos) = ((WORDS - 5) / 3, (WORDS - 1) / 2);
-    let (by_comparison, of_a_side) = ((WORDS - 5) / 8, (WORDS - 5) / 4);
-    let (of_divs, of_nots) = ((WORDS - 5) / 11, (WORDS - 1) / 3);
+    let (sums, twos) = ((most - 5) / 3, (most - 1) / 2);
+    let (by_comparison, of_a_side) = ((most - 5) / 8, (most - 5) / 4);
+    let (of_divs, of_nots) = ((most - 5) / 11, (most - 1) / 3);
     let formulas = [
-        ("nots", [vec![22; WORDS - 1], vec![16]].concat()),
+        ("nots", [vec![22; most - 1], vec![16]].concat()),
         ("ands leaning left", left(23, twos)),
         ("ands leaning right", right(23, twos)),
         ("ors leaning left", left(24, twos)),
         ("ors leaning right", right(24, twos)),
         ("implications leaning left", left(25, twos)),
         ("implications leaning right", right(25, twos)),
-        ("negates", [vec![20], vec![8; WORDS - 5], zeros(2)].concat()),
+        ("negates", [vec![20], vec![8; most - 5], zeros(2)].concat()),
         (
             "pluses leaning left",
             [vec![20], vec![3; sums], zeros(sums + 2)].concat(),
@@ -155,7 +166,7 @@ fn whole_formulas() -> [(&'static str, Vec<i32>); 26] {
         ),
     ];
     formulas.map(|(name, formula)| {
-        let padding = vec![22; WORDS - formula.len()];
+        let padding = vec![22; most - formula.len()];
         (name, [padding, formula].concat())
     })
 }

@@ -85,6 +85,7 @@ impl Digest {
         self.add_words(origins);
     }
 
+    /// A line of a list from before P9 has the depth 0, which is not in the digest.
     pub fn add_line(&mut self, line: entries::Line) {
         *self.numbers.entry(line.number).or_default() += 1;
         for part in [line.number, line.kind, line.row, line.start, line.end] {
@@ -117,6 +118,39 @@ pub fn expect(name: &str, recorded: u64, digest: Digest) {
         hash, recorded,
         "{name}: {hash:#018x} in place of {recorded:#018x}"
     );
+}
+
+/// A list of P9's form as it was written before: without the fourth words of its
+/// trailers, and with the count at its end.
+pub fn without_depths(list: &[i32]) -> Vec<i32> {
+    let (count, mut lines) = list.split_last().expect("a count");
+    let mut old = vec![-count];
+    while let [front @ .., kind, row, length, _depth] = lines {
+        let (before, formula) = front.split_at(front.len() - *length as usize);
+        old.extend([length, row, kind]);
+        old.extend(formula.iter().rev());
+        lines = before;
+    }
+    old.reverse();
+    old
+}
+
+/// Whether P9 may have changed the answers of what reads these words: such a last one
+/// told nothing before, and since P9 it tells another form.
+pub fn ends_in_a_negative_word(words: &[i32]) -> bool {
+    words.last().is_some_and(|&last| last < 0)
+}
+
+/// How many conditions the last word tells. Of words that are no list since P9 either, a
+/// negative one stays as it is.
+pub fn count_told(words: &[i32]) -> i32 {
+    let last = words.last().copied().unwrap_or(0);
+    let is_whole = entries::first_place(words) + 1 == words.len();
+    if is_whole {
+        last.saturating_abs()
+    } else {
+        last
+    }
 }
 
 /// What stands in a buffer before a call.

@@ -4,6 +4,7 @@
 
 #![allow(dead_code)] // each file of recorded answers uses a part of it
 
+pub mod depths;
 pub mod divisions;
 pub mod formulas;
 pub mod limits;

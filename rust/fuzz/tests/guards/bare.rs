@@ -45,6 +45,7 @@ extern "C" {
         number: Number,
         kind: Number,
         row: Number,
+        depth: Number,
         start: Number,
         end: Number,
     );
@@ -56,6 +57,7 @@ extern "C" {
         number: Number,
         kind: Number,
         row: Number,
+        depth: Number,
         start: Number,
         end: Number,
     );
@@ -249,13 +251,13 @@ impl Bare {
         self.told()
     }
 
-    /// Number, kind, row, start and end.
-    pub fn line(&mut self, index: i32) -> [usize; 5] {
+    /// Number, kind, row, depth, start and end.
+    pub fn line(&mut self, index: i32) -> [usize; 6] {
         let edges = self.edges();
-        let [number, kind, row, start, end] = self.lend(None, edges[1]);
+        let [number, kind, row, depth, start, end] = self.lend(None, edges[1]);
         let (words, length) = self.words();
         // SAFETY: as in `check`.
-        unsafe { leqwarti_line(words, length, index, number, kind, row, start, end) };
+        unsafe { leqwarti_line(words, length, index, number, kind, row, depth, start, end) };
         self.told()
     }
 
@@ -269,13 +271,13 @@ impl Bare {
         place
     }
 
-    /// The next place, then number, kind, row, start and end.
-    pub fn step(&mut self, place: usize) -> [usize; 6] {
+    /// The next place, then number, kind, row, depth, start and end.
+    pub fn step(&mut self, place: usize) -> [usize; 7] {
         let edges = self.edges();
-        let [place, number, kind, row, start, end] = self.lend(Some(place), edges[1]);
+        let [place, number, kind, row, depth, start, end] = self.lend(Some(place), edges[1]);
         let (words, length) = self.words();
         // SAFETY: as in `check`.
-        unsafe { leqwarti_step(words, length, place, number, kind, row, start, end) };
+        unsafe { leqwarti_step(words, length, place, number, kind, row, depth, start, end) };
         self.told()
     }
 

@@ -3,7 +3,7 @@
 use std::collections::BTreeMap;
 
 use fuzz::Input;
-use reference::{is_whole_formula, line_at, lines, Line, Side, Verdict};
+use reference::{is_whole_formula, line_at, lines, Form, Line, Side, Verdict};
 
 use crate::bare::Bare;
 
@@ -64,9 +64,11 @@ fn text_of_table(words: &[i32], list_len: usize, scratch_len: usize) -> String {
     input.text()
 }
 
-fn line_numbers(line: Line) -> [usize; 5] {
-    let (kind, row) = (line.kind as usize, line.row as usize);
-    [usize::from(line.number), kind, row, line.start, line.end]
+fn line_numbers(line: Line) -> [usize; 6] {
+    let told = [line.kind, line.row, line.depth].map(|word| word as usize);
+    let [kind, row, depth] = told;
+    let number = usize::from(line.number);
+    [number, kind, row, depth, line.start, line.end]
 }
 
 pub fn read_line(bare: &mut Bare, list: &[i32], index: i32) -> usize {
@@ -85,28 +87,38 @@ fn text_of_list(list: &[i32]) -> String {
 
 /// What a reader that stands at any place answers: 21 at the front, the line that ends there, or 20;
 /// and where it stands then.
-fn step_at(list: &[i32], place: usize) -> [usize; 6] {
+fn step_at(list: &[i32], place: usize) -> [usize; 7] {
     if place == 0 {
-        return [0, 21, 0, 0, 0, 0];
+        return [0, 21, 0, 0, 0, 0, 0];
     }
     match line_ending_at(list, place) {
-        Some([kind, row, start, end]) => [start, 0, kind, row, start, end],
-        None => [place, 20, 0, 0, 0, 0],
+        Some([kind, row, depth, start, end]) => [start, 0, kind, row, depth, start, end],
+        None => [place, 20, 0, 0, 0, 0, 0],
     }
 }
 
-fn line_ending_at(list: &[i32], place: usize) -> Option<[usize; 4]> {
+/// The last word of the whole list tells the form, wherever the line ends.
+fn line_ending_at(list: &[i32], place: usize) -> Option<[usize; 5]> {
     let words = list.get(..place)?;
+    let (words, depth) = match Form::of(list) {
+        Some(Form::WithDepth) => {
+            let (depth, words) = words.split_last()?;
+            (words, *depth)
+        }
+        _ => (words, 0),
+    };
     let (formula, trailer) = words.split_last_chunk::<3>()?;
     let [kind, row, length] = trailer.map(|word| usize::try_from(word).ok());
     let (kind, row, length) = (kind?, row?, length?);
+    let depth = usize::try_from(depth).ok()?;
     let start = formula.len().checked_sub(length)?;
-    let is_line = (1..=5).contains(&kind) && row < 2_048 && is_whole_formula(&formula[start..]);
-    is_line.then_some([kind, row, start, formula.len()])
+    let is_in_range = (1..=5).contains(&kind) && row < 2_048 && depth < 8;
+    let is_line = is_in_range && is_whole_formula(&formula[start..]);
+    is_line.then_some([kind, row, depth, start, formula.len()])
 }
 
 /// A step over a list that is held.
-fn step(bare: &mut Bare, list: &[i32], place: usize) -> [usize; 6] {
+fn step(bare: &mut Bare, list: &[i32], place: usize) -> [usize; 7] {
     let found = bare.step(place);
     let expected = step_at(list, place);
     assert_eq!(found, expected, "step at {place}: {}", text_of_list(list));

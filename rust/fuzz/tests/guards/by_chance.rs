@@ -79,7 +79,7 @@ fn odd_texts() {
 /// The inputs of the other tests, in guarded buffers.
 #[test]
 fn usual_inputs() {
-    let (seed, cases) = (seed_from_environment(), cases_from_environment(8_000));
+    let (seed, cases) = (seed_from_environment(), cases_from_environment(10_000));
     let (mut bare, mut numbers) = (Bare::new(), Numbers::new());
     for case in 0..cases {
         let random = &mut Prng::for_case(seed ^ 4, case);
@@ -88,6 +88,7 @@ fn usual_inputs() {
             Input::any_dividing,
             Input::any_lent,
             Input::any_shortening,
+            Input::any_form,
             Input::any_mend,
         ]);
         let number = match making(random) {

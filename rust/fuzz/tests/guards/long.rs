@@ -10,7 +10,10 @@ const PAST: usize = 1 << 32;
 /// `pre true; skip; post true`
 const SKIP: [i32; 16] = [16, 0, 0, 0, 32, 0, 0, 0, 16, 0, 0, 0, 48, 0, 1, 2];
 
-const LIST: [i32; 7] = [25, 16, 16, 4, 3, 3, 1];
+const LIST: [i32; 8] = [25, 16, 16, 4, 3, 3, 5, -1];
+
+/// The same from before P9.
+const OLD_LIST: [i32; 7] = [25, 16, 16, 4, 3, 3, 1];
 
 const TOO_LONG: Verdict = Verdict { number: 1, row: 0 };
 
@@ -46,7 +49,13 @@ fn records() {
 /// They are torn, being too long; a step reads the line that ends at its place all the same.
 #[test]
 fn lists() {
-    let list = Repeated::new(&LIST, 0, PAST + LIST.len());
+    expect_torn_but_for_steps(&LIST, 5);
+    expect_torn_but_for_steps(&OLD_LIST, 0);
+}
+
+/// Of a list with one condition of this depth.
+fn expect_torn_but_for_steps(short_list: &[i32], depth: usize) {
+    let list = Repeated::new(short_list, 0, PAST + short_list.len());
     let list = list.as_slice();
     let torn = Line {
         number: 20,
@@ -75,10 +84,16 @@ fn lists() {
         number: 0,
         kind: 4,
         row: 3,
+        depth,
         start: PAST,
         end: PAST + 3,
     };
-    let steps = [(PAST + 6, main), (PAST, torn), (2 * PAST + 6, torn)];
+    let behind = short_list.len() - 1;
+    let steps = [
+        (PAST + behind, main),
+        (PAST, torn),
+        (2 * PAST + behind, torn),
+    ];
     for (place, expected) in steps {
         let mut moved = place;
         assert_eq!(entries::step(list, &mut moved), expected);

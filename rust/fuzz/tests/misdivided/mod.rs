@@ -5,6 +5,7 @@
 mod divisors;
 mod weakest;
 
+use fuzz::mutate::trailers;
 use fuzz::{Answer, Reference, Subject, Written};
 use reference::{list_words, script_of, Condition, Line, Verdict};
 
@@ -67,13 +68,10 @@ fn has_kind(list: &[i32], kind: i32) -> bool {
 /// lengths tell where they stand.
 fn sixes_as_guards(list: &[i32]) -> Vec<i32> {
     let mut words = list.to_vec();
-    let mut end = words.len().saturating_sub(1);
-    while end >= 4 {
-        if words[end - 3] == 6 {
-            words[end - 3] = GUARD;
+    for trailer in trailers(list) {
+        if words[trailer] == 6 {
+            words[trailer] = GUARD;
         }
-        let length = usize::try_from(words[end - 1]).unwrap_or(end);
-        end = end.saturating_sub(length.saturating_add(3));
     }
     words
 }
@@ -82,6 +80,7 @@ const TORN: Line = Line {
     number: 20,
     kind: 0,
     row: 0,
+    depth: 0,
     start: 0,
     end: 0,
 };

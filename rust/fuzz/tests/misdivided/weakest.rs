@@ -11,6 +11,7 @@ pub fn faulty_conditions(script: &Script, fault: DivisionFault) -> Vec<Condition
     let mut walk = Walk {
         fault,
         script: script.row,
+        depth: 0,
         conditions: Vec::new(),
     };
     let mut after = script.postcondition.clone();
@@ -26,6 +27,8 @@ pub fn faulty_conditions(script: &Script, fault: DivisionFault) -> Vec<Condition
 struct Walk {
     fault: DivisionFault,
     script: Row,
+    /// How many loops have what is walked in their bodies.
+    depth: usize,
     conditions: Vec<Condition>,
 }
 
@@ -50,7 +53,13 @@ impl Walk {
     }
 
     fn list(&mut self, kind: ConditionKind, row: Row, formula: Formula) {
-        self.conditions.push(Condition { kind, row, formula });
+        let depth = self.depth;
+        self.conditions.push(Condition {
+            kind,
+            row,
+            depth,
+            formula,
+        });
     }
 
     fn joined(&self, divisors: Option<Formula>, old: Formula) -> Formula {
@@ -170,7 +179,9 @@ impl Walk {
         let variant = || the_loop.variant.clone();
         let mark = || Expression::Mark(the_loop.row);
         let less = compare(Comparison::Less, variant(), mark());
+        self.depth += 1;
         let before = self.before(&the_loop.body, and(invariant.clone(), less));
+        self.depth -= 1;
         let begun = compare(Comparison::Equal, variant(), mark());
         let step = implies(and(entered, begun), before);
         self.list(ConditionKind::Step, the_loop.row, step);

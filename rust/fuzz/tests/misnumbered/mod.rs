@@ -3,6 +3,7 @@
 
 use std::fmt;
 
+use fuzz::mutate::trailers;
 use fuzz::{Answer, Reference, Subject, Written};
 use reference::{check, conditions, list_words, script_of, Line, TooLong, Verdict, LONGEST_LIST};
 
@@ -132,14 +133,12 @@ impl Misnumbered {
     /// The words of a list, as far as its trailers tell where formulas stand.
     fn list(&self, list: &[i32]) -> Vec<i32> {
         let mut words = list.to_vec();
-        let mut rest = words.len().saturating_sub(1);
-        while let Some(end) = rest.checked_sub(3) {
+        for end in trailers(list) {
             let length = usize::try_from(words[end + 2]);
             let Some(start) = length.ok().and_then(|length| end.checked_sub(length)) else {
                 break;
             };
             self.formula(&mut words[start..end]);
-            rest = start;
         }
         words
     }

@@ -6,7 +6,7 @@ mod rules;
 mod shortening;
 
 use fuzz::{Answer, Reference, Subject, Written};
-use reference::{lines, Line, ShorterPart, Verdict, LONGEST_LIST};
+use reference::{lines, Form, Line, ShorterPart, Verdict, LONGEST_LIST};
 
 use choice::Choice;
 use rules::{faulty_rules, RuleFault, RULES};
@@ -108,10 +108,15 @@ impl Misshortened {
     /// The words of the new list; nothing for a torn one.
     fn words(&self, list: &[i32]) -> Option<Vec<i32>> {
         let conditions = self.conditions(list)?;
-        let old = lines(list)?;
+        let (old, form) = (lines(list)?, Form::of(list)?);
         let mut words = Vec::new();
         for (condition, old) in conditions.iter().zip(&old) {
-            let Condition { formula, kind, row } = condition;
+            let Condition {
+                formula,
+                kind,
+                row,
+                depth,
+            } = condition;
             let length = formula.len() as i32;
             let (old_length, as_main) = ((old.end - old.start) as i32, (*kind).min(4));
             words.extend(formula);
@@ -124,11 +129,14 @@ impl Misshortened {
                 GuardsAsMain => [as_main, *row, length],
                 _ => [*kind, *row, length],
             });
+            if form == Form::WithDepth {
+                words.push(*depth);
+            }
         }
         match self.0 {
             CountLost => (),
-            CountOfTheWords => words.push(words.len() as i32 + 1),
-            _ => words.push(conditions.len() as i32),
+            CountOfTheWords => words.push(form.last_word(words.len() + 1)),
+            _ => words.push(form.last_word(conditions.len())),
         }
         Some(words)
     }

@@ -125,12 +125,13 @@ fn length_of_first(words: &[i32]) -> usize {
     length
 }
 
-/// A line of a list: its formula, its kind and its row.
+/// A line of a list: its formula, its kind, its row and its depth.
 #[derive(Clone)]
 pub struct Condition {
     pub formula: Vec<i32>,
     pub kind: i32,
     pub row: i32,
+    pub depth: i32,
 }
 
 impl Condition {
@@ -139,6 +140,7 @@ impl Condition {
             formula: list[line.start..line.end].to_vec(),
             kind: line.kind,
             row: line.row,
+            depth: line.depth,
         }
     }
 }

@@ -11,7 +11,7 @@ use leqwarti::{scratch_words, Plan};
 /// A row as the document writes it: kind, first, second, third.
 pub type Row = [i32; 4];
 
-/// Example A: 4 conditions, 94 words.
+/// Example A: 4 conditions, 98 words.
 pub const EXAMPLE_A: [Row; 20] = [
     [1, 0, 0, 0],
     [2, 0, 0, 0],
@@ -35,16 +35,25 @@ pub const EXAMPLE_A: [Row; 20] = [
     [48, 2, 15, 18], // 19: the script
 ];
 
-/// Its list: exit at 0 to 18, floor at 21 to 38, step at 41 to 76, main at 79
-/// to 90, each before its trailer.
+/// Its list: exit at 0 to 18, floor at 22 to 39, step at 43 to 78, main at 82
+/// to 93, each before its trailer.
 pub const EXAMPLE_A_LIST: &str = "
+    25 23 19 1 0 2 0 22 18 1 0 2 0 20 2 0 1 0 1 15 18 0,
+    25 23 19 1 0 2 0 18 1 0 2 0 19 1 0 2 0 2 15 17 0,
+    25 23 23 19 1 0 2 0 18 1 0 2 0 20 2 0 9 15 23 19 1 0 4 2 0 1 1 18 4 2 0 1 1 9 15 3 15 35 0,
+    25 19 1 0 2 0 19 1 0 2 0 4 19 11 0,
+    -4";
+
+/// The same list as it was before P9, 94 words: exit at 0 to 18, floor at 21 to 38,
+/// step at 41 to 76, main at 79 to 90.
+pub const EXAMPLE_A_OLD_LIST: &str = "
     25 23 19 1 0 2 0 22 18 1 0 2 0 20 2 0 1 0 1 15 18,
     25 23 19 1 0 2 0 18 1 0 2 0 19 1 0 2 0 2 15 17,
     25 23 23 19 1 0 2 0 18 1 0 2 0 20 2 0 9 15 23 19 1 0 4 2 0 1 1 18 4 2 0 1 1 9 15 3 15 35,
     25 19 1 0 2 0 19 1 0 2 0 4 19 11,
     4";
 
-/// The script of four rows in the document's trial rows: 1 condition, 7 words.
+/// The script of four rows in the document's trial rows: 1 condition, 8 words.
 pub const FOUR_ROWS: [Row; 4] = [[16, 0, 0, 0], [32, 0, 0, 0], [16, 0, 0, 0], [48, 0, 1, 2]];
 
 /// A row of every kind: a loop in a branch of a loop, with assertions, both
@@ -145,7 +154,7 @@ pub fn sum_of_all_variables_list() -> Vec<i32> {
     list.remove(list.len() - 3);
     let length = list.len() as i32;
     let script = sum_of_all_variables().len() as i32 - 1;
-    list.extend([4, script, length, 1]);
+    list.extend([4, script, length, 0, -1]);
     list
 }
 
@@ -224,11 +233,14 @@ impl Script {
         }
     }
 
-    /// The precondition not true, and skip.
-    pub fn skip_after_not() -> Script {
+    /// That many times not of true as the precondition, and skip.
+    pub fn skip_after(nots: i32) -> Script {
+        let mut rows = vec![[16, 0, 0, 0]];
+        rows.extend((0..nots).map(|below| [22, below, 0, 0]));
+        rows.push([32, 0, 0, 0]);
         Script {
-            precondition: 1,
-            rows: vec![[16, 0, 0, 0], [22, 0, 0, 0], [32, 0, 0, 0]],
+            precondition: nots,
+            rows,
         }
     }
 
@@ -326,8 +338,7 @@ pub fn expect(name: &str, table: &[i32], room: usize, scratch: usize, wanted: An
 /// The whole list, word for word: with room and scratch to spare, with as much as
 /// it needs, and refused with one word less of either.
 pub fn expect_words(name: &str, table: &[i32], words: &[i32]) {
-    let conditions = *words.last().expect("a count") as usize;
-    let wanted = planned(conditions, words.len());
+    let wanted = planned(counted(words), words.len());
     let (room, scratch) = (words.len(), scratch_words(table.len() / 4));
     for more in [100, 0] {
         let written = expect(name, table, room + more, scratch + more, wanted);
@@ -335,6 +346,70 @@ pub fn expect_words(name: &str, table: &[i32], words: &[i32]) {
     }
     expect(name, table, room - 1, scratch, refused(12, 0));
     expect(name, table, room, scratch - 1, refused(11, 0));
+}
+
+/// How many conditions a list says that it has.
+pub fn counted(list: &[i32]) -> usize {
+    list.last().expect("a count").unsigned_abs() as usize
+}
+
+/// A list of P9's form as it was written before P9: the fourth words of its trailers
+/// are left out, and it ends in the count.
+pub fn without_depths(list: &[i32]) -> Vec<i32> {
+    let (count, mut lines) = list.split_last().expect("a count");
+    assert!(*count < 0, "no depths in {list:?}");
+    let mut old = vec![-count];
+    while let [front @ .., kind, row, length, _depth] = lines {
+        let (before, formula) = front.split_at(front.len() - *length as usize);
+        old.extend([length, row, kind]);
+        old.extend(formula.iter().rev());
+        lines = before;
+    }
+    old.reverse();
+    old
+}
+
+/// The other way: a list from before P9 with these depths.
+pub fn with_depths(old: &[i32], depths: &[i32]) -> Vec<i32> {
+    let (count, mut lines) = old.split_last().expect("a count");
+    assert_eq!(*count as usize, depths.len(), "as many depths: {old:?}");
+    let mut list = vec![-count];
+    for depth in depths.iter().rev() {
+        let [front @ .., kind, row, length] = lines else {
+            panic!("no trailer: {old:?}");
+        };
+        let (before, formula) = front.split_at(front.len() - *length as usize);
+        list.extend([depth, length, row, kind]);
+        list.extend(formula.iter().rev());
+        lines = before;
+    }
+    list.reverse();
+    list
+}
+
+/// An answer that was recorded before P9, when a trailer had no fourth word: the list
+/// has a word more for each condition now, and 12 where it does not fit any more.
+pub fn since_p9(recorded: Answer, room: usize) -> Answer {
+    let words = recorded.words + recorded.conditions;
+    if words > room {
+        return refused(12, 0);
+    }
+    Answer { words, ..recorded }
+}
+
+/// A case that was recorded before P9, given to what expects an answer and gives the
+/// words of the list: put into the form from before, they are the recorded ones.
+pub fn expect_recorded_before_p9(
+    case: &str,
+    written: impl Fn(&[i32], usize, usize, Answer) -> Vec<i32>,
+) {
+    let [table, room, scratch, recorded, list] = parts(case, "|");
+    let room = number(room);
+    let wanted = since_p9(answer(recorded), room);
+    let written = written(&numbers(table), room, number(scratch), wanted);
+    if wanted.number == 0 {
+        assert_eq!(without_depths(&written), numbers(list), "{case}");
+    }
 }
 
 pub fn expect_list(name: &str, rows: &[Row], list: &str) {

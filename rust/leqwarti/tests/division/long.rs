@@ -23,7 +23,7 @@ fn expect_chain(name: &str, table: Vec<i32>, divisors: Vec<i32>) {
     let and = if divisors.is_empty() { &[][..] } else { &[23] };
     let formula = [&[25, 16], and, &divisors, &[16]].concat();
     let length = formula.len() as i32;
-    let list = [formula, vec![4, script, length, 1]].concat();
+    let list = [formula, vec![4, script, length, 0, -1]].concat();
     expect_words(name, &table, &list);
 }
 

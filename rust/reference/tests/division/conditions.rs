@@ -13,7 +13,8 @@ fn random_code_without_divisions_keeps_its_list() {
         let text = Texts::new(seed, divisions, true).script(seed as usize % 3);
         let script = script(&text);
         if let Ok(conditions) = conditions(&script, LONGEST_LIST) {
-            assert_eq!(list_words(&conditions), old_list(&script), "{text}");
+            let list = list_words_in(&conditions, Form::WithoutDepth);
+            assert_eq!(list, old_list(&script), "{text}");
             listed += 1;
         }
     }
@@ -65,7 +66,8 @@ fn random_code_gets_a_longer_list_exactly_where_it_divides() {
         let Ok(conditions) = conditions(&script, LONGEST_LIST) else {
             continue;
         };
-        let (new, old) = (list_words(&conditions), old_list(&script));
+        let new = list_words_in(&conditions, Form::WithoutDepth);
+        let old = old_list(&script);
         let guards = conditions
             .iter()
             .filter(|one| one.kind == ConditionKind::Guard);
@@ -152,7 +154,7 @@ const DIVIDING_LOOP: &str =
     "pre true; while 1 div v1 = 1 keep v0 = 1 fall 0 do skip end; post true";
 
 const DIVIDING_LOOP_OUTPUT: &str = "\
-planned 5 103
+planned 5 108
 guard 12 25 20 2 0 1 1 21 2 1 1 0
 exit 12 25 23 20 2 0 1 1 22 20 6 1 1 2 1 1 1 16
 floor 12 25 23 20 2 0 1 1 20 6 1 1 2 1 1 1 19 1 0 1 0
@@ -173,16 +175,16 @@ fn the_room_of_a_dividing_loop() {
     let words = table(DIVIDING_LOOP);
     let needed = Need {
         scratch: 30,
-        words: Some(103),
+        words: Some(108),
     };
     assert_eq!(need(&words), Some(needed));
-    let planned = generate(&words, 103, 30);
+    let planned = generate(&words, 108, 30);
     assert_eq!(
         (planned.number, planned.conditions, planned.words),
-        (0, 5, 103)
+        (0, 5, 108)
     );
-    assert_eq!(generate(&words, 102, 30).number, 12);
-    assert_eq!(generate(&words, 103, 29).number, 11);
+    assert_eq!(generate(&words, 107, 30).number, 12);
+    assert_eq!(generate(&words, 108, 29).number, 11);
 }
 
 #[test]
@@ -269,6 +271,7 @@ fn the_list_reader_takes_kinds_1_to_5() {
             number: 0,
             kind,
             row: 3,
+            depth: 0,
             start: 0,
             end: 3,
         };
@@ -290,6 +293,7 @@ fn reading_the_list_of_a_dividing_loop() {
         number: 0,
         kind: 5,
         row: 12,
+        depth: 0,
         start: 0,
         end: 11,
     };

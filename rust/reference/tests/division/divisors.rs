@@ -218,9 +218,9 @@ fn divisors_grow_with_the_square_of_the_divisions() {
         assert_eq!(divisors.len(), length(count), "{count}");
     }
     let statement = |count| format!("pre true; v0 := {}; post true", divisor_in_divisor(count));
-    // `25 16 23 D 16`, its trailer and the count.
+    // `25 16 23 D 16`, its trailer and the last word.
     let words = |count| need(&table(&statement(count))).unwrap().words;
-    assert_eq!(words(50), Some(length(50) + 8));
+    assert_eq!(words(50), Some(length(50) + 9));
     assert_eq!(words(600), None);
     let deepest = table(&statement(1_000));
     assert_eq!(generate(&deepest, 16_384, 2 * 16_384).number, 12);

@@ -73,6 +73,12 @@ fn list(text: &str) -> Vec<i32> {
     list_words(&conditions(&script(text), LONGEST_LIST).unwrap())
 }
 
+/// The list of the script, in the form that lists had when P5 came.
+fn list_without_depth(text: &str) -> Vec<i32> {
+    let conditions = conditions(&script(text), LONGEST_LIST).unwrap();
+    list_words_in(&conditions, Form::WithoutDepth)
+}
+
 /// Kind and row of each condition.
 fn kinds_and_rows(text: &str) -> Vec<(i32, i32)> {
     let lines = lines(&list(text)).expect("a well-formed list");

@@ -168,5 +168,5 @@ fn annotations_that_divide_add_nothing() {
     let text = "pre 1 div v0 = 1; assert 1 div v1 = 1; \
                 while v0 < 1 keep 1 div v2 = 1 fall 1 mod v3 do assert v0 mod v0 = 1; v0 := 1 end; \
                 post 1 mod v4 = 1";
-    assert_eq!(list(text), old_list(&script(text)));
+    assert_eq!(list_without_depth(text), old_list(&script(text)));
 }
