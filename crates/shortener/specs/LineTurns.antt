@@ -5,16 +5,37 @@ use mathlib.Core.Path.{_≡_, refl, sym, ap, _∙_}
 use mathlib.Core.List.{List, [], _∷_, _++_, append-assoc}
 use native.Mathlib.Omega.{arith as linear}
 use lib.IntN.{ℤ, pos}
-use lib.ListN.{length, getD}
+use lib.ListN.{length, length-append, length-drop, getD}
 use Rattle.script.specs.Syntax.{Formula}
 use Rattle.script.specs.Conditions.{Condition}
-use Rattle.script.specs.Words.{formula-words, trailer, line-words, all-lines}
+use Rattle.script.specs.Words.{Form, without-depth, with-depth, formula-words, depth-words, trailer, line-words, all-lines, count-word}
+use Rattle.script.specs.Listing.{trailer-length, form-of}
 use Rattle.theorems.specs.Writing.{Wrote, fitted, stopped, then, wrote-as, wrote-length}
 use Rattle.theorems.specs.WordsAt.{Stands, stands-as, inside, word, past, front, behind, formula, node-inside}
 use Rattle.shortening.specs.Simplify.{order, shortenᶠ, shorten-condition, shorten-all}
 use Rattle.shortening.specs.Never.{never-longer}
+use Rattle.list_reader.specs.Lines.{Tail}
 use Rattle.shortener.specs.Turns.{Begins, Wrote-short}
-use Rattle.shortener.specs.Lines.{Trailing, Trailed, Listed, All-written, rest-words, Lines-left, Lining}
+use Rattle.shortener.specs.Lines.{Trailing, fourth, Trailed, Listed, All-written, rest-words, Lines-left, Lining}
+
+-- ---- a trailer that stands at a place
+
+trailer-size : (form : Form) (c : Condition) → length (trailer form c) ≡ trailer-length form
+trailer-size without-depth c = refl
+trailer-size with-depth c = refl
+
+module _ (ws : List ℤ) (at : ℕ) where
+  -- its fourth word is the depth
+  fourth-is : (form : Form) (d : ℕ) (us : List ℤ) → Stands ws (at + 3) (depth-words form d ++ us) → fourth form ws at ≡ depth-words form d
+  fourth-is without-depth d us s = refl
+  fourth-is with-depth d us s = ap (λ w. w ∷ []) (word s)
+
+  -- it ends where the others do, or before
+  trailer-ends : (form : Form) (c : Condition) (us : List ℤ) → Stands ws at (trailer form c ++ us) → at + trailer-length form ≤ length ws
+  trailer-ends form c us s =
+      let size = trailer-size form c in
+      let all = length-append (trailer form c) (us ++ s .rest) in
+      omega (linear, ap length (s .is), ap length (append-assoc (trailer form c) us (s .rest)), length-drop at ws)
 
 -- ---- the line that is next
 
@@ -24,23 +45,25 @@ pub record Line-next (ws : List ℤ) (count at left : ℕ) (rest : List Conditio
   pub is : rest ≡ line ∷ others
   pub many : length others ≡ left - 1
   pub claim : Stands ws at (formula-words (line .claim))
-  pub trailer-at : Stands ws (at + length (formula-words (line .claim))) (trailer line ++ rest-words count others)
+  pub trailer-at : Stands ws (at + length (formula-words (line .claim))) (trailer (form-of ws) line ++ rest-words (form-of ws) count others)
 
 module _ (ws : List ℤ) (count at left : ℕ) where
-  line-next : (rest : List Condition) → 0 < left → length rest ≡ left → Stands ws at (rest-words count rest) → Line-next ws count at left rest
+  line-next : (rest : List Condition) → 0 < left → length rest ≡ left → Stands ws at (rest-words (form-of ws) count rest)
+      → Line-next ws count at left rest
   unfolding all-lines line-words
   line-next [] h m s = absurd (omega (linear, m))
   line-next (c ∷ cs) h m s =
+      let form = form-of ws in
       let whole =
       stands-as
-      (append-assoc (formula-words (c .claim) ++ trailer c) (all-lines cs) (pos count ∷ [])
-      ∙ append-assoc (formula-words (c .claim)) (trailer c) (rest-words count cs)) s in
+      (append-assoc (formula-words (c .claim) ++ trailer form c) (all-lines form cs) (count-word form count ∷ [])
+      ∙ append-assoc (formula-words (c .claim)) (trailer form c) (rest-words form count cs)) s in
       record {
         line = c;
         others = cs;
         is = refl;
         many = omega (linear, m);
-        claim = front (trailer c ++ rest-words count cs) whole;
+        claim = front (trailer form c ++ rest-words form count cs) whole;
         trailer-at = behind (formula-words (c .claim)) whole;
       }
 
@@ -60,12 +83,11 @@ module _ {ws : List ℤ} {count : ℕ} {es ks₀ : List ℕ} {l₀ : List ℤ} {
   end-read = let i = node-inside (formula (next .line .claim)) (next .claim) in let r = t .ready .ended .room in omega linear
 
   trailer-stands : {cs : List Condition} (n : Line-next ws count at left cs)
-      → Stands ws (getD es at 0) (trailer (n .line) ++ rest-words count (n .others))
+      → Stands ws (getD es at 0) (trailer (form-of ws) (n .line) ++ rest-words (form-of ws) count (n .others))
   trailer-stands n = rw (end-is (n .line .claim) (n .claim)) (n .trailer-at)
 
-  -- the trailer's second and third word
-  pub trailer-inside : getD es at 0 + 2 < length ws
-  trailer-inside = let i = inside (past (past (trailer-stands next))) in omega linear
+  pub trailer-inside : getD es at 0 + trailer-length (form-of ws) ≤ length ws
+  trailer-inside = trailer-ends ws (getD es at 0) (form-of ws) (next .line) _ (trailer-stands next)
 
   pub begins : Begins ws at (getD es at 0) es ks
   begins = record {
@@ -89,18 +111,19 @@ module _ {ws : List ℤ} {count : ℕ} {es ks₀ : List ℕ} {l₀ : List ℤ} {
     spanned : {vs : List ℤ} → length vs ≤ 16384 → Wrote l p vs q l′ → q ≤ length l′ → (p ≤ q) × (q - p ≤ 16384)
     spanned m w i = let e = placed w i in (omega (linear, e), omega (linear, e))
 
-    pub trailing : Trailing ws (getD es at 0) l′ p q
-    trailing =
+    pub trailing : {tail : ℕ} → Tail ws tail → Trailing ws tail (getD es at 0) l′ p q
+    trailing words =
         let f = next .line .claim in
         let e = end-is f (next .claim) in
         let j = trailer-inside in
         let m = never-longer order f in
         let z = t .ready .short in
-        record { inside = omega linear; spans = spanned (omega linear) (wrote-claim f (next .claim)) }
+        record { words = words; inside = rw (words .is) j; spans = spanned (omega linear) (wrote-claim f (next .claim)) }
 
-    module _ {l″ : List ℤ} {r : ℕ} (v : Trailed ws (getD es at 0) l′ p q r l″) where
+    module _ {l″ : List ℤ} {r tail : ℕ} (words : Tail ws tail) (v : Trailed ws (getD es at 0) l′ p q r l″) where
       -- the whole line
-      wrote-line : {cs : List Condition} (n : Line-next ws count at left cs) → Wrote l p (line-words (shorten-condition order (n .line))) r l″
+      wrote-line : {cs : List Condition} (n : Line-next ws count at left cs)
+          → Wrote l p (line-words (form-of ws) (shorten-condition order (n .line))) r l″
       unfolding line-words
       wrote-line n =
           let f = shortenᶠ order (n .line .claim) in
@@ -108,28 +131,30 @@ module _ {ws : List ℤ} {count : ℕ} {es ks₀ : List ℕ} {l₀ : List ℤ} {
           let s = trailer-stands n in
           let k = word s in
           let m = word (past s) in
-          then first (wrote-as (λ i. k i ∷ m i ∷ pos (length (formula-words f)) ∷ []) (v (length (formula-words f)) (placed first)))
+          let d = fourth-is ws (getD es at 0) (form-of ws) (n .line .depth) _ (behind (_ ∷ _ ∷ _ ∷ []) s) in
+          then first (wrote-as (λ i. k i ∷ m i ∷ pos (length (formula-words f)) ∷ d i) (v (length (formula-words f)) (placed first)))
 
-      lines-on : (cs : List Condition) (h : Listed ws count cs) → Lines-left ws count (getD es at 0 + 3) (left - 1) l₀ cs l″ r
+      lines-on : (cs : List Condition) (h : Listed ws count cs) → Lines-left ws count (getD es at 0 + tail) (left - 1) l₀ cs l″ r
       unfolding all-lines
       lines-on cs h =
           let g = t .lines cs h in
           let n = next-of cs h in
           let c = shorten-condition order (n .line) in
           let ds = shorten-all order (n .others) in
+          let form = form-of ws in
           record {
             rest = n .others;
             many = n .many;
-            stands = behind (trailer (n .line)) (trailer-stands n);
+            stands = rw (words .is, ← trailer-size form (n .line)) (behind (trailer form (n .line)) (trailer-stands n));
             writes = λ q′ k u.
                 g .writes q′ k
                 (wrote-as
-                (sym (append-assoc (line-words c) (all-lines ds) (pos count ∷ []))
-                ∙ ap (λ (x : List Condition). rest-words count (shorten-all order x)) (sym (n .is)))
+                (sym (append-assoc (line-words form c) (all-lines form ds) (count-word form count ∷ []))
+                ∙ ap (λ (x : List Condition). rest-words form count (shorten-all order x)) (sym (n .is)))
                 (then (wrote-line n) u));
           }
 
-      pub lined : Lining ws count es ks₀ l₀ (getD es at 0 + 3) (left - 1) ks′ l″ r
+      pub lined : Lining ws count es ks₀ l₀ (getD es at 0 + tail) (left - 1) ks′ l″ r
       lined = record {
         ready = t .ready;
         told = record {
@@ -146,11 +171,12 @@ module _ {ws : List ℤ} {count : ℕ} {es ks₀ : List ℕ} {l₀ : List ℤ} {
 
 module _ {ws : List ℤ} {count : ℕ} {es ks₀ : List ℕ} {l₀ : List ℤ} {at left : ℕ} {ks : List ℕ} {l : List ℤ} {p : ℕ}
     (t : Lining ws count es ks₀ l₀ at left ks l p) (none : left ≤ 0) where
-  count-stands : (cs : List Condition) (h : Listed ws count cs) → Stands ws at (pos count ∷ [])
+  count-stands : (cs : List Condition) (h : Listed ws count cs) → Stands ws at (count-word (form-of ws) count ∷ [])
   unfolding all-lines
   count-stands cs h = of-rest (t .lines cs h .rest) (t .lines cs h .many) (t .lines cs h .stands)
     where
-      of-rest : (rest : List Condition) → length rest ≡ left → Stands ws at (rest-words count rest) → Stands ws at (pos count ∷ [])
+      of-rest : (rest : List Condition) → length rest ≡ left → Stands ws at (rest-words (form-of ws) count rest)
+          → Stands ws at (count-word (form-of ws) count ∷ [])
       of-rest [] m s = s
       of-rest (c ∷ rest) m s = absurd (omega (linear, m))
 
@@ -163,6 +189,7 @@ module _ {ws : List ℤ} {count : ℕ} {es ks₀ : List ℕ} {l₀ : List ℤ} {
       let g = t .lines cs h in
       g .writes q l′ (wrote-as (ap (λ z. z ∷ []) (word (count-stands cs h)) ∙ of-rest (g .rest) (g .many)) w)
     where
-      of-rest : (rest : List Condition) → length rest ≡ left → (pos count ∷ []) ≡ rest-words count (shorten-all order rest)
+      of-rest : (rest : List Condition) → length rest ≡ left
+          → (count-word (form-of ws) count ∷ []) ≡ rest-words (form-of ws) count (shorten-all order rest)
       of-rest [] m = refl
       of-rest (c ∷ rest) m = absurd (omega (linear, m))

@@ -9,7 +9,7 @@ use lib.ListN.{length, length-map, length-replicate, replicate}
 use Rattle.script.specs.Conditions.{Condition}
 use Rattle.script.specs.Words.{list-words}
 use Rattle.script.specs.Generated.{zeros}
-use Rattle.script.specs.Listing.{Found, lines, read-list, condition-count, condition-count-within}
+use Rattle.script.specs.Listing.{form-of, Found, lines, read-list, condition-count, condition-count-within}
 use Rattle.script.specs.WellFormed.{Well-formed}
 use Rattle.theorems.specs.ReadBack.{conditions-of, written-read}
 use Rattle.theorems.specs.Lookup.{count-written}
@@ -26,7 +26,7 @@ use Rattle.shortener.specs.Lines.{Ready, All-written}
 pub record Written-short (ws l : List ℤ) (p : ℕ) (l′ : List ℤ) : Type 0 where
   pub conditions : List Condition
   pub well : Well-formed ws conditions
-  pub wrote : Wrote l 0 (list-words (shorten-all order conditions)) p l′
+  pub wrote : Wrote l 0 (list-words (form-of ws) (shorten-all order conditions)) p l′
 
 -- ---- the conditions that are counted
 

@@ -13,10 +13,10 @@ use Rattle.shortener.proofs.lines.write_lines.Statement.{statement}
 use Rattle.shortener.proofs.lines.write_lines.Tie as tie
 
 abbrev Inv-loop : tie.InvT-loop
-Inv-loop list count ends changes₀ short₀ at₀ p₀ left₀ changes short at p left = Lining list count ends changes₀ short₀ at left changes short p
+Inv-loop list count ends changes₀ short₀ tail at₀ p₀ left₀ changes short at p left = Lining list count ends changes₀ short₀ at left changes short p
 
 abbrev μ-loop : tie.MeasureT-loop
-μ-loop list count ends changes₀ short₀ at₀ p₀ left₀ changes short at p left = left
+μ-loop list count ends changes₀ short₀ tail at₀ p₀ left₀ changes short at p left = left
 
 -- ---- a line
 
@@ -31,14 +31,20 @@ module _ (c : tie.After-write-formula Inv-loop μ-loop) where
   abbrev Turn : tie.In-loop Inv-loop μ-loop
   Turn = c .before .before .before .before .before
 
-  end-is : c .before .before .before .place .result ≡ getD (Turn .before .before .before .before .args .ends .now) (Turn .before .loop .at) 0
+  -- how many words a trailer has was told before the loop
+  abbrev Told : tie.After-trailer-length Inv-loop μ-loop
+  Told = Turn .before .before
+
+  end-is : c .before .before .before .place .result ≡ getD (Told .before .before .before .args .ends .now) (Turn .before .loop .at) 0
   end-is = c .before .before .before .place .ensures
 
 write-trailer-requires : tie.Need-write-trailer-requires Inv-loop μ-loop
 write-trailer-requires c κs =
     let wrote = c .before .before .before .before in
     let turn = Turn wrote in
-    rw (end-is wrote) (trailing (turn .before .loop .inv) (turn .loop-test .taken) (rw (end-is wrote) at (wrote .write-formula .ensures)))
+    rw (end-is wrote)
+    (trailing (turn .before .loop .inv) (turn .loop-test .taken) (rw (end-is wrote) at (wrote .write-formula .ensures))
+    (Told wrote .trailer-length .ensures))
 
 loop-again : tie.Need-loop-again Inv-loop μ-loop
 loop-again c =
@@ -47,13 +53,13 @@ loop-again c =
     let turn = Turn wrote in
     rw (end-is wrote)
     (lined (turn .before .loop .inv) (turn .loop-test .taken) (rw (end-is wrote) at (wrote .write-formula .ensures))
-    (rw (end-is wrote) at (ended .write-trailer .ensures)))
+    (Told wrote .trailer-length .ensures) (rw (end-is wrote) at (ended .write-trailer .ensures)))
 
 add-at : tie.Need-add-at Inv-loop μ-loop
 add-at c =
     let wrote = c .before .before .before .before .before .before in
     let turn = Turn wrote in
-    omega (arith, end-is wrote, trailer-inside (turn .before .loop .inv) (turn .loop-test .taken))
+    omega (arith, end-is wrote, Told wrote .trailer-length .ensures .is, trailer-inside (turn .before .loop .inv) (turn .loop-test .taken))
 
 -- ---- the count
 
@@ -71,7 +77,8 @@ write-lines-spec =
     (tie.spec
     Inv-loop
     μ-loop
-    (λ c. lining (c .before .before .pre))
+    (λ c κs. search needs)
+    (λ c. lining (c .before .before .before .pre))
     (λ c. omega (arith, end-read (c .before .loop .inv) (c .loop-test .taken)))
     (λ c. end-read (c .before .before .loop .inv) (c .before .loop-test .taken))
     (λ c κs. search needs)
