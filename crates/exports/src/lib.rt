@@ -39,7 +39,7 @@ pub extern "C" fn leqwarti_check(table: &[i32], number: &mut usize, row: &mut us
     }
 }
 
-// The line at an index of a list: number, kind and row, and where its formula starts and ends.
+// The line at an index of a list: number, kind, row and depth, and where its formula starts and ends. A list without depths has depth 0.
 #[no_mangle]
 pub extern "C" fn leqwarti_line(
     words: &[i32],
@@ -47,12 +47,14 @@ pub extern "C" fn leqwarti_line(
     number: &mut usize,
     kind: &mut usize,
     row: &mut usize,
+    depth: &mut usize,
     start: &mut usize,
     end: &mut usize,
 )
     ensures number { λ _. ⌜ now (number .exit) ≡ line-at (now (words .entry)) index .number ⌝ }
     ensures kind { λ _. ⌜ now (kind .exit) ≡ line-at (now (words .entry)) index .kind ⌝ }
     ensures row { λ _. ⌜ now (row .exit) ≡ line-at (now (words .entry)) index .row ⌝ }
+    ensures depth { λ _. ⌜ now (depth .exit) ≡ line-at (now (words .entry)) index .depth ⌝ }
     ensures start { λ _. ⌜ now (start .exit) ≡ line-at (now (words .entry)) index .start ⌝ }
     ensures end { λ _. ⌜ now (end .exit) ≡ line-at (now (words .entry)) index .end ⌝ }
 {
@@ -60,6 +62,7 @@ pub extern "C" fn leqwarti_line(
     *number = line.number;
     *kind = line.kind;
     *row = line.row;
+    *depth = line.depth;
     *start = line.start;
     *end = line.end;
 }
@@ -72,7 +75,7 @@ pub extern "C" fn leqwarti_first_place(words: &[i32], place: &mut usize)
     *place = list_walker::start(words);
 }
 
-// A reader's step: the line that ends at its place, and the place moved back before it.
+// A reader's step: the line that ends at its place, told as above, and the place moved back before it.
 #[no_mangle]
 pub extern "C" fn leqwarti_step(
     words: &[i32],
@@ -80,6 +83,7 @@ pub extern "C" fn leqwarti_step(
     number: &mut usize,
     kind: &mut usize,
     row: &mut usize,
+    depth: &mut usize,
     start: &mut usize,
     end: &mut usize,
 )
@@ -87,6 +91,7 @@ pub extern "C" fn leqwarti_step(
     ensures number { λ _. ⌜ now (number .exit) ≡ step-back (now (words .entry)) (now (place .entry)) .number ⌝ }
     ensures kind { λ _. ⌜ now (kind .exit) ≡ step-back (now (words .entry)) (now (place .entry)) .kind ⌝ }
     ensures row { λ _. ⌜ now (row .exit) ≡ step-back (now (words .entry)) (now (place .entry)) .row ⌝ }
+    ensures depth { λ _. ⌜ now (depth .exit) ≡ step-back (now (words .entry)) (now (place .entry)) .depth ⌝ }
     ensures start { λ _. ⌜ now (start .exit) ≡ step-back (now (words .entry)) (now (place .entry)) .start ⌝ }
     ensures end { λ _. ⌜ now (end .exit) ≡ step-back (now (words .entry)) (now (place .entry)) .end ⌝ }
 {
@@ -96,6 +101,7 @@ pub extern "C" fn leqwarti_step(
     *number = passed.number;
     *kind = passed.kind;
     *row = passed.row;
+    *depth = passed.depth;
     *start = passed.start;
     *end = passed.end;
 }

@@ -11,7 +11,7 @@ use lib.ListN.{length, take, drop, length-append, length-replicate}
 use lib.Seq.{sets-eq, take-append-seam, length-take-le}
 use Rattle.script.specs.declared.Answer.{Answer}
 use Rattle.script.specs.Conditions.{Condition, conditions}
-use Rattle.script.specs.Words.{list-words}
+use Rattle.script.specs.Words.{with-depth, list-words}
 use Rattle.script.specs.Trees.{tree}
 use Rattle.script.specs.Generated.{Outcome, zeros, refusal, refuse, plan, room, outcome}
 use Rattle.theorems.specs.Writing.{Wrote, wrote-length, wrote-whole}
@@ -70,10 +70,10 @@ record Fits (list : ℕ) (o : Outcome) : Type 0 where
 refused-fits : (list scratch n r : ℕ) → n ≢ 0 → Fits list (refuse n r list scratch)
 refused-fits list scratch n r h = record { used-within = omega arith; whole = length-replicate list (pos 0) }
 
-plan-fits : (cs : List Condition) (list scratch : ℕ) → length (list-words cs) ≤ room list → Fits list (plan cs list scratch)
+plan-fits : (cs : List Condition) (list scratch : ℕ) → length (list-words with-depth cs) ≤ room list → Fits list (plan cs list scratch)
 plan-fits cs list scratch h = record {
   used-within = omega arith;
-  whole = length-append (list-words cs) (zeros (list - length (list-words cs))) ∙ rw length-replicate (omega arith);
+  whole = length-append (list-words with-depth cs) (zeros (list - length (list-words with-depth cs))) ∙ rw length-replicate (omega arith);
 }
 
 fits : (t : List ℤ) (list scratch : ℕ) → Fits list (outcome t list scratch)

@@ -11,7 +11,7 @@ use lib.ListN.{length, getElem?, replicate}
 use borrow.Author.Tests.{lt-ltb, le-ltb}
 use Rattle.script.specs.declared.Line.{Line}
 use Rattle.script.specs.Syntax.{Formula}
-use Rattle.script.specs.Listing.{Found, lines, read-list, no-line, line-of, line-at, line-at-within, part-at}
+use Rattle.script.specs.Listing.{Found, form-of, lines, read-list, no-line, line-of, line-at, line-at-within, part-at}
 use Rattle.theorems.specs.ReadBack.{conditions-of, written-read}
 use Rattle.theorems.specs.Lookup.{part-at-index, condition-of, range-at}
 use Rattle.theorems.specs.Writing.{Wrote, wrote-short}
@@ -37,7 +37,7 @@ module _ (ws : List ℤ) where
       let w = written-read ws cs (rw (p, read-list)) in
       record {
         words = sym (part-at-index ws cs w k (f .condition) (condition-of fs k q));
-        range = range-at cs k (w .ranges) (condition-of fs k q);
+        range = range-at (form-of ws) cs k (w .ranges) (condition-of fs k q);
       }
 
   pub located : (i : ℤ) → Located ws i

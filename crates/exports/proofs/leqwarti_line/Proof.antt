@@ -17,7 +17,13 @@ returns : tie.Need-returns
 returns c =
     let is = line-is c in (
       ap (λ (l : Line). l .number) is,
-      (ap (λ (l : Line). l .kind) is, (ap (λ (l : Line). l .row) is, (ap (λ (l : Line). l .start) is, ap (λ (l : Line). l .end) is))),
+      (
+        ap (λ (l : Line). l .kind) is,
+        (
+          ap (λ (l : Line). l .row) is,
+          (ap (λ (l : Line). l .depth) is, (ap (λ (l : Line). l .start) is, ap (λ (l : Line). l .end) is)),
+        ),
+      ),
     )
 
 pub leqwarti-line-spec : {M : Type 1} → statement M

@@ -17,7 +17,13 @@ returns c =
       ap (λ (w : Walked). w .end) is,
       (
         ap (λ (l : Line). l .number) line,
-        (ap (λ (l : Line). l .kind) line, (ap (λ (l : Line). l .row) line, (ap (λ (l : Line). l .start) line, ap (λ (l : Line). l .end) line))),
+        (
+          ap (λ (l : Line). l .kind) line,
+          (
+            ap (λ (l : Line). l .row) line,
+            (ap (λ (l : Line). l .depth) line, (ap (λ (l : Line). l .start) line, ap (λ (l : Line). l .end) line)),
+          ),
+        ),
       ),
     )
 
