@@ -3,8 +3,7 @@ use Prim.Native.Nat.{ℕ, zero, suc, _+_, _-_, _≤_, _<_}
 use mathlib.Core.Path.{_≡_, refl, sym, ap, _∙_}
 use mathlib.Core.List.{List, [], _∷_, _++_, append-nil}
 use native.Mathlib.Omega.{arith as linear}
-use borrow.Author.Tests.{lt-ltb}
-use lib.IntN.{ℤ, pos, negsuc, negℤ, _-ℤ_}
+use lib.IntN.{ℤ, pos, negℤ}
 use lib.ListN.{length, length-append}
 use lib.Seq.{sets, length-sets}
 use mir.Val.{SFits}
@@ -90,10 +89,6 @@ line-finished rule row depth f {l} {l₁} (stopped h n s) e =
 pub record Counted (l : List ℤ) (p q : Progress) (l′ : List ℤ) : Type 0 where
   pub words : Wrote l (p .at) (count-word with-depth (p .count) ∷ []) (q .at) l′
   pub count : q .count ≡ p .count
-
-pub zero-minus : (n : ℕ) → pos 0 -ℤ pos n ≡ negℤ (pos n)
-zero-minus zero = refl
-zero-minus (suc n) = rw (lt-ltb 0 (suc n) (omega linear)) (ap negsuc (omega linear))
 
 minus-fits : (n : ℕ) → n ≤ 16384 → SFits w32 (negℤ (pos n))
 minus-fits zero h = record { sfits = omega linear }

@@ -2,13 +2,13 @@
 use borrow.Author.Needs.{needs}
 use mathlib.Core.Path.{_≡_, refl, ap, _∙_}
 use native.Mathlib.Omega.{arith}
-use lib.IntN.{ℤ, pos, _-ℤ_}
+use lib.IntN.{ℤ, pos, _-ℤ_, +ℤ-idl}
 use mir.Facts.{toZ-ofZ}
 use mir.Val.{toZ, ofZ}
 use mir.Syntax.{w32}
 use Rattle.script.specs.Words.{with-depth, count-word}
 use Rattle.theorems.specs.Writing.{stopped}
-use Rattle.line_writer.specs.Spelled.{zero-minus, count-fits, count-word-fits}
+use Rattle.line_writer.specs.Spelled.{count-fits, count-word-fits}
 use Rattle.line_writer.proofs.write_count.Statement.{statement}
 use Rattle.line_writer.proofs.write_count.Tie as tie
 
@@ -24,7 +24,9 @@ cast-push c =
 
 -- the count, as it is held, from 0
 less : (c : tie.Else1) → pos 0 -ℤ toZ w32 (ofZ w32 (pos (c .before .args .at .count))) ≡ count-word with-depth (c .before .args .at .count)
-less c = ap (λ (z : ℤ). pos 0 -ℤ z) (toZ-ofZ (count-fits (c .before .pre) (c .if1 .left))) ∙ zero-minus (c .before .args .at .count)
+less c =
+    ap (λ (z : ℤ). pos 0 -ℤ z) (toZ-ofZ (count-fits (c .before .pre) (c .if1 .left)))
+    ∙ +ℤ-idl (count-word with-depth (c .before .args .at .count))
 
 sub-push : tie.Need-sub-push
 sub-push c =
