@@ -1,11 +1,11 @@
 // Example A: by room and scratch, and with a row edited.
 
+use crate::printed;
 use crate::run;
-use crate::text;
 
 pub fn rows() -> [i32; 124] {
     let mut table = [0; 124];
-    text::numbers(
+    printed::numbers(
         b"1 0 0 0, 2 0 0 0, 19 0 1 0, 1 0 0 0, 2 0 0 0, 18 3 4 0, 1 0 0 0, 2 0 0 0, 19 6 7 0, 2 0 0 0, 37 8 9 0, 2 0 0 0, 1 1 0 0,
         4 11 12 0, 33 0 13 0, 36 5 10 14, 2 0 0 0, 1 0 0 0, 20 16 17 0, 48 2 15 18.",
         &mut table,
@@ -19,14 +19,14 @@ fn within(name: &[u8], room: usize, lent: usize) {
 
 pub fn rooms() {
     within(b"A", 512, 5120);
-    within(b"A, room 93", 93, 5120);
+    within(b"A, room 97", 97, 5120);
     // 11 by document 01; planned since 02, P8.
-    within(b"A, room 94, scratch 281", 94, 281);
-    within(b"A, room 94, scratch 282", 94, 282);
-    within(b"A, room 94, scratch 40", 94, 40);
-    within(b"A, room 94, scratch 39", 94, 39);
-    within(b"A, room 93, scratch 40", 93, 40);
-    within(b"A, room 93, scratch 39", 93, 39);
+    within(b"A, room 98, scratch 281", 98, 281);
+    within(b"A, room 98, scratch 282", 98, 282);
+    within(b"A, room 98, scratch 40", 98, 40);
+    within(b"A, room 98, scratch 39", 98, 39);
+    within(b"A, room 97, scratch 40", 97, 40);
+    within(b"A, room 97, scratch 39", 97, 39);
 }
 
 // With these words in the row, and 0.

@@ -1,8 +1,8 @@
 // Tables with shared parts, mended (02, P7): every field of the answer, and every word of both runs, which were 7 before.
 
 use crate::example;
+use crate::printed;
 use crate::run;
-use crate::text;
 use mender::MendAnswer;
 
 pub fn say_answer(name: &[u8], answer: MendAnswer) {
@@ -53,7 +53,7 @@ fn mend_words(name: &[u8], table: &[i32; 124], n: usize, room: usize, places: us
 // The same of a table as document 01 prints it.
 fn mend(name: &[u8], rows: &[u8], room: usize, places: usize) {
     let mut table = [0; 124];
-    let n = text::numbers(rows, &mut table);
+    let n = printed::numbers(rows, &mut table);
     mend_words(name, &table, n, room, places);
 }
 

@@ -1,6 +1,7 @@
 // One trial: a table and its buffers, and what the generator answers, as the program `vcgen` writes it.
 
-use crate::text;
+use crate::printed;
+use crate::word;
 use script::Answer;
 
 pub fn say_number(n: usize) {
@@ -47,7 +48,7 @@ pub fn words(name: &[u8], table: &[i32; 124], n: usize, room: usize, lent: usize
 // The same of a table as document 01 prints it.
 pub fn rows(name: &[u8], rows: &[u8], room: usize, lent: usize) {
     let mut table = [0; 124];
-    let n = text::numbers(rows, &mut table);
+    let n = printed::numbers(rows, &mut table);
     words(name, &table, n, room, lent);
 }
 
@@ -55,7 +56,7 @@ pub fn rows(name: &[u8], rows: &[u8], room: usize, lent: usize) {
 pub fn say_words(list: &[i32]) {
     let mut i: usize = 0;
     while i < list.len() {
-        say_number(script::field_number(list[i]));
+        word::say(list[i]);
         i += 1;
     }
 }
@@ -90,6 +91,6 @@ fn listed_words(name: &[u8], table: &[i32; 124], n: usize) {
 // The same of a table as document 01 prints it.
 pub fn listed(name: &[u8], rows: &[u8]) {
     let mut table = [0; 124];
-    let n = text::numbers(rows, &mut table);
+    let n = printed::numbers(rows, &mut table);
     listed_words(name, &table, n);
 }

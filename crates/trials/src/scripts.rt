@@ -1,4 +1,5 @@
-// Conditions as scripts for solvers (02, P1): example A's, what is refused, and the last variable (02, P2).
+// Conditions as scripts for solvers (02, P1): example A's, what is refused, and the last variable (02, P2) in lists of both forms
+// (02, P9).
 
 use crate::example;
 use crate::run;
@@ -36,9 +37,13 @@ const LAST_VARIABLE: [i32; 9] = [20, 2, 1023, 2, 255, 4, 0, 5, 1];
 
 const NO_VARIABLE: [i32; 9] = [20, 2, 1024, 2, 255, 4, 0, 5, 1];
 
+const LAST_DEPTH: [i32; 10] = [20, 2, 1023, 2, 255, 4, 0, 5, 7, -1];
+
+const NO_DEPTH: [i32; 10] = [20, 2, 1023, 2, 255, 4, 0, 5, 8, -1];
+
 pub fn all() {
     let table = example::rows();
-    let mut list = [7; 94];
+    let mut list = [7; 98];
     let mut scratch = [7; 40];
     let mut text = [7; 512];
     let mut exact = [7; 179];
@@ -53,4 +58,6 @@ pub fn all() {
     torn(&list, &mut short);
     script(&LAST_VARIABLE, 0, &mut text);
     script(&NO_VARIABLE, 0, &mut text);
+    script(&LAST_DEPTH, 0, &mut text);
+    script(&NO_DEPTH, 0, &mut text);
 }

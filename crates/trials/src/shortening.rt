@@ -1,7 +1,7 @@
-// Lists with their conditions shortened, and the shorter of two formulas (02, P6).
+// Lists with their conditions shortened, each in its form (02, P9), and the shorter of two formulas (02, P6).
 
+use crate::printed;
 use crate::run;
-use crate::text;
 
 // Says what the first n words of a list become in a run.
 fn shorten_part(name: &[u8], list: &[i32], n: usize, short: &mut [i32]) {
@@ -26,8 +26,18 @@ fn shorten_words(name: &[u8], list: &[i32; 124], n: usize, short: &mut [i32]) {
 // The same of a list as the program prints it.
 fn shorten(name: &[u8], words: &[u8], short: &mut [i32]) {
     let mut list = [0; 124];
-    let n = text::numbers(words, &mut list);
+    let n = printed::numbers(words, &mut list);
     shorten_words(name, &list, n, short);
+}
+
+// The same of a list with depths, from the words before its last one.
+fn shorten_with_depths(name: &[u8], words: &[u8], last: i32, short: &mut [i32]) {
+    let mut list = [0; 124];
+    let n = printed::numbers(words, &mut list);
+    if n < 124 {
+        list[n] = last;
+        shorten_words(name, &list, n + 1, short);
+    }
 }
 
 // Says the number and the shorter formula.
@@ -72,10 +82,27 @@ fn padded() {
     shorten(b"no list", b"16 25 16 16 4 3 3 1\n", &mut exact);
 }
 
-// true implies true, and what it becomes
+// The same conditions with depths 7 and 0. It becomes 20 words.
+fn padded_with_depths() {
+    let words = b"20 2 0 4 1 0 1 0 1 7 8 7 25 16 23 22 17 20 3 2 0 5 1 1 1 0 1 0 4 9 16 0\n";
+    let mut exact = [7; 20];
+    let mut short = [7; 19];
+    shorten_with_depths(b"padded, with depths", words, -2, &mut exact);
+    shorten_with_depths(
+        b"padded, with depths, one word short",
+        words,
+        -2,
+        &mut short,
+    );
+    shorten_with_depths(b"depth 8", b"25 16 16 3 3 3 8\n", -1, &mut exact);
+}
+
+// true implies true, and what it becomes, in both forms
 const OLD: [i32; 7] = [25, 16, 16, 4, 3, 3, 1];
 
 const NEW: [i32; 5] = [16, 4, 3, 1, 1];
+
+const NEW_WITH_DEPTH: [i32; 6] = [16, 4, 3, 1, 0, -1];
 
 fn two_lists() {
     shorter(&OLD, &NEW, 0);
@@ -84,11 +111,14 @@ fn two_lists() {
     shorter(&OLD, &[], -1);
     shorter(&OLD, &[], 0);
     shorter(&[], &NEW, 1);
+    shorter(&OLD, &NEW_WITH_DEPTH, 0);
+    shorter(&NEW_WITH_DEPTH, &OLD, 0);
 }
 
 pub fn all() {
     expressions();
     formulas();
     padded();
+    padded_with_depths();
     two_lists();
 }

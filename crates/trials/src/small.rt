@@ -1,10 +1,10 @@
-// The script of four rows, one of eight with as short a list, and tables by their number of words.
+// The script of four rows, one of ten with as short a list, and tables by their number of words.
 
 use crate::run;
 
 const FOUR_ROWS: [i32; 16] = [16, 0, 0, 0, 32, 0, 0, 0, 16, 0, 0, 0, 48, 0, 1, 2];
 
-const THREE_SKIPS: [i32; 32] = [
+const FOUR_SKIPS: [i32; 40] = [
     16,
     0,
     0,
@@ -29,38 +29,46 @@ const THREE_SKIPS: [i32; 32] = [
     3,
     4,
     0,
+    32,
+    0,
+    0,
+    0,
+    34,
+    5,
+    6,
+    0,
     16,
     0,
     0,
     0,
     48,
     0,
-    5,
-    6,
+    7,
+    8,
 ];
 
 pub fn rooms() {
-    run::part(b"four rows, room 6, scratch 12", &FOUR_ROWS, 16, 6, 12);
+    run::part(b"four rows, room 7, scratch 12", &FOUR_ROWS, 16, 7, 12);
     // 11 by document 01; planned since 02, P8.
-    run::part(b"four rows, room 7, scratch 13", &FOUR_ROWS, 16, 7, 13);
-    run::part(b"four rows, room 7, scratch 8", &FOUR_ROWS, 16, 7, 8);
-    run::part(b"four rows, room 7, scratch 7", &FOUR_ROWS, 16, 7, 7);
+    run::part(b"four rows, room 8, scratch 13", &FOUR_ROWS, 16, 8, 13);
+    run::part(b"four rows, room 8, scratch 8", &FOUR_ROWS, 16, 8, 8);
+    run::part(b"four rows, room 8, scratch 7", &FOUR_ROWS, 16, 8, 7);
     run::part(b"four rows, room 0, scratch 8", &FOUR_ROWS, 16, 0, 8);
     run::part(b"four rows, room 0, scratch 7", &FOUR_ROWS, 16, 0, 7);
     run::part(b"four rows, room 0, scratch 0", &FOUR_ROWS, 16, 0, 0);
-    // planned by document 01; 11 since 02, P8.
-    run::part(b"three skips, room 7, scratch 15", &THREE_SKIPS, 32, 7, 15);
-    run::part(b"three skips, room 7, scratch 16", &THREE_SKIPS, 32, 7, 16);
+    // planned by the rule of document 01; 11 since 02, P8.
+    run::part(b"four skips, room 8, scratch 19", &FOUR_SKIPS, 40, 8, 19);
+    run::part(b"four skips, room 8, scratch 20", &FOUR_SKIPS, 40, 8, 20);
 }
 
 pub fn list() {
-    let mut list = [7; 7];
+    let mut list = [7; 8];
     let mut scratch = [7; 8];
     run::say(
         b"four rows",
         generator::generate(&FOUR_ROWS, &mut list, &mut scratch),
     );
-    run::say_list(b"four rows", &list, 7);
+    run::say_list(b"four rows", &list, 8);
 }
 
 // All words are 0: where their number passes, row 0 has a kind that is not listed.

@@ -2,11 +2,12 @@
 
 use crate::run;
 
-// v0 := 1 div v1: its list had 7 words before P5.
+// v0 := 1 div v1: without P5 its list would have 8 words.
 pub fn rooms() {
     let rows = b"16 0 0 0, 1 1 0 0, 2 1 0 0, 6 1 2 0, 33 0 3 0, 16 0 0 0, 48 0 4 5.";
-    run::rows(b"v0 := 1 div v1, room 7", rows, 7, 512);
+    run::rows(b"v0 := 1 div v1, room 8", rows, 8, 512);
     run::rows(b"v0 := 1 div v1, room 13", rows, 13, 512);
+    run::rows(b"v0 := 1 div v1, room 14", rows, 14, 512);
 }
 
 pub fn shapes() {

@@ -15,24 +15,21 @@ abbrev μ-loop : tie.MeasureT-loop
 loop-holds : tie.Need-loop-holds Inv-loop μ-loop
 loop-holds c = search needs
 
-mul-field-number : tie.Need-mul-field-number Inv-loop μ-loop
-mul-field-number c = search needs
+mul-say : tie.Need-mul-say Inv-loop μ-loop
+mul-say c = search needs
 
-shared-slice-copy-out-field-number : tie.Need-shared-slice-copy-out-field-number Inv-loop μ-loop
-shared-slice-copy-out-field-number c = search needs
+shared-slice-copy-out-say : tie.Need-shared-slice-copy-out-say Inv-loop μ-loop
+shared-slice-copy-out-say c = search needs
 
-field-number-requires : tie.Need-field-number-requires Inv-loop μ-loop
-field-number-requires c κs = search needs
-
-say-number-requires : tie.Need-say-number-requires Inv-loop μ-loop
-say-number-requires c κs = search needs
+say-requires : tie.Need-say-requires Inv-loop μ-loop
+say-requires c κs = search needs
 
 add-i : tie.Need-add-i Inv-loop μ-loop
 add-i c = search needs
 
 loop-less : tie.Need-loop-less Inv-loop μ-loop
 loop-less c =
-    let turn = c .before .before .before in
+    let turn = c .before .before in
     let h = turn .loop-test .taken in
     omega arith
 
@@ -49,10 +46,9 @@ say-words-spec =
     Inv-loop
     μ-loop
     loop-holds
-    mul-field-number
-    shared-slice-copy-out-field-number
-    field-number-requires
-    say-number-requires
+    mul-say
+    shared-slice-copy-out-say
+    say-requires
     add-i
     loop-less
     loop-again
