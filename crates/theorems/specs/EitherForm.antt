@@ -1,25 +1,29 @@
 -- 02, P9: the conditions of a table as a list in either form (`table-list`): in the form of 01 it is the list that the generator gave
--- before P9, in the other the one that it gives now. Both are well-formed and read as these conditions (`reads-either`), both
+-- before P9 (`former-list`, stated again), in the other the one that it gives now. Both are well-formed and read as these conditions (`reads-either`), both
 -- are true in all states or neither is (`valid-either`), and by either runs keep demand 3's promise (`keeps-either`). "Every trailer
--- gains a fourth word": the new one has as many words more as there are conditions (`one-word-more`), so of the generator's answers
--- only a plan that had room for the old list and has none for the new one moves, to 12 (`answers-move`). Assumes nothing.
+-- gains a fourth word": the new one has as many words more as there are conditions (`one-word-more`), so of the generator's numbers
+-- only that of a plan that had room for the old list and has none for the new one moves, to 12 (`answers-move`). Assumes nothing.
 use Prim.Native.Nat.{ℕ, suc, _+_, _≤_, _<_}
 use native.Mathlib.Omega.{arith as linear}
 use mathlib.Core.Path.{_≡_, refl, sym, ap, ap₂, _∙_, subst}
 use mathlib.Core.Logic.{_↔_, _⊎_, inl, inr, Iff·trans}
 use mathlib.Core.Bool.{Bool, true, false, cond}
-use mathlib.Core.Option.{some}
-use mathlib.Core.List.{List, [], _∷_, _++_, map}
+use mathlib.Core.Option.{Option, none, some}
+use mathlib.Core.List.{List, [], _∷_, _++_, map, map-append}
 use lib.Dec.{T, ltb}
-use lib.IntN.{ℤ}
+use lib.IntN.{ℤ, pos}
 use lib.ListN.{length, length-append, length-map}
 use borrow.Author.Tests.{ltb-true, ltb-false}
 use Rattle.script.specs.declared.Answer.{Answer}
 use Rattle.script.specs.Meaning.{Arithmetic, State, holds}
 use Rattle.script.specs.Run.{Total-correctness}
-use Rattle.script.specs.Conditions.{Condition, condition, conditions}
+use Rattle.script.specs.declared.Rule.{Rule}
+use Rattle.script.specs.declared.Rule.the-variants.{Exit, Floor, Step, Main, Guard}
+use Rattle.script.specs.declared.Connective.the-variants.{Implies}
+use Rattle.script.specs.Syntax.{Formula, join, Stmt, skip, assign, seq, branch, loop, assert, Tree}
+use Rattle.script.specs.Conditions.{Condition, condition, divisorsᶠ, wp, decreased, exit, floor, step, guard, walk, conditions}
 use Rattle.script.specs.Trees.{tree}
-use Rattle.script.specs.Words.{Form, without-depth, with-depth, depth-words, trailer, formula-words, line-words, all-lines, count-word, list-words}
+use Rattle.script.specs.Words.{Form, without-depth, with-depth, depth-words, rule-number, trailer, formula-words, line-words, all-lines, count-word, list-words}
 use Rattle.script.specs.WellFormed.{All-in-range, Depth-in-range, Well-formed}
 use Rattle.script.specs.Listing.{form-of, depth-limit, read-list}
 use Rattle.script.specs.Refusals.{Verdict, accepted, refused, verdict}
@@ -149,12 +153,13 @@ one-word-more cs =
 
 -- ---- which answers of the generator move
 
--- the answer for conditions to be listed in this form, where so much scratch is needed
+-- the answer for conditions to be listed in this form, by the tests for 11 and 12
+abbrev by-tests : Form → List Condition → Bool → Bool → Answer
+by-tests form cs a b =
+    cond a (refusal 11 0) (cond b (refusal 12 0) (record { number = 0; row = 0; conditions = length cs; words = length (list-words form cs) }))
+
 abbrev pub answer-in : Form → ℕ → List Condition → ℕ → ℕ → Answer
-answer-in form need cs list scratch =
-    cond (ltb scratch need) (refusal 11 0)
-    (cond (ltb (room list) (length (list-words form cs))) (refusal 12 0)
-    (record { number = 0; row = 0; conditions = length cs; words = length (list-words form cs) }))
+answer-in form need cs list scratch = by-tests form cs (ltb scratch need) (ltb (room list) (length (list-words form cs)))
 
 abbrev pub table-answer : Form → List ℤ → ℕ → ℕ → Answer
 table-answer form t list scratch =
@@ -168,8 +173,7 @@ pub answer-now : (t : List ℤ) (list scratch : ℕ) → table-answer with-depth
 unfolding outcome-within outcome-for
 answer-now t list scratch = by-verdict (verdict t)
   where
-    tested : (a b : Bool) (cs : List Condition) → cond a (refusal 11 0)
-        (cond b (refusal 12 0) (record { number = 0; row = 0; conditions = length cs; words = length (list-words with-depth cs) }))
+    tested : (a b : Bool) (cs : List Condition) → by-tests with-depth cs a b
         ≡ cond a (refuse 11 0 list scratch) (cond b (refuse 12 0 list scratch) (plan cs list scratch)) .answer
     tested true b cs = refl
     tested false true cs = refl
@@ -193,13 +197,8 @@ module _ (t : List ℤ) (list scratch : ℕ) where
   abbrev cs : List Condition
   cs = conditions (tree t)
 
-  -- by the tests for 11 and 12
-  abbrev by-tests : Form → Bool → Bool → Answer
-  by-tests form a b =
-      cond a (refusal 11 0) (cond b (refusal 12 0) (record { number = 0; row = 0; conditions = length cs; words = length (list-words form cs) }))
-
   tests-move : (a b c : Bool) → ltb (room list) (length (list-words without-depth cs)) ≡ b → ltb (room list) (length (list-words with-depth cs)) ≡ c
-      → Moved list (by-tests without-depth a b) (by-tests with-depth a c)
+      → Moved list (by-tests without-depth cs a b) (by-tests with-depth cs a c)
   tests-move true b c p q = inl (refl, refl, refl, refl)
   tests-move false true true p q = inl (refl, refl, refl, refl)
   tests-move false true false p q =
@@ -219,3 +218,85 @@ module _ (t : List ℤ) (list scratch : ℕ) where
 
   pub answers-move : Moved list (table-answer without-depth t list scratch) (outcome t list scratch .answer)
   answers-move = subst (Moved list (table-answer without-depth t list scratch)) (answer-now t list scratch) (verdict-moves (verdict t))
+
+-- ---- the list from before P9
+
+-- a condition without its depth, and 01's walk and list of such
+pub record Former : Type 0 where
+  pub rule : Rule
+  pub row : ℕ
+  pub claim : Formula
+
+abbrev former : Rule → ℕ → Formula → Former
+former k r f = record { rule = k; row = r; claim = f }
+
+abbrev former-guard : ℕ → Formula → Option Formula → List Former
+former-guard m i none = []
+former-guard m i (some d) = former Guard m (join Implies i d) ∷ []
+
+unfoldable pub former-walk : Stmt → Formula → List Former
+former-walk skip q = []
+former-walk (assign v e) q = []
+former-walk (seq a b) q = former-walk b q ++ former-walk a (wp b q)
+former-walk (branch b x y) q = former-walk x q ++ former-walk y q
+former-walk (loop m b i v x) q =
+    former-guard m i (divisorsᶠ b)
+    ++ (former Exit m (exit b i q) ∷ former Floor m (floor b i v)
+    ∷ (former-walk x (decreased m i v) ++ (former Step m (step m b i v x) ∷ [])))
+former-walk (assert a) q = []
+
+unfoldable pub former-conditions : Tree → List Former
+former-conditions t =
+    former-walk (t .body) (t .post)
+    ++ (former Main (t .row) (join Implies (t .pre) (wp (t .body) (t .post))) ∷ [])
+
+unfoldable pub former-lines : List Former → List ℤ
+former-lines [] = []
+former-lines (c ∷ cs) =
+    (formula-words (c .claim) ++ (pos (rule-number (c .rule)) ∷ pos (c .row) ∷ pos (length (formula-words (c .claim))) ∷ []))
+    ++ former-lines cs
+
+unfoldable pub former-list : List ℤ → List ℤ
+former-list t = former-lines (former-conditions (tree t)) ++ (pos (length (former-conditions (tree t))) ∷ [])
+
+abbrev forget : Condition → Former
+forget c = former (c .rule) (c .row) (c .claim)
+
+forget-guard : (m depth : ℕ) (i : Formula) (x : Option Formula) → map forget (guard m depth i x) ≡ former-guard m i x
+forget-guard m depth i none = refl
+forget-guard m depth i (some d) = refl
+
+forget-walk : (depth : ℕ) (x : Stmt) (q : Formula) → map forget (walk depth x q) ≡ former-walk x q
+unfolding walk former-walk
+forget-walk depth skip q = refl
+forget-walk depth (assign v e) q = refl
+forget-walk depth (seq a b) q =
+    map-append forget (walk depth b q) (walk depth a (wp b q)) ∙ ap₂ _++_ (forget-walk depth b q) (forget-walk depth a (wp b q))
+forget-walk depth (branch b x y) q =
+    map-append forget (walk depth x q) (walk depth y q) ∙ ap₂ _++_ (forget-walk depth x q) (forget-walk depth y q)
+forget-walk depth (loop m b i v x) q =
+    let inner = decreased m i v in
+    map-append forget (guard m depth i (divisorsᶠ b)) _
+    ∙ ap₂ _++_ (forget-guard m depth i (divisorsᶠ b))
+    (ap (λ l. former Exit m (exit b i q) ∷ former Floor m (floor b i v) ∷ l)
+    (map-append forget (walk (suc depth) x inner) _
+    ∙ ap (λ l. l ++ (former Step m (step m b i v x) ∷ [])) (forget-walk (suc depth) x inner)))
+forget-walk depth (assert a) q = refl
+
+forget-all : (t : Tree) → map forget (conditions t) ≡ former-conditions t
+unfolding conditions former-conditions
+forget-all t =
+    map-append forget (walk 0 (t .body) (t .post)) _
+    ∙ ap (λ l. l ++ (former Main (t .row) (join Implies (t .pre) (wp (t .body) (t .post))) ∷ [])) (forget-walk 0 (t .body) (t .post))
+
+forget-lines : (cs : List Condition) → former-lines (map forget cs) ≡ all-lines without-depth cs
+unfolding former-lines all-lines line-words
+forget-lines [] = refl
+forget-lines (c ∷ cs) = ap (λ l. (formula-words (c .claim) ++ trailer without-depth c) ++ l) (forget-lines cs)
+
+pub former-same : (t : List ℤ) → former-list t ≡ table-list without-depth t
+unfolding former-list list-words
+former-same t =
+    let cs = conditions (tree t) in
+    let all = forget-all (tree t) in
+    ap₂ (λ ls n. ls ++ (pos n ∷ [])) (ap former-lines (sym all) ∙ forget-lines cs) (ap length (sym all) ∙ length-map cs forget)

@@ -1,7 +1,8 @@
 -- 02, P9: "an old reader gives 20 to a new list". The list reader as it was before P9 is stated again (`former-lines` and what it is made
 -- of; the depth that a condition and a line have now is 0 in it, which it did not tell). To every list in the new form it gives 20,
--- whatever the index, and so does each of its steps (`new-list-refused`, `generated-refused`). To words in the old form, and to
--- words that are no list, it gives what the reader gives now (`old-answers`, `old-step`): "0 for an old list". Assumes nothing.
+-- whatever the index, and so does each of its steps (`new-list-refused`, `generated-refused`). To words whose last one is not negative it
+-- gives what the reader gives now (`old-answers`, `old-step`), and so this tells depth 0 of them: "0 for an old list" (`old-depth`).
+-- Assumes nothing.
 use Prim.Native.Nat.{ℕ, zero, suc, _+_, _-_, _≤_}
 use native.Mathlib.Omega.{arith as linear}
 use mathlib.Core.Path.{_≡_, refl, sym, ap, ap₂, _∙_, subst}
@@ -10,7 +11,7 @@ use mathlib.Core.Bool.{Bool, true, false, _&&_, and-eq-true-iff}
 use mathlib.Core.List.{List, [], _∷_, _++_}
 use lib.IntN.{ℤ, pos, negsuc}
 use lib.Dec.{ltb, leb}
-use lib.ListN.{length, getD, take}
+use lib.ListN.{length, getD, take, getElem?}
 use lib.Seq.{slice}
 use borrow.Author.Tests.{leb-true}
 use Rattle.script.specs.declared.Line.{Line}
@@ -18,9 +19,12 @@ use Rattle.script.specs.Rows.{field-number, variables}
 use Rattle.script.specs.Conditions.{condition, conditions}
 use Rattle.script.specs.Trees.{tree}
 use Rattle.script.specs.Words.{without-depth, with-depth}
+use Rattle.script.specs.WellFormed.{Depth-in-range, All-in-range}
 use Rattle.script.specs.Generated.{outcome}
-use Rattle.script.specs.Listing.{_>>=_, guarded, natural, below, rule-of, row-limit, spelled, last-word, form-told, count-told, form-of, Found, found-within, line-before, line-before-within, lines-before, lines-before-within, lines, lines-within, no-line, line, line-of, line-at, line-at-within, malformed-place, condition-count, condition-count-within, first-place, first-place-within, step-back, step-back-within, next-place, next-place-within}
-use Rattle.theorems.specs.ReadBack.{form-written, written-read}
+use Rattle.script.specs.Listing.{_>>=_, guarded, natural, below, rule-of, row-limit, spelled, last-word, form-told, count-told, form-of, Found, found-within, line-before, line-before-within, lines-before, lines-before-within, lines, lines-within, read-list, no-line, line, line-of, line-at, line-at-within, malformed-place, condition-count, condition-count-within, part-at, first-place, first-place-within, step-back, step-back-within, next-place, next-place-within}
+use Rattle.theorems.specs.Options.{none-is-not, some-inj}
+use Rattle.theorems.specs.Line.{line-only}
+use Rattle.theorems.specs.ReadBack.{conditions-of, form-written, written-read}
 use Rattle.theorems.specs.Demand.{planned-list}
 
 -- ---- the reader before P9
@@ -165,6 +169,7 @@ former-same ws e =
 
 pub record Same-answers (ws : List ℤ) : Type 0 where
   pub line : (i : ℤ) → former-line-at ws i ≡ line-at ws i
+  pub part : (i : ℤ) → slice (former-line-at ws i .start) (former-line-at ws i .end) ws ≡ part-at ws i
   pub count : former-count ws ≡ condition-count ws
   pub place : former-first-place ws ≡ first-place ws
 
@@ -172,7 +177,13 @@ pub old-answers : (ws : List ℤ) → form-of ws ≡ without-depth → Same-answ
 unfolding line-at-within condition-count-within first-place-within
 old-answers ws e =
     let same = former-same ws e in
-    record { line = λ i. ap (λ o. line-from o i) same; count = ap count-from same; place = ap (λ o. place-from o (length ws - 1)) same }
+    let lines-same : (i : ℤ) → former-line-at ws i ≡ line-at ws i = λ i. ap (λ o. line-from o i) same in
+    record {
+      line = lines-same;
+      part = λ i. ap (λ (l : Line). slice (l .start) (l .end) ws) (lines-same i);
+      count = ap count-from same;
+      place = ap (λ o. place-from o (length ws - 1)) same;
+    }
 
 -- and each step from any place
 pub record Same-step (ws : List ℤ) (e : ℕ) : Type 0 where
@@ -188,3 +199,38 @@ old-step ws e f =
     stepped : (e : ℕ) → former-line-before ws e ≡ line-before (form-of ws) ws e → former-step-back ws e ≡ step-back ws e
     stepped zero q = refl
     stepped (suc e) q = ap (λ (o : Option Found). elim o [ some f ↦ line f | none ↦ no-line 20 ]) q
+
+-- ---- "0 for an old list"
+
+told-zero : (fs : List Found) (k : ℕ) {f : Found} → All-in-range without-depth (conditions-of fs) → getElem? fs k ≡ some f → f .condition .depth ≡ 0
+told-zero [] k h q = none-is-not q
+told-zero (g ∷ fs) zero h q = subst (λ (x : Found). x .condition .depth ≡ 0) (some-inj q) (h .0 .1)
+told-zero (g ∷ fs) (suc k) h q = told-zero fs k (h .2) q
+
+abbrev depth-of : Line → ℕ
+depth-of l = l .depth
+
+pub old-depth : (ws : List ℤ) → form-of ws ≡ without-depth → (i : ℤ) → line-at ws i .depth ≡ 0
+unfolding line-at-within read-list
+old-depth ws e i = by-lines (lines ws) refl i
+  where
+    at-index : (fs : List Found) → All-in-range without-depth (conditions-of fs) → (k : ℕ) (o : Option Found) → getElem? fs k ≡ o
+        → depth-of (elim o [ some f ↦ line f | none ↦ no-line 21 ]) ≡ 0
+    at-index fs h k none q = refl
+    at-index fs h k (some f) q = told-zero fs k h q
+
+    by-lines : (o : Option (List Found)) → lines ws ≡ o → (i : ℤ) → line-from o i .depth ≡ 0
+    by-lines none q i = refl
+    by-lines (some fs) q (negsuc k) = refl
+    by-lines (some fs) q (pos k) =
+        let w = written-read ws (conditions-of fs) (ap (λ (o : Option (List Found)). o >>= λ fs. some (conditions-of fs)) q) in
+        at-index fs (subst (λ form. All-in-range form (conditions-of fs)) e (w .ranges)) k (getElem? fs k) refl
+
+pub old-step-depth : (ws : List ℤ) → form-of ws ≡ without-depth → (e : ℕ) → step-back ws e .depth ≡ 0
+unfolding step-back-within
+old-step-depth ws f zero = refl
+old-step-depth ws f (suc e) = by-line (line-before (form-of ws) ws (suc e)) refl
+  where
+    by-line : (o : Option Found) → line-before (form-of ws) ws (suc e) ≡ o → depth-of (elim o [ some f ↦ line f | none ↦ no-line 20 ]) ≡ 0
+    by-line none q = refl
+    by-line (some g) q = subst (λ form. Depth-in-range form (g .condition .depth)) f (line-only (form-of ws) ws (suc e) g q .numbers .1)

@@ -1,7 +1,7 @@
 -- The words that are read as a list are exactly the well-formed lists, with their conditions (`read-list-iff`); anything
 -- else is torn (`malformed-iff`). What is written is read: by induction on the conditions, first one first, since where those
 -- before are read the next one is read after them (`lines-back`). Only what is written is read: by induction on the count,
--- last one first (`lines-only`). Both for either form; the last word tells which it is (`told-by`). Assumes nothing.
+-- last one first (`lines-only`). Both for either form; the last word tells which it is (`form-written`). Assumes nothing.
 use Prim.Native.Nat.{ℕ, zero, suc, _+_, _-_, _≤_, _<_}
 use mathlib.Core.Path.{_≡_, refl, sym, ap, ap₂, _∙_, subst}
 use mathlib.Core.Logic.{_↔_}

@@ -10,7 +10,7 @@ use mathlib.Core.Option.{Option, none, some}
 use mathlib.Core.Bool.{true, false}
 use mathlib.Core.List.{List, [], _∷_, _++_, map, reverse}
 use lib.IntN.{ℤ, pos}
-use lib.ListN.{length, getD, getElem?, replicate}
+use lib.ListN.{length, getElem?, replicate}
 use Rattle.script.specs.declared.Line.{Line}
 use Rattle.script.specs.declared.Rule.the-variants.{Exit, Main}
 use Rattle.script.specs.Syntax.{truth}
@@ -18,7 +18,7 @@ use Rattle.script.specs.Conditions.{Condition, condition}
 use Rattle.script.specs.Words.{Form, without-depth, with-depth, rule-number, formula-words}
 use Rattle.script.specs.WellFormed.{Well-formed}
 use Rattle.script.specs.Rows.{row-of}
-use Rattle.script.specs.Listing.{form-of, Found, no-line, line, read-expr-within, read-formula-within, spelled-within, found-within, line-before-within, lines-before-within, lines, lines-within, read-list, line-at, line-at-within, part-at, condition-count, condition-count-within, first-place, first-place-within, step-back, step-back-within, next-place, next-place-within}
+use Rattle.script.specs.Listing.{last-word, count-told, form-of, Found, no-line, line, read-expr-within, read-formula-within, spelled-within, found-within, line-before-within, lines-before-within, lines, lines-within, read-list, line-at, line-at-within, part-at, condition-count, condition-count-within, first-place, first-place-within, step-back, step-back-within, next-place, next-place-within}
 use Rattle.script.specs.Computed.{numbers, counted-down}
 use Rattle.theorems.specs.ReadBack.{tested, written-read}
 use Rattle.theorems.specs.Lookup.{count-written, line-at-index, part-at-index, walk-back, walk-back-list, walk-back-malformed}
@@ -39,6 +39,10 @@ deep = counted-down (17 ∷ 1 ∷ 5 ∷ 1 ∷ 1 ∷ 16 ∷ 4 ∷ 6 ∷ 1 ∷ 0 �
 deep-conditions : List Condition
 deep-conditions = condition Exit 5 1 (truth false) ∷ condition Main 6 0 (truth true) ∷ []
 
+-- true for the script at row 6, with this depth
+unfoldable pub at-depth : ℕ → List ℤ
+at-depth d = counted-down (16 ∷ 4 ∷ 6 ∷ 1 ∷ d ∷ []) 1
+
 -- a count of 1, and no condition
 unfoldable torn : List ℤ
 torn = numbers (1 ∷ [])
@@ -54,7 +58,7 @@ record Facts : Type 0 where
   counted : condition-count two ≡ 2
   uncounted : condition-count torn ≡ 0
   many : length two-conditions ≡ 2
-  claimed : getD torn (length torn - 1) (pos 0) ≡ pos 1
+  claimed : count-told (last-word torn) ≡ 1
   place : first-place two ≡ 8
   last-step : step-back two 8 ≡ record { number = 0; kind = 4; row = 6; depth = 0; start = 4; end = 5 }
   next : next-place two 8 ≡ 4
@@ -69,9 +73,10 @@ record Facts : Type 0 where
   deep-place : first-place deep ≡ 10
   deep-step : step-back deep 10 ≡ record { number = 0; kind = 4; row = 6; depth = 0; start = 5; end = 6 }
   deep-next : next-place deep 10 ≡ 5
+  too-deep : line-at (at-depth 8) (pos 0) .number ≡ 20
 
 facts : Facts
-unfolding two two-conditions deep deep-conditions torn numbers counted-down row-of read-expr-within read-formula-within spelled-within found-within line-before-within lines-before-within lines-within read-list line-at-within condition-count-within first-place-within step-back-within next-place-within
+unfolding two two-conditions deep deep-conditions at-depth torn numbers counted-down row-of read-expr-within read-formula-within spelled-within found-within line-before-within lines-before-within lines-within read-list line-at-within condition-count-within first-place-within step-back-within next-place-within
 facts = record {
   read = refl;
   first = refl;
@@ -98,6 +103,7 @@ facts = record {
   deep-place = refl;
   deep-step = refl;
   deep-next = refl;
+  too-deep = refl;
 }
 
 two-formed : Well-formed two two-conditions
@@ -149,6 +155,10 @@ module _ (l : List ℤ → ℤ → Line) (meets : (ws : List ℤ) (i : ℤ) → 
       let a = h deep deep-conditions deep-formed 0 (omega (linear, facts .deep-many)) in
       let b : l deep (pos 0) .depth ≡ 1 = ap (λ (x : Line). x .depth) (meets deep (pos 0) ∙ facts .deep-first) in
       omega linear
+
+  -- "20 when the fourth word is not 0 to 7"
+  pub takes-any-depth : ((d : ℕ) → l (at-depth d) (pos 0) .number ≢ 20) → ⊥
+  takes-any-depth h = h 8 (ap (λ (x : Line). x .number) (meets (at-depth 8) (pos 0)) ∙ facts .too-deep)
 
   pub accepts-all-words : ((ws : List ℤ) (i : ℤ) → l ws i .number ≢ 20) → ⊥
   accepts-all-words h = h torn (pos 0) (ap (λ (x : Line). x .number) (meets torn (pos 0)) ∙ facts .refused)
@@ -219,10 +229,8 @@ module _ (n : List ℤ → ℕ) (meets : (ws : List ℤ) → n ws ≡ condition-
   counts-all-words h = let a = h torn in omega (linear, meets torn, facts .uncounted)
 
   -- the count that the last word claims, nothing read
-  pub counts-unread : ((ws : List ℤ) → pos (n ws) ≡ getD ws (length ws - 1) (pos 0)) → ⊥
-  counts-unread h =
-      let a : n torn ≡ 1 = cc (h torn, facts .claimed) in
-      omega (linear, meets torn, facts .uncounted)
+  pub counts-unread : ((ws : List ℤ) → n ws ≡ count-told (last-word ws)) → ⊥
+  counts-unread h = let a = h torn in omega (linear, meets torn, facts .claimed, facts .uncounted)
 
   -- words that are too many for a list
   pub counts-too-long : (ws : List ℤ) → 16384 < length ws → 0 < n ws → ⊥

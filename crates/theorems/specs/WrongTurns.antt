@@ -14,6 +14,8 @@ use lib.ListN.{length}
 use Rattle.script.specs.declared.StatementRow.the-variants.{Skip, Assign, Sequence, If, While, Assert}
 use Rattle.script.specs.declared.Row.{Row}
 use Rattle.script.specs.declared.Row.the-variants as Row
+use Rattle.script.specs.declared.Rule.{Rule}
+use Rattle.script.specs.declared.Rule.the-variants.{Exit, Floor, Step, Main, Guard}
 use borrow.Author.Tests.{le-ltb}
 use Rattle.script.specs.Syntax.{Tree}
 use Rattle.script.specs.Meaning.{State, modZ, eqZ, whole, value, holds, defined, definedᶠ}
@@ -90,18 +92,6 @@ replaced-twice = record {
   depths = right-depths;
 }
 
-abbrev pub without-row : Rules
-without-row = walked (record {
-  sequence = right-listed .sequence;
-  branches = right-listed .branches;
-  guarded = right-listed .guarded;
-  looped = right-listed .looped;
-  within = right-listed .within;
-  trailed = λ c. pos (rule-number (c .rule)) ∷ pos (length (formula-words (c .claim))) ∷ pos (c .depth) ∷ [];
-})
-
--- ---- wrong turns of 02, P9
-
 -- with trailers so
 abbrev trailed-by : (Condition → List ℤ) → Rules
 trailed-by t = walked (record {
@@ -113,15 +103,28 @@ trailed-by t = walked (record {
   trailed = t;
 })
 
+abbrev pub without-row : Rules
+without-row = trailed-by (λ c. pos (rule-number (c .rule)) ∷ pos (length (formula-words (c .claim))) ∷ pos (c .depth) ∷ [])
+
+-- ---- wrong turns of 02, P9
+
 -- "after the length", not before it
 abbrev pub depth-before-length : Rules
 depth-before-length =
     trailed-by (λ c. pos (rule-number (c .rule)) ∷ pos (c .row) ∷ pos (c .depth) ∷ pos (length (formula-words (c .claim))) ∷ [])
 
--- the loop itself is counted among those that enclose it
+-- the loop itself is counted among those that enclose it; main has 0
+abbrev with-itself : Rule → ℕ → ℕ
+with-itself Exit d = suc d
+with-itself Floor d = suc d
+with-itself Step d = suc d
+with-itself Main d = d
+with-itself Guard d = suc d
+
 abbrev pub itself-counted : Rules
 itself-counted =
-    trailed-by (λ c. pos (rule-number (c .rule)) ∷ pos (c .row) ∷ pos (length (formula-words (c .claim))) ∷ pos (suc (c .depth)) ∷ [])
+    trailed-by
+    (λ c. pos (rule-number (c .rule)) ∷ pos (c .row) ∷ pos (length (formula-words (c .claim))) ∷ pos (with-itself (c .rule) (c .depth)) ∷ [])
 
 -- the form of 01 with the last word of the new one
 abbrev pub depth-lost : Rules
