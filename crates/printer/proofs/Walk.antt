@@ -12,11 +12,12 @@ use lib.ListN.{length, getD, take, drop, length-append, length-drop}
 use lib.Seq.{getD-drop, drop-drop, take-append-seam, drop-append-seam}
 use Rattle.script.specs.Rows.{field-number, variables}
 use Rattle.script.specs.Conditions.{Condition}
-use Rattle.script.specs.Words.{formula-words, rule-number, Form, without-depth, with-depth, trailer, line-words, all-lines, count-word, list-words}
-use Rattle.script.specs.Listing.{trailer-length, form-of}
+use Rattle.script.specs.Words.{formula-words, rule-number, trailer, line-words, all-lines, count-word, list-words}
+use Rattle.script.specs.Listing.{form-of}
 use Rattle.script.specs.WellFormed.{All-in-range, In-rangeᶠ}
 use Rattle.script.specs.Syntax.{Formula}
 use Rattle.theorems.specs.Writing.{Wrote, Left, wrote-nothing, then}
+use Rattle.theorems.specs.Line.{trailer-size}
 use Rattle.theorems.specs.Reading.{formula-back}
 use Rattle.list_reader.specs.Lines.{Tail}
 use Rattle.list_reader.specs.Ends.{rest-of, after-formula, Formula-ends, left-after, ends-past}
@@ -78,10 +79,6 @@ pub record Turn (ws : List ℤ) (i e n : ℕ) (cs : List Condition) : Type 0 whe
   pub formula : take (e - i) (drop i ws) ≡ formula-words (first .claim)
   pub size : length (take (e - i) (drop i ws)) ≡ e - i
   pub ahead : Ahead ws (e + n) others
-
-trailer-size : (form : Form) (c : Condition) → length (trailer form c) ≡ trailer-length form
-trailer-size without-depth c = refl
-trailer-size with-depth c = refl
 
 -- the line of c, then the lines of cs and the count
 regroup : (part trail rest : List ℤ) (n : ℤ) → ((part ++ trail) ++ rest) ++ (n ∷ []) ≡ part ++ (trail ++ (rest ++ (n ∷ [])))

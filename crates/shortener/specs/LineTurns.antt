@@ -11,6 +11,7 @@ use Rattle.script.specs.Conditions.{Condition}
 use Rattle.script.specs.Words.{Form, without-depth, with-depth, formula-words, depth-words, trailer, line-words, all-lines, count-word}
 use Rattle.script.specs.Listing.{trailer-length, form-of}
 use Rattle.theorems.specs.Writing.{Wrote, fitted, stopped, then, wrote-as, wrote-length}
+use Rattle.theorems.specs.Line.{trailer-size}
 use Rattle.theorems.specs.WordsAt.{Stands, stands-as, inside, word, past, front, behind, formula, node-inside}
 use Rattle.shortening.specs.Simplify.{order, shortenᶠ, shorten-condition, shorten-all}
 use Rattle.shortening.specs.Never.{never-longer}
@@ -19,10 +20,6 @@ use Rattle.shortener.specs.Turns.{Begins, Wrote-short}
 use Rattle.shortener.specs.Lines.{Trailing, fourth, Trailed, Listed, All-written, rest-words, Lines-left, Lining}
 
 -- ---- a trailer that stands at a place
-
-trailer-size : (form : Form) (c : Condition) → length (trailer form c) ≡ trailer-length form
-trailer-size without-depth c = refl
-trailer-size with-depth c = refl
 
 module _ (ws : List ℤ) (at : ℕ) where
   -- its fourth word is the depth

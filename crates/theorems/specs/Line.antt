@@ -74,6 +74,9 @@ trailer-ends : (form : Form) (d : ℕ) → 3 + length (depth-words form d) ≡ t
 trailer-ends without-depth d = refl
 trailer-ends with-depth d = refl
 
+pub trailer-size : (form : Form) (c : Condition) → length (trailer form c) ≡ trailer-length form
+trailer-size form c = omega (linear, trailer-ends form (c .depth))
+
 -- the word after the length tells the depth of a condition in range, whatever stands behind the trailer
 depth-told : (form : Form) (d : ℕ) (tail : List ℤ) → Depth-in-range form d
     → (depth-word form (getD (depth-words form d ++ tail) 0 (pos 0)) ≡ pos d) × (d < depth-limit)

@@ -35,7 +35,7 @@ outcome-by cs need table list scratch =
       | accepted ↦ outcome-for need (cs (tree table)) list scratch
     ]
 
--- with the conditions of before P5, by the present rule for scratch
+-- with the conditions of before P5, by the present rule for scratch and in the present form of lists
 unfoldable pub outcome₀ : List ℤ → ℕ → ℕ → Outcome
 outcome₀ table list scratch = outcome-by conditions₀ (scratch-need table) table list scratch
 

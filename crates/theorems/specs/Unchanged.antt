@@ -1,7 +1,7 @@
 -- 02, P5: "What has no div or mod adds nothing." D stands exactly where a div or mod does (`divisors-stand`); so a script
 -- whose guards and assigned expressions have none (`Undivided`) has the conditions that 01 gave it (`same-conditions`, with
--- 01's W and walk stated again), and none of them ever fails to be worked out (`always-defined`). By induction.
--- Assumes nothing.
+-- 01's W and walk stated again, and the depth of 02, P9), and none of them ever fails to be worked out (`always-defined`). By
+-- induction. Assumes nothing.
 use Prim.Native.Nat.{ℕ, suc}
 use mathlib.Core.Path.{_≡_, refl, sym, ap, ap₂, _∙_}
 use mathlib.Core.Bool.{Bool, true, false, _||_, false≢true}

@@ -3,7 +3,7 @@
 use crate::run;
 
 // Each if adds 7 words to what is to hold: and, implies, true, implies, not, true and the else part's. So main of eight has
-// 1 + 1 + 1 + 8 * 7, and the list with its trailer and the count 63 words.
+// 1 + 1 + 1 + 8 * 7, and the list with its trailer and the count 64 words.
 pub fn eight() {
     run::rows(
         b"nesting 8",
