@@ -1,4 +1,4 @@
-//! The answers of the proved library on 350,000 inputs, as recorded digests.
+//! The answers of the proved library on 360,000 inputs, as recorded digests.
 //!
 //! Inputs: tables with lengths of both buffers, through the check and both
 //! generators, with every answer and every word of both buffers; lists, through
