@@ -3,16 +3,16 @@
 
 mod command;
 mod files;
+mod stored;
 mod tables;
-
-use std::path::{Path, PathBuf};
 
 use cli::{Answer, Order, Source};
 use command::{vcgen, written};
-use files::{expected, expected_by_depth, rows, text, texts, top};
+use files::{expected, text, top};
 use fuzz::limits::nested;
 use fuzz::scripts::{script_words, Shape};
 use fuzz::{seed_from_environment, tell, Prng};
+use stored::{assert_is_stored, examples, printed};
 use tables::file_of;
 
 const SEQUENCE: i32 = 34;
@@ -79,30 +79,9 @@ fn sorted_words(listed: &str, table: &[i32]) -> String {
     text
 }
 
-fn examples() -> Vec<PathBuf> {
-    [rows(), texts()].concat()
-}
-
-/// What the command prints with some arguments before the file.
-fn printed(arguments: &[&str], file: &Path) -> String {
-    let output = vcgen(&[arguments, &[file.to_str().unwrap()]].concat(), "");
-    let (status, out, error) = written(&output);
-    assert_eq!((status, error), (Some(0), ""), "{}", file.display());
-    out.to_string()
-}
-
 #[test]
 fn an_example_gives_the_order_that_is_stored_beside_it() {
-    let mut stored = 0;
-    for file in examples() {
-        if let Some(expected) = expected_by_depth(&file) {
-            for arguments in [&["--by-depth"][..], &["list", "--by-depth"]] {
-                assert_eq!(printed(arguments, &file), expected, "{}", file.display());
-            }
-            stored += 1;
-        }
-    }
-    assert_eq!(stored, 2);
+    assert_is_stored("--by-depth");
 }
 
 /// As they are and shortened, for people and as words.

@@ -3,6 +3,7 @@
 
 mod command;
 mod files;
+mod stored;
 
 use std::fs;
 use std::path::{Path, PathBuf};
@@ -10,28 +11,17 @@ use std::path::{Path, PathBuf};
 use cli::Source;
 use command::{vcgen, written};
 use evaluator::{Evaluator, State, Whole};
-use files::{expected, expected_short, name, rows, text, texts, top};
+use files::{expected, name, text, top};
 use fuzz::{seed_from_environment, Prng};
 use leqwarti::{Formula, Plan};
 use reference::shortened_formula;
-
-fn examples() -> Vec<PathBuf> {
-    [rows(), texts()].concat()
-}
+use stored::{assert_is_stored, examples, printed};
 
 /// The examples that are not refused.
 fn planned() -> Vec<PathBuf> {
     let mut files = examples();
     files.retain(|file| !expected(file).starts_with("refused"));
     files
-}
-
-/// What the command prints with some arguments before the file.
-fn printed(arguments: &[&str], file: &Path) -> String {
-    let output = vcgen(&[arguments, &[file.to_str().unwrap()]].concat(), "");
-    let (status, out, error) = written(&output);
-    assert_eq!((status, error), (Some(0), ""), "{}", file.display());
-    out.to_string()
 }
 
 /// What `--words` prints, taken apart.
@@ -78,16 +68,7 @@ fn condition(line: &str) -> (String, Vec<i32>) {
 
 #[test]
 fn an_example_gives_the_short_conditions_that_are_stored_beside_it() {
-    let mut stored = 0;
-    for file in examples() {
-        if let Some(expected) = expected_short(&file) {
-            for arguments in [&["--short"][..], &["list", "--short"]] {
-                assert_eq!(printed(arguments, &file), expected, "{}", file.display());
-            }
-            stored += 1;
-        }
-    }
-    assert_eq!(stored, 2);
+    assert_is_stored("--short");
 }
 
 /// README.md shows the first lines and the third condition of one.

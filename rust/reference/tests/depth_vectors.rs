@@ -12,20 +12,6 @@ use vectors::Fields;
 
 const VECTORS: &str = include_str!("vectors/P9.jsonl");
 
-/// What the generator is to answer.
-fn outcome(fields: &Fields) -> Outcome {
-    let words = fields.number("words");
-    assert_eq!(words, fields.words("list").len());
-    Outcome {
-        number: fields.number("number"),
-        row: fields.number("row"),
-        conditions: fields.number("conditions"),
-        words,
-        list: fields.words_in_room("list", "room"),
-        scratch: vec![0; fields.number("scratch")],
-    }
-}
-
 /// What the list reader is to answer.
 fn line_of(fields: &Fields) -> Line {
     Line {
@@ -55,7 +41,7 @@ fn every_line() {
             ["conditions", "list", "number", "room", "row", "scratch", "table", "words"] => {
                 let (room, scratch) = (fields.number("room"), fields.number("scratch"));
                 let answer = generate(&fields.words("table"), room, scratch);
-                assert_eq!(answer, outcome(&fields), "line {place}");
+                assert_eq!(answer, fields.outcome(), "line {place}");
                 *tables_by_number.entry(answer.number).or_insert(0) += 1;
             }
             ["depth", "end", "index", "kind", "list", "number", "row", "start"] => {

@@ -37,20 +37,6 @@ fn answer(fields: &Fields) -> Outcome {
     outcome
 }
 
-/// What the generator is to answer.
-fn outcome(fields: &Fields) -> Outcome {
-    let words = fields.number("words");
-    assert_eq!(words, fields.words("list").len());
-    Outcome {
-        number: fields.number("number"),
-        row: fields.number("row"),
-        conditions: fields.number("conditions"),
-        words,
-        list: fields.words_in_room("list", "room"),
-        scratch: vec![0; fields.number("scratch")],
-    }
-}
-
 #[test]
 fn every_line() {
     let names = [
@@ -64,5 +50,5 @@ fn every_line() {
         "words",
     ];
     let lines = [(0, 40), (11, 25), (12, 20)];
-    expect_lines(VECTORS, &names, lines, answer, outcome);
+    expect_lines(VECTORS, &names, lines, answer, |fields| fields.outcome());
 }

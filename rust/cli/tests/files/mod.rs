@@ -46,20 +46,12 @@ pub fn expected(file: &Path) -> String {
     }
 }
 
-/// What the command is to print of an example with `--short`, where that is stored.
-pub fn expected_short(file: &Path) -> Option<String> {
+/// What the command is to print of an example with an option, where that is stored.
+pub fn expected_with(option: &str, file: &Path) -> Option<String> {
+    let form = option.trim_start_matches("--");
     let stored = match file.extension().and_then(|extension| extension.to_str()) {
-        Some("rows") => file.with_extension("short.expected"),
-        _ => file.with_extension("script.short.expected"),
-    };
-    stored.exists().then(|| text(&stored))
-}
-
-/// What the command is to print of an example with `--by-depth`, where that is stored.
-pub fn expected_by_depth(file: &Path) -> Option<String> {
-    let stored = match file.extension().and_then(|extension| extension.to_str()) {
-        Some("rows") => file.with_extension("by-depth.expected"),
-        _ => file.with_extension("script.by-depth.expected"),
+        Some("rows") => file.with_extension(format!("{form}.expected")),
+        _ => file.with_extension(format!("script.{form}.expected")),
     };
     stored.exists().then(|| text(&stored))
 }

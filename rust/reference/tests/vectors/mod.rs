@@ -37,6 +37,21 @@ impl<'a> Fields<'a> {
         words.map(|word| word.parse().expect("a word")).collect()
     }
 
+    /// What the generator is to answer.
+    #[allow(dead_code)] // the lines of P6 and P7 are of other entries
+    pub fn outcome(&self) -> reference::Outcome {
+        let words = self.number("words");
+        assert_eq!(words, self.words("list").len());
+        reference::Outcome {
+            number: self.number("number"),
+            row: self.number("row"),
+            conditions: self.number("conditions"),
+            words,
+            list: self.words_in_room("list", "room"),
+            scratch: vec![0; self.number("scratch")],
+        }
+    }
+
     /// The words, with zeros after them as far as the room goes.
     pub fn words_in_room(&self, name: &str, room: &str) -> Vec<i32> {
         let mut words = self.words(name);
