@@ -1,5 +1,5 @@
-// The rules of 02, P6, at a node whose parts are already shortened. A rule looks only at the shapes of the parts, and says what
-// becomes of the node; both are small numbers.
+// The rules of 02, P6, in the order of P10, at a node whose parts are already shortened. A rule looks only at the shapes of the
+// parts, and says what becomes of the node; both are small numbers.
 
 use script::kinds;
 ghost use mathlib.Core.Path.{_≡_};
@@ -48,14 +48,14 @@ pub const PASSED: u8 = 7;
 
 // ---- the rules, in their order
 
-// "0 − E becomes negate E; E − 0 becomes E"
+// "E − 0 becomes E"; after it "0 − E becomes negate E"
 fn minus_change(x: u8, y: u8) -> u8
     ensures { λ r. ⌜ r ≡ change-code (arith-change order Minus (shaped x) (shaped y)) ⌝ }
 {
-    if x == ZERO {
-        NEGATED_SECOND
-    } else if y == ZERO {
+    if y == ZERO {
         FIRST
+    } else if x == ZERO {
+        NEGATED_SECOND
     } else {
         KEPT
     }

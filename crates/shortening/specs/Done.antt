@@ -1,12 +1,16 @@
--- Nothing is left to shorten: in what comes out no rule applies at any node, under either order (`shorten-done`), so a
--- second pass changes nothing (`shorten-again`). There is no exception: P6 leaves `negate 0` of 0 − 0, and no rule is for
--- that. Argument: a node that a rule changed becomes one of its parts, a negation or a value; a node that is kept is one
--- at which no rule applies. Assumes nothing.
+-- Nothing is left to shorten: in what comes out under an order, no rule applies at any node (`shorten-done`), under the
+-- other order as well (`done-under`). So a second pass changes nothing, whichever order either pass has
+-- (`shorten-again`): of a list from before P10 `8 1 0` stays. Argument: a node that a rule changed becomes one of its
+-- parts, a negation or a value; a node that is kept is one at which no rule applies. Assumes nothing.
 use mathlib.Core.Path.{_≡_, refl, ap, _∙_}
+use mathlib.Core.List.{List, [], _∷_}
+use mathlib.Core.Bool.{Bool, true, false, cond, _&&_}
 use Rattle.script.specs.declared.Operator.{Operator}
+use Rattle.script.specs.declared.Operator.the-variants.{Plus, Minus, Times, Div, Mod}
 use Rattle.script.specs.declared.Connective.{Connective}
 use Rattle.script.specs.Syntax.{Expr, const, var, mark, arith, neg, choose, Formula, truth, cmp, not, join}
-use Rattle.shortening.specs.Simplify.{shape, truth-shape, Change, Truth-change, Order, arith-change, join-change, arith-changed, join-changed, arith-node, join-node, not-node, shorten, shortenᶠ}
+use Rattle.script.specs.Conditions.{Condition, condition}
+use Rattle.shortening.specs.Simplify.{Shape, constant-0, shape, truth-shape, only, fits, Change, Truth-change, Order, zero-minus-first, minus-zero-first, arith-change, join-change, arith-changed, join-changed, arith-node, join-node, not-node, shorten, shortenᶠ, shorten-all}
 use Rattle.shortening.specs.Simplify as Simplify
 
 module _ (o : Order) where
@@ -94,5 +98,58 @@ module _ (o : Order) where
     done-staysᶠ (join c f g) h =
         (λ i. join-node c (done-staysᶠ f (h .1) i) (done-staysᶠ g (h .2) i)) ∙ kept-nodeᶠ c f g (h .0)
 
-  pub shorten-again : (f : Formula) → shortenᶠ o (shortenᶠ o f) ≡ shortenᶠ o f
-  shorten-again f = done-staysᶠ (shortenᶠ o f) (shorten-doneᶠ f)
+-- ---- under another order
+
+-- x and y say that the first and the second part are 0
+first-rules : (x y : Bool) → cond (x && true) Simplify.negated-second (cond y Simplify.first Simplify.kept) ≡ Simplify.kept
+    → cond y Simplify.first (cond (x && true) Simplify.negated-second Simplify.kept) ≡ Simplify.kept
+first-rules true y e = cc
+first-rules false true e = cc
+first-rules false false e = refl
+
+last-rules : (x y : Bool) → cond y Simplify.first (cond (x && true) Simplify.negated-second Simplify.kept) ≡ Simplify.kept
+    → cond (x && true) Simplify.negated-second (cond y Simplify.first Simplify.kept) ≡ Simplify.kept
+last-rules x true e = cc
+last-rules true false e = cc
+last-rules false false e = refl
+
+-- both orders have the same rules
+kept-under : (o u : Order) (p : Operator) (x y : Shape) → arith-change o p x y ≡ Simplify.kept
+    → arith-change u p x y ≡ Simplify.kept
+kept-under zero-minus-first zero-minus-first p x y e = e
+kept-under minus-zero-first minus-zero-first p x y e = e
+kept-under zero-minus-first minus-zero-first Minus x y e =
+    first-rules (fits (only constant-0) x) (fits (only constant-0) y) e
+kept-under minus-zero-first zero-minus-first Minus x y e =
+    last-rules (fits (only constant-0) x) (fits (only constant-0) y) e
+kept-under zero-minus-first minus-zero-first Plus x y e = e
+kept-under zero-minus-first minus-zero-first Times x y e = e
+kept-under zero-minus-first minus-zero-first Div x y e = e
+kept-under zero-minus-first minus-zero-first Mod x y e = e
+kept-under minus-zero-first zero-minus-first Plus x y e = e
+kept-under minus-zero-first zero-minus-first Times x y e = e
+kept-under minus-zero-first zero-minus-first Div x y e = e
+kept-under minus-zero-first zero-minus-first Mod x y e = e
+
+module _ (o u : Order) where
+  mutual
+    pub done-under : (e : Expr) → Done o e → Done u e
+    done-under (const z) h = tt
+    done-under (var v) h = tt
+    done-under (mark m) h = tt
+    done-under (arith p a b) h = (kept-under o u p (shape a) (shape b) (h .0), done-under a (h .1), done-under b (h .2))
+    done-under (neg a) h = done-under a h
+    done-under (choose f a b) h = (done-underᶠ f (h .0), done-under a (h .1), done-under b (h .2))
+
+    pub done-underᶠ : (f : Formula) → Doneᶠ o f → Doneᶠ u f
+    done-underᶠ (truth b) h = tt
+    done-underᶠ (cmp r a b) h = (done-under a (h .0), done-under b (h .1))
+    done-underᶠ (not f) h = (h .0, done-underᶠ f (h .1))
+    done-underᶠ (join c f g) h = (h .0, done-underᶠ f (h .1), done-underᶠ g (h .2))
+
+  pub shorten-again : (f : Formula) → shortenᶠ u (shortenᶠ o f) ≡ shortenᶠ o f
+  shorten-again f = done-staysᶠ u (shortenᶠ o f) (done-underᶠ (shortenᶠ o f) (shorten-doneᶠ o f))
+
+  pub all-again : (cs : List Condition) → shorten-all u (shorten-all o cs) ≡ shorten-all o cs
+  all-again [] = refl
+  all-again (c ∷ cs) = λ i. condition (c .rule) (c .row) (c .depth) (shorten-again (c .claim) i) ∷ all-again cs i

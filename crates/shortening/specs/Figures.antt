@@ -1,5 +1,5 @@
 -- 02, P6, by computation: each rule once, in 02's order; rules that fit only when a part was shortened; what has no rule.
--- Lists are in `ListFigures`. Assumes nothing.
+-- Lists are in `ListFigures`, 0 − 0 under both orders (02, P10) in `OrderFigures`. Assumes nothing.
 use mathlib.Core.Path.{_≡_, refl}
 use mathlib.Core.Bool.{true, false}
 use mathlib.Core.List.{List, [], _∷_, map}
@@ -37,17 +37,15 @@ expression-figures =
     -- "E × 1 and 1 × E become E"
     ∷ (arith Times x 𝟏, x)
     ∷ (arith Times 𝟏 x, x)
-    -- "in this order": 0 − 0 has two rules, and the first is taken
-    ∷ (arith Minus 𝟎 𝟎, neg 𝟎)
-    ∷ (arith Plus x (arith Minus 𝟎 𝟎), arith Plus x (neg 𝟎))
-    ∷ (arith Minus 𝟎 (arith Minus 𝟎 𝟎), neg (neg 𝟎))
+    -- two rules fit
+    ∷ (arith Minus 𝟎 𝟎, 𝟎)
     ∷ (arith Plus 𝟎 𝟎, 𝟎)
     ∷ (arith Times 𝟏 𝟏, 𝟏)
     -- "parts first": these rules fit only when a part was shortened
     ∷ (arith Minus (arith Plus 𝟎 𝟎) x, neg x)
     ∷ (arith Minus x (arith Plus 𝟎 𝟎), x)
     ∷ (arith Plus x (arith Times 𝟎 𝟏), x)
-    ∷ (arith Plus (arith Minus 𝟎 𝟎) x, arith Plus (neg 𝟎) x)
+    ∷ (arith Plus (arith Minus 𝟎 𝟎) x, x)
     ∷ (arith Times (arith Plus 𝟎 𝟏) x, x)
     ∷ (arith Times x (arith Minus 𝟏 𝟎), x)
     -- in every part of a node that has no rule

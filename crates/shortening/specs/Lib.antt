@@ -1,6 +1,7 @@
--- 02, P6: shorter conditions. First what is to be believed: the rules, and what the two entries answer and leave. Then that
--- the rules say 02's sentences; that conditions hold in the same states, and are never longer; what the entries answer, by
--- occasions; demand 3 and verdicts through the shortened list, with a witness; last figures, and wrong turns.
+-- 02, P6 and P10: shorter conditions. First what is to be believed: the rules, and what the two entries answer and leave.
+-- Then that the rules say 02's sentences; that conditions hold in the same states, and are never longer; what the entries
+-- answer, by occasions; what P10 changed; demand 3 and verdicts through the shortened list, with a witness; last figures,
+-- and wrong turns.
 
 -- ---- the rules, and the answers
 
@@ -26,6 +27,13 @@ pub mod Lists
 pub mod Answers
 pub mod TwoLists
 pub mod Handed
+-- ---- P10's order of the first two rules, beside P6's
+
+pub mod Kept
+pub mod Moved
+pub mod Orders
+pub mod NegatedZero
+pub mod Changed
 -- ---- from conditions and verdicts to runs
 
 pub mod Through
@@ -35,6 +43,7 @@ pub mod Witness
 
 pub mod Figures
 pub mod ListFigures
+pub mod OrderFigures
 pub mod Variants
 pub mod Wrong
 pub mod WrongAnswers

@@ -29,10 +29,10 @@ three =
     ∷ 22 ∷ 17 ∷ 5 ∷ 2047 ∷ 2
     ∷ 24 ∷ 16 ∷ 18 ∷ 9 ∷ 3 ∷ 1 ∷ 0 ∷ 4 ∷ 9 ∷ 7 ∷ 3 ∷ [])
 
--- of 0 − 0, `8 1 0` is left
+-- of 0 − 0, `1 0` is left
 unfoldable pub three-short : List ℤ
 three-short =
-    numbers (20 ∷ 8 ∷ 1 ∷ 0 ∷ 2 ∷ 1023 ∷ 1 ∷ 7 ∷ 6
+    numbers (20 ∷ 1 ∷ 0 ∷ 2 ∷ 1023 ∷ 1 ∷ 7 ∷ 5
     ∷ 16 ∷ 5 ∷ 2047 ∷ 1
     ∷ 24 ∷ 16 ∷ 18 ∷ 9 ∷ 3 ∷ 1 ∷ 0 ∷ 4 ∷ 9 ∷ 7 ∷ 3 ∷ [])
 
@@ -45,7 +45,7 @@ deep =
 
 unfoldable pub deep-short : List ℤ
 deep-short =
-    counted-down (20 ∷ 8 ∷ 1 ∷ 0 ∷ 2 ∷ 1023 ∷ 1 ∷ 7 ∷ 6 ∷ 1
+    counted-down (20 ∷ 1 ∷ 0 ∷ 2 ∷ 1023 ∷ 1 ∷ 7 ∷ 5 ∷ 1
     ∷ 16 ∷ 5 ∷ 2047 ∷ 1 ∷ 7
     ∷ 24 ∷ 16 ∷ 18 ∷ 9 ∷ 3 ∷ 1 ∷ 0 ∷ 4 ∷ 9 ∷ 7 ∷ 0 ∷ []) 3
 
@@ -73,9 +73,9 @@ list-figures =
     ∷ ((padded, 4), record { number = 31; used = 0; list = numbers (0 ∷ 0 ∷ 0 ∷ 0 ∷ []) })
     ∷ ((padded, 0), record { number = 31; used = 0; list = [] })
     -- "Trailers get the new lengths."
-    ∷ ((three, 24), record { number = 0; used = 24; list = three-short })
-    ∷ ((three, 23), refuse 31 23)
-    ∷ ((three-short, 24), record { number = 0; used = 24; list = three-short })
+    ∷ ((three, 23), record { number = 0; used = 23; list = three-short })
+    ∷ ((three, 22), refuse 31 22)
+    ∷ ((three-short, 23), record { number = 0; used = 23; list = three-short })
     ∷ ((list-a without-depth, 94), record { number = 0; used = 94; list = list-a without-depth })
     ∷ ((list-a without-depth, 93), refuse 31 93)
     ∷ ((of-kind 5 2047, 6), record { number = 0; used = 5; list = numbers (17 ∷ 5 ∷ 2047 ∷ 1 ∷ 1 ∷ 0 ∷ []) })
@@ -88,10 +88,10 @@ list-figures =
     ∷ ((pos 16 ∷ padded, 0), refuse 20 0)
     ∷ (([], 0), refuse 20 0)
     -- 02, P9: "P6 writing the one it read"
-    ∷ ((deep, 27), record { number = 0; used = 27; list = deep-short })
-    ∷ ((deep, 28), record { number = 0; used = 27; list = deep-short ++ numbers (0 ∷ []) })
-    ∷ ((deep, 26), refuse 31 26)
-    ∷ ((deep-short, 27), record { number = 0; used = 27; list = deep-short })
+    ∷ ((deep, 26), record { number = 0; used = 26; list = deep-short })
+    ∷ ((deep, 27), record { number = 0; used = 26; list = deep-short ++ numbers (0 ∷ []) })
+    ∷ ((deep, 25), refuse 31 25)
+    ∷ ((deep-short, 26), record { number = 0; used = 26; list = deep-short })
     ∷ ((list-a with-depth, 98), record { number = 0; used = 98; list = list-a with-depth })
     ∷ ((list-a with-depth, 97), refuse 31 97)
     ∷ ((with-words (pos 7) (negsuc 0), 6), record { number = 0; used = 6; list = counted-down (17 ∷ 1 ∷ 7 ∷ 1 ∷ 7 ∷ []) 1 })
@@ -120,17 +120,17 @@ two-list-figures =
     ((padded, plain, pos 0), record { number = 0; which = new; start = 0; end = 1 })
     ∷ ((plain, padded, pos 0), record { number = 0; which = old; start = 0; end = 1 })
     ∷ ((plain, plain, pos 0), record { number = 0; which = old; start = 0; end = 1 })
-    ∷ ((three, three-short, pos 0), record { number = 0; which = new; start = 0; end = 6 })
-    ∷ ((three, three-short, pos 1), record { number = 0; which = new; start = 9; end = 10 })
+    ∷ ((three, three-short, pos 0), record { number = 0; which = new; start = 0; end = 5 })
+    ∷ ((three, three-short, pos 1), record { number = 0; which = new; start = 8; end = 9 })
     ∷ ((three, three-short, pos 2), record { number = 0; which = old; start = 18; end = 25 })
     -- two lists that do not belong together
     ∷ ((three, padded, pos 0), record { number = 0; which = new; start = 0; end = 3 })
     ∷ ((padded, three, pos 0), record { number = 0; which = old; start = 0; end = 3 })
     -- 02, P9: lists of both forms
-    ∷ ((deep, deep-short, pos 1), record { number = 0; which = new; start = 10; end = 11 })
+    ∷ ((deep, deep-short, pos 1), record { number = 0; which = new; start = 9; end = 10 })
     ∷ ((deep, deep-short, pos 2), record { number = 0; which = old; start = 20; end = 27 })
-    ∷ ((three, deep-short, pos 1), record { number = 0; which = new; start = 10; end = 11 })
-    ∷ ((deep, three-short, pos 1), record { number = 0; which = new; start = 9; end = 10 })
+    ∷ ((three, deep-short, pos 1), record { number = 0; which = new; start = 9; end = 10 })
+    ∷ ((deep, three-short, pos 1), record { number = 0; which = new; start = 8; end = 9 })
     ∷ ((deep, three-short, pos 2), record { number = 0; which = old; start = 20; end = 27 })
     ∷ ((three, deep, pos 2), record { number = 0; which = old; start = 18; end = 25 })
     -- "20, then 21, for the old list"

@@ -45,7 +45,7 @@ choose-size f a b =
 some-words : (e : Expr) → 0 < size e
 some-words e = node-size (expression e)
 
-some-wordsᶠ : (f : Formula) → 0 < sizeᶠ f
+pub some-wordsᶠ : (f : Formula) → 0 < sizeᶠ f
 some-wordsᶠ f = node-size (formula f)
 
 -- ---- as it was, or shorter

@@ -1,6 +1,6 @@
--- The sentences of 02, P6, as equations, without the lists of rules: what becomes of a node, in 02's order, for every E and
--- F, by what its parts have become. The first two are those of the order in force: of 0 − 0 the first leaves a negated
--- zero. That every other node stays is in `Stays`; with these equations it says all of `shorten`. Assumes nothing.
+-- The sentences of 02, P6, as equations, without the lists of rules: what becomes of a node, in the order of 02, P10, for
+-- every E and F, by what its parts have become; of 0 − 0, 0 is left. That every other node stays is in `Stays`; with
+-- these equations it says all of `shorten`. Assumes nothing.
 use mathlib.Core.Path.{_≡_, refl, sym, ap, _∙_}
 use mathlib.Core.Logic.{_≢_}
 use mathlib.Core.Bool.{Bool, true, false, cond, _&&_}
@@ -33,17 +33,17 @@ is-not false f h = refl
 pub not-0 : (e : Expr) → e ≢ 𝟎 → fits (only constant-0) (shape e) ≡ false
 not-0 e h = is-not (fits (only constant-0) (shape e)) (zero-is e) h
 
--- ---- "0 − E becomes negate E; E − 0 becomes E"
+-- ---- "E − 0 becomes E", before "0 − E becomes negate E"
 
-pub zero-minus : (z e : Expr) → E z ≡ 𝟎 → E (arith Minus z e) ≡ neg (E e)
+pub minus-zero : (e z : Expr) → E z ≡ 𝟎 → E (arith Minus e z) ≡ E e
 unfolding shorten arith-node
-zero-minus z e h = ap (λ x. arith-node order Minus x (E e)) h
+minus-zero e z h = ap (λ x. arith-node order Minus (E e) x) h
 
-pub minus-zero : (e z : Expr) → E z ≡ 𝟎 → E e ≢ 𝟎 → E (arith Minus e z) ≡ E e
+pub zero-minus : (z e : Expr) → E z ≡ 𝟎 → E e ≢ 𝟎 → E (arith Minus z e) ≡ neg (E e)
 unfolding shorten arith-node
-minus-zero e z h k =
-    ap (λ x. arith-node order Minus (E e) x) h
-    ∙ ap (λ b. arith-changed (cond (b && true) Simplify.negated-second Simplify.first) Minus (E e) 𝟎) (not-0 (E e) k)
+zero-minus z e h k =
+    ap (λ x. arith-node order Minus x (E e)) h
+    ∙ ap (λ b. arith-changed (cond b Simplify.first Simplify.negated-second) Minus 𝟎 (E e)) (not-0 (E e) k)
 
 -- ---- "E + 0 and 0 + E become E; E × 1 and 1 × E become E"
 

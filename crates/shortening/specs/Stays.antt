@@ -30,14 +30,14 @@ not-false! f h = is-not (fits (only is-false) (truth-shape f)) (false-is f) h
 neither : {R : Type 0} (x y k : R) (b c : Bool) → b ≡ false → c ≡ false → cond (b && true) x (cond c y k) ≡ k
 neither x y k b c h l = rw (h, l)
 
-pub minus-stays : (a b : Expr) → E a ≢ 𝟎 → E b ≢ 𝟎 → E (arith Minus a b) ≡ arith Minus (E a) (E b)
-unfolding shorten arith-node
-minus-stays a b h k =
-    ap (λ (t : Change). arith-changed t Minus (E a) (E b)) (neither _ _ _ _ _ (not-0 (E a) h) (not-0 (E b) k))
-
 -- .. the one that asks of the second part goes first
 nor : {R : Type 0} (x y k : R) (b c : Bool) → b ≡ false → c ≡ false → cond c y (cond (b && true) x k) ≡ k
 nor x y k b c h l = rw (h, l)
+
+pub minus-stays : (a b : Expr) → E a ≢ 𝟎 → E b ≢ 𝟎 → E (arith Minus a b) ≡ arith Minus (E a) (E b)
+unfolding shorten arith-node
+minus-stays a b h k =
+    ap (λ (t : Change). arith-changed t Minus (E a) (E b)) (nor _ _ _ _ _ (not-0 (E a) h) (not-0 (E b) k))
 
 pub plus-stays : (a b : Expr) → E a ≢ 𝟎 → E b ≢ 𝟎 → E (arith Plus a b) ≡ arith Plus (E a) (E b)
 unfolding shorten arith-node

@@ -4,7 +4,7 @@
 use Prim.Native.Nat.{ℕ, zero, suc}
 use mathlib.Core.List.{List, [], _∷_}
 use mathlib.Core.Bool.{Bool, true, false, cond}
-use lib.IntN.{pos, negℤ}
+use lib.IntN.{pos, negsuc, negℤ}
 use Rattle.script.specs.declared.Operator.{Operator}
 use Rattle.script.specs.declared.Operator.the-variants.{Plus, Minus, Times, Div}
 use Rattle.script.specs.declared.Relation.the-variants.{Less, Equal}
@@ -82,13 +82,30 @@ without-not (join c f g) = not (join c f g)
 abbrev pub not-keeps-the-value : Pass
 not-keeps-the-value = with-parts without-not neg
 
--- 0 − 0 by the other of its two rules
+-- 0 − 0 by the other of its two rules: P6's order
 abbrev exchanged : Order → Order
 exchanged zero-minus-first = minus-zero-first
 exchanged minus-zero-first = zero-minus-first
 
 abbrev pub orders-exchanged : Pass
 orders-exchanged = of-operator Minus λ rs. arith-rules (exchanged order) Minus
+
+-- 02, P10, by another way: 0 − 0 taken for none of both rules; a negated zero taken for 0, wherever it comes from
+abbrev pub zero-less-zero-kept : Pass
+zero-less-zero-kept = of-operator Minus λ rs. rule (only constant-0) (only constant-0) Simplify.kept ∷ rs
+
+abbrev without-sign : Expr → Expr
+without-sign (const (pos zero)) = const (pos zero)
+without-sign (const (pos (suc n))) = neg (const (pos (suc n)))
+without-sign (const (negsuc n)) = neg (const (negsuc n))
+without-sign (var v) = neg (var v)
+without-sign (mark m) = neg (mark m)
+without-sign (arith p x y) = neg (arith p x y)
+without-sign (neg x) = neg (neg x)
+without-sign (choose f x y) = neg (choose f x y)
+
+abbrev pub negated-zero-dropped : Pass
+negated-zero-dropped = with-parts not-node without-sign
 
 abbrev pub sign-lost : Pass
 sign-lost = of-operator Minus λ rs. rule (only constant-0) any Simplify.second ∷ rs
@@ -176,6 +193,8 @@ wrongs =
     ∷ at-formula (not-lost false) (not (truth false))
     ∷ at-formula not-keeps-the-value (not (truth true))
     ∷ at-expression orders-exchanged (arith Minus 𝟎 𝟎)
+    ∷ at-expression zero-less-zero-kept (arith Minus 𝟎 𝟎)
+    ∷ at-expression negated-zero-dropped (neg 𝟎)
     ∷ at-expression sign-lost (arith Minus 𝟎 x)
     ∷ at-expression times-zero-dropped (arith Times x 𝟎)
     ∷ at-expression divided-by-one (arith Div x 𝟏)

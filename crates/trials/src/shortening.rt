@@ -72,21 +72,21 @@ fn formulas() {
     );
 }
 
-// v0 = 0 - 0; true implies (not false and v0 + 1 * 0 = 0): rules that fit when a part was shortened. It becomes 18 words.
+// v0 = 0 - 0; true implies (not false and v0 + 1 * 0 = 0): rules that fit when a part was shortened. It becomes 17 words.
 fn padded() {
     let words = b"20 2 0 4 1 0 1 0 1 7 8 25 16 23 22 17 20 3 2 0 5 1 1 1 0 1 0 4 9 16 2\n";
-    let mut exact = [7; 18];
-    let mut short = [7; 17];
+    let mut exact = [7; 17];
+    let mut short = [7; 16];
     shorten(b"padded", words, &mut exact);
     shorten(b"padded, one word short", words, &mut short);
     shorten(b"no list", b"16 25 16 16 4 3 3 1\n", &mut exact);
 }
 
-// The same conditions with depths 7 and 0. It becomes 20 words.
+// The same conditions with depths 7 and 0. It becomes 19 words.
 fn padded_with_depths() {
     let words = b"20 2 0 4 1 0 1 0 1 7 8 7 25 16 23 22 17 20 3 2 0 5 1 1 1 0 1 0 4 9 16 0\n";
-    let mut exact = [7; 20];
-    let mut short = [7; 19];
+    let mut exact = [7; 19];
+    let mut short = [7; 18];
     shorten_with_depths(b"padded, with depths", words, -2, &mut exact);
     shorten_with_depths(
         b"padded, with depths, one word short",
@@ -97,12 +97,32 @@ fn padded_with_depths() {
     shorten_with_depths(b"depth 8", b"25 16 16 3 3 3 8\n", -1, &mut exact);
 }
 
+// 02, P10: 0 - 0 = v0 + (0 - 0); not (0 - 0 = 0); (0 - 0) - 0 = 0 - (0 - 0). Then what the order of P6 left of them, which stays.
+fn zero_minus_zero() {
+    let mut short = [7; 40];
+    shorten(
+        b"0 - 0",
+        b"20 4 1 0 1 0 3 2 0 4 1 0 1 0 1 7 14 22 20 4 1 0 1 0 1 0 2 7 9 20 4 4 1 0 1 0 1 0 4 1 0 4 1 0 1 0 4 9 17 3\n",
+        &mut short,
+    );
+    shorten(
+        b"0 - 0, from before",
+        b"20 8 1 0 3 2 0 8 1 0 1 7 10 22 20 8 1 0 1 0 2 7 7 20 8 1 0 8 8 1 0 4 9 8 3\n",
+        &mut short,
+    );
+}
+
 // true implies true, and what it becomes, in both forms
 const OLD: [i32; 7] = [25, 16, 16, 4, 3, 3, 1];
 
 const NEW: [i32; 5] = [16, 4, 3, 1, 1];
 
 const NEW_WITH_DEPTH: [i32; 6] = [16, 4, 3, 1, 0, -1];
+
+// v0 = 0 - 0, as the order of P6 left it and as that of P10 does
+const BEFORE: [i32; 10] = [20, 2, 0, 8, 1, 0, 4, 3, 6, 1];
+
+const SINCE: [i32; 9] = [20, 2, 0, 1, 0, 4, 3, 5, 1];
 
 fn two_lists() {
     shorter(&OLD, &NEW, 0);
@@ -113,6 +133,7 @@ fn two_lists() {
     shorter(&[], &NEW, 1);
     shorter(&OLD, &NEW_WITH_DEPTH, 0);
     shorter(&NEW_WITH_DEPTH, &OLD, 0);
+    shorter(&BEFORE, &SINCE, 0);
 }
 
 pub fn all() {
@@ -120,5 +141,6 @@ pub fn all() {
     formulas();
     padded();
     padded_with_depths();
+    zero_minus_zero();
     two_lists();
 }

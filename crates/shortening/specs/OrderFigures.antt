@@ -1,0 +1,82 @@
+-- 02, P10, by computation: expressions and formulas with what they become under P6's order and under P10's, as words, and
+-- whether P6's result kept a subtraction whose two sides had both become constant 0. Assumes nothing.
+use Prim.Native.Nat.{ℕ}
+use mathlib.Core.Path.{_≡_, refl}
+use mathlib.Core.Bool.{Bool, true, false}
+use mathlib.Core.List.{List, [], _∷_, map}
+use lib.IntN.{ℤ, pos}
+use Rattle.script.specs.declared.Operator.the-variants.{Plus, Minus, Times}
+use Rattle.script.specs.declared.Relation.the-variants.{Equal}
+use Rattle.script.specs.declared.Connective.the-variants.{And}
+use Rattle.script.specs.Syntax.{Expr, const, var, arith, neg, choose, Formula, truth, cmp, not, join}
+use Rattle.script.specs.Computed.{numbers}
+use Rattle.script.specs.Words.{expr-words, formula-words}
+use Rattle.shortening.specs.Simplify.{zero-minus-first, minus-zero-first, arith-node, join-node, not-node, shorten, shortenᶠ}
+use Rattle.shortening.specs.Kept.{keeps, keepsᶠ}
+
+abbrev 𝟎 : Expr
+𝟎 = const (pos 0)
+
+abbrev x : Expr
+x = var 0
+
+abbrev 𝟎-𝟎 : Expr
+𝟎-𝟎 = arith Minus 𝟎 𝟎
+
+-- P6's words, P10's words, and whether one was kept
+pub record Both : Type 0 where
+  pub was : List ℤ
+  pub is : List ℤ
+  pub kept : Bool
+
+abbrev both : List ℤ → List ℤ → Bool → Both
+both us vs k = record { was = us; is = vs; kept = k }
+
+abbrev moves : List ℕ → List ℕ → Both
+moves us vs = record { was = numbers us; is = numbers vs; kept = true }
+
+abbrev stays : List ℕ → Both
+stays us = record { was = numbers us; is = numbers us; kept = false }
+
+pub expression-figures : List (Expr × Both)
+expression-figures =
+    -- "it was `8 1 0` and is now `1 0`"
+    (𝟎-𝟎, moves (8 ∷ 1 ∷ 0 ∷ []) (1 ∷ 0 ∷ []))
+    -- "as v0 + (0 − 0), now v0"
+    ∷ (arith Plus x 𝟎-𝟎, moves (3 ∷ 2 ∷ 0 ∷ 8 ∷ 1 ∷ 0 ∷ []) (2 ∷ 0 ∷ []))
+    ∷ (arith Plus 𝟎-𝟎 x, moves (3 ∷ 8 ∷ 1 ∷ 0 ∷ 2 ∷ 0 ∷ []) (2 ∷ 0 ∷ []))
+    ∷ (arith Minus 𝟎-𝟎 𝟎, moves (8 ∷ 1 ∷ 0 ∷ []) (1 ∷ 0 ∷ []))
+    ∷ (arith Minus 𝟎 𝟎-𝟎, moves (8 ∷ 8 ∷ 1 ∷ 0 ∷ []) (1 ∷ 0 ∷ []))
+    ∷ (arith Minus 𝟎-𝟎 𝟎-𝟎, moves (4 ∷ 8 ∷ 1 ∷ 0 ∷ 8 ∷ 1 ∷ 0 ∷ []) (1 ∷ 0 ∷ []))
+    ∷ (arith Minus x 𝟎-𝟎, moves (4 ∷ 2 ∷ 0 ∷ 8 ∷ 1 ∷ 0 ∷ []) (2 ∷ 0 ∷ []))
+    ∷ (arith Minus 𝟎-𝟎 x, moves (4 ∷ 8 ∷ 1 ∷ 0 ∷ 2 ∷ 0 ∷ []) (8 ∷ 2 ∷ 0 ∷ []))
+    ∷ (arith Times x 𝟎-𝟎, moves (5 ∷ 2 ∷ 0 ∷ 8 ∷ 1 ∷ 0 ∷ []) (5 ∷ 2 ∷ 0 ∷ 1 ∷ 0 ∷ []))
+    ∷ (neg 𝟎-𝟎, moves (8 ∷ 8 ∷ 1 ∷ 0 ∷ []) (8 ∷ 1 ∷ 0 ∷ []))
+    ∷ (choose (cmp Equal x 𝟎-𝟎) 𝟎 x, moves (10 ∷ 20 ∷ 2 ∷ 0 ∷ 8 ∷ 1 ∷ 0 ∷ 1 ∷ 0 ∷ 2 ∷ 0 ∷ []) (10 ∷ 20 ∷ 2 ∷ 0 ∷ 1 ∷ 0 ∷ 1 ∷ 0 ∷ 2 ∷ 0 ∷ []))
+    -- sides that "had both become constant 0"
+    ∷ (arith Minus (arith Plus 𝟎 𝟎) (arith Times 𝟎 (const (pos 1))), moves (8 ∷ 1 ∷ 0 ∷ []) (1 ∷ 0 ∷ []))
+    -- one side alone
+    ∷ (arith Minus 𝟎 x, stays (8 ∷ 2 ∷ 0 ∷ []))
+    ∷ (arith Minus x 𝟎, stays (2 ∷ 0 ∷ []))
+    -- the script's own negated zero, which is no subtraction
+    ∷ (neg 𝟎, stays (8 ∷ 1 ∷ 0 ∷ []))
+    ∷ (arith Minus 𝟎 (neg 𝟎), stays (8 ∷ 8 ∷ 1 ∷ 0 ∷ []))
+    ∷ []
+
+pub formula-figures : List (Formula × Both)
+formula-figures =
+    (not (cmp Equal 𝟎-𝟎 𝟎), moves (22 ∷ 20 ∷ 8 ∷ 1 ∷ 0 ∷ 1 ∷ 0 ∷ []) (22 ∷ 20 ∷ 1 ∷ 0 ∷ 1 ∷ 0 ∷ []))
+    ∷ (join And (truth true) (cmp Equal x 𝟎-𝟎), moves (20 ∷ 2 ∷ 0 ∷ 8 ∷ 1 ∷ 0 ∷ []) (20 ∷ 2 ∷ 0 ∷ 1 ∷ 0 ∷ []))
+    -- a rule dropped it
+    ∷ (join And (truth false) (cmp Equal x 𝟎-𝟎), stays (17 ∷ []))
+    ∷ []
+
+expressions-hold : map (λ (f : Expr × Both). both (expr-words (shorten zero-minus-first (f .0))) (expr-words (shorten minus-zero-first (f .0))) (keeps (f .0))) expression-figures
+    ≡ map (λ (f : Expr × Both). f .1) expression-figures
+unfolding expression-figures numbers expr-words formula-words keeps shorten arith-node join-node not-node
+expressions-hold = refl
+
+formulas-hold : map (λ (f : Formula × Both). both (formula-words (shortenᶠ zero-minus-first (f .0))) (formula-words (shortenᶠ minus-zero-first (f .0))) (keepsᶠ (f .0))) formula-figures
+    ≡ map (λ (f : Formula × Both). f .1) formula-figures
+unfolding formula-figures numbers expr-words formula-words keeps shorten arith-node join-node not-node
+formulas-hold = refl
