@@ -1,7 +1,7 @@
 -- 02, P10, of lists and answers: a list's shortened conditions change exactly where one of them kept a subtraction whose
 -- two sides had both become constant 0, and the new list is shorter then (`lists-moved`). So the answer for a room changes
--- exactly where one did and the new list has room (`answer-changes-iff`): it is 0 then, and was 31, or 0 with more words
--- used (`changed-answer`). All other answers are equal, number, words used and every word. Assumes nothing.
+-- exactly where one did and the new list has room (`answer-changes-iff`): then the number is 0, and it was 31, or 0 with
+-- more words used (`changed-answer`). All other answers are equal: number, words used and every word. Assumes nothing.
 use Prim.Native.Nat.{ℕ, _≤_, _<_}
 use mathlib.Core.Path.{_≡_, refl, sym, ap, _∙_}
 use mathlib.Core.Logic.{_↔_, _≢_, _⊎_, inl, inr}
@@ -23,7 +23,7 @@ use Rattle.shortening.specs.Simplify.{zero-minus-first, minus-zero-first
 use Rattle.shortening.specs.Shortened.{Written, refuse, filled, fit, written-for, written}
 use Rattle.shortening.specs.Never.{sizeᶠ}
 use Rattle.shortening.specs.Kept.{keepsᶠ, some-keeps}
-use Rattle.shortening.specs.Moved.{Moved, same, less, no, two-moved}
+use Rattle.shortening.specs.Moved.{Moved, same, less, kept-less, two-moved}
 use Rattle.shortening.specs.Orders.{statusᶠ}
 use Rattle.shortening.specs.Answers.{short-words, too-short, fits, only-answer}
 
@@ -40,7 +40,8 @@ module _ (form : Form) where
   line-size : Condition → ℕ
   line-size c = length (line-words form c)
 
-  line-moved : (c : Condition) → Moved line-size (keepsᶠ (c .claim)) (shorten-condition zero-minus-first c) (shorten-condition minus-zero-first c)
+  line-moved : (c : Condition)
+      → Moved line-size (keepsᶠ (c .claim)) (shorten-condition zero-minus-first c) (shorten-condition minus-zero-first c)
   unfolding line-size line-words
   line-moved c = of-claim (statusᶠ (c .claim) .moved)
     where
@@ -59,14 +60,16 @@ module _ (form : Form) where
   unfolding lines-size line-size all-lines
   lines-moved [] = same refl refl
   lines-moved (c ∷ cs) =
-      two-moved line-size lines-size lines-size 0 (λ d ds. d ∷ ds) (λ d ds. omega (linear, length-append (line-words form d) (all-lines form ds)))
-      (line-moved c) (lines-moved cs)
+      two-moved line-size lines-size lines-size 0 (λ d ds. d ∷ ds)
+      (λ d ds. omega (linear, length-append (line-words form d) (all-lines form ds))) (line-moved c) (lines-moved cs)
 
-  pub lists-moved : (cs : List Condition) → Moved (λ ds. length (list-words form ds)) (some-keeps cs) (before cs) (after cs)
+  pub lists-moved : (cs : List Condition)
+      → Moved (λ ds. length (list-words form ds)) (some-keeps cs) (before cs) (after cs)
   unfolding lines-size list-words
   lists-moved cs = of-lines (lines-moved cs)
     where
-      of-lines : {k : Bool} {ds es : List Condition} → Moved lines-size k ds es → Moved (λ ds. length (list-words form ds)) k ds es
+      of-lines : {k : Bool} {ds es : List Condition} → Moved lines-size k ds es
+          → Moved (λ ds. length (list-words form ds)) k ds es
       of-lines (same d e) = same d e
       of-lines {ds = ds} {es} (less d h) =
           let old = length-append (all-lines form ds) (count-word form (length ds) ∷ []) in
@@ -83,12 +86,23 @@ module _ (ws : List ℤ) (room : ℕ) where
   abbrev pub Is : Written
   Is = written minus-zero-first ws room
 
+  -- the words of the new list, likewise
+  abbrev pub former-words : List Condition → List ℤ
+  former-words cs = short-words zero-minus-first ws cs
+
+  abbrev pub present-words : List Condition → List ℤ
+  present-words cs = short-words minus-zero-first ws cs
+
   -- a condition of the list kept such a subtraction, and the new list has room
   pub record Changes : Type 0 where
     pub conditions : List Condition
     pub listed : Well-formed ws conditions
     pub kept : some-keeps conditions ≡ true
-    pub room-left : length (short-words minus-zero-first ws conditions) ≤ room
+    pub room-left : length (present-words conditions) ≤ room
+
+  -- the number is 0, and it was 31, or 0 with more words used
+  abbrev pub Better : Type 0
+  Better = (Is .number ≡ 0) × ((Was .number ≡ 31) ⊎ ((Was .number ≡ 0) × (Is .used < Was .used)))
 
   no-room : (us : List ℤ) → room < length us → fit us room ≡ refuse 31 room
   no-room us h = ap (λ b. cond b (refuse 31 room) (filled us room)) (lt-ltb room (length us) h)
@@ -102,51 +116,45 @@ module _ (ws : List ℤ) (room : ℕ) where
       of-list none p n = absurd (n refl)
       of-list (some cs) p n = of-lists (lists-moved (form-of ws) cs)
         where
-          of-room : let old = short-words zero-minus-first ws cs in let new = short-words minus-zero-first ws cs in
-              some-keeps cs ≡ true → length new < length old → (b : Bool) → ltb room (length new) ≡ b → Changes
+          of-room : some-keeps cs ≡ true → length (present-words cs) < length (former-words cs)
+              → (b : Bool) → ltb room (length (present-words cs)) ≡ b → Changes
           of-room k h true e =
-              let short = ltb-true room (length (short-words minus-zero-first ws cs)) e in
-              absurd (n (no-room (short-words minus-zero-first ws cs) short ∙ sym (no-room (short-words zero-minus-first ws cs) (omega linear))))
+              let short = ltb-true room (length (present-words cs)) e in
+              absurd (n (no-room (present-words cs) short ∙ sym (no-room (former-words cs) (omega linear))))
           of-room k h false e = record {
             conditions = cs;
             listed = written-read ws cs p;
             kept = k;
-            room-left = ltb-false room (length (short-words minus-zero-first ws cs)) e;
+            room-left = ltb-false room (length (present-words cs)) e;
           }
 
           of-lists : Moved (λ ds. length (list-words (form-of ws) ds)) (some-keeps cs) (before cs) (after cs) → Changes
           of-lists (same d e) = absurd (n (ap (λ ds. fit (list-words (form-of ws) ds) room) e))
-          of-lists (less d h) = of-room d h (ltb room (length (short-words minus-zero-first ws cs))) refl
+          of-lists (less d h) = of-room d h (ltb room (length (present-words cs))) refl
 
-  abbrev number : Written → ℕ
-  number r = r .number
-
-  abbrev used : Written → ℕ
-  used r = r .used
-
-  pub changed-answer : Changes → (Is .number ≡ 0) × ((Was .number ≡ 31) ⊎ ((Was .number ≡ 0) × (Is .used < Was .used)))
+  pub changed-answer : Changes → Better
   changed-answer c =
       let cs = c .conditions in
       let is = only-answer minus-zero-first ws room _ (fits cs (c .listed) (c .room-left) refl) in
-      (ap number is, of-room is (shorter (lists-moved (form-of ws) cs) (c .kept)) (ltb room (length (short-words zero-minus-first ws cs))) refl)
+      let shorter = kept-less (lists-moved (form-of ws) cs) (c .kept) in
+      (ap number is, of-room cs (c .listed) is shorter (ltb room (length (former-words cs))) refl)
     where
-      shorter : {size : List Condition → ℕ} {k : Bool} {ds es : List Condition} → Moved size k ds es → k ≡ true → size es < size ds
-      shorter (same d e) t = no t d
-      shorter (less d h) t = h
+      number : Written → ℕ
+      number r = r .number
 
-      of-room : Is ≡ filled (short-words minus-zero-first ws (c .conditions)) room
-          → length (short-words minus-zero-first ws (c .conditions)) < length (short-words zero-minus-first ws (c .conditions))
-          → (b : Bool) → ltb room (length (short-words zero-minus-first ws (c .conditions))) ≡ b
+      of-room : (cs : List Condition) → Well-formed ws cs → Is ≡ filled (present-words cs) room
+          → length (present-words cs) < length (former-words cs) → (b : Bool) → ltb room (length (former-words cs)) ≡ b
           → (Was .number ≡ 31) ⊎ ((Was .number ≡ 0) × (Is .used < Was .used))
-      of-room is h true e =
-          inl (ap number (only-answer zero-minus-first ws room _ (too-short (c .conditions) (c .listed) (ltb-true room _ e) refl)))
-      of-room is h false e =
-          let was = only-answer zero-minus-first ws room _ (fits (c .conditions) (c .listed) (ltb-false room _ e) refl) in
+      of-room cs w is h true e =
+          inl (ap number (only-answer zero-minus-first ws room _ (too-short cs w (ltb-true room _ e) refl)))
+      of-room cs w is h false e =
+          let was = only-answer zero-minus-first ws room _ (fits cs w (ltb-false room _ e) refl) in
+          let used : Written → ℕ = λ r. r .used in
           inr (ap number was, omega (linear, ap used is, ap used was))
 
   pub answer-changes-iff : (Is ≢ Was) ↔ Changes
   answer-changes-iff = (changes, λ c e. differ e (changed-answer c))
     where
-      differ : Is ≡ Was → (Is .number ≡ 0) × ((Was .number ≡ 31) ⊎ ((Was .number ≡ 0) × (Is .used < Was .used))) → ⊥
+      differ : Is ≡ Was → Better → ⊥
       differ e (z, inl h) = omega (linear, ap (λ (r : Written). r .number) e)
       differ e (z, inr h) = omega (linear, h .1, ap (λ (r : Written). r .used) e)

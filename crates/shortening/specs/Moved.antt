@@ -51,6 +51,14 @@ and-true false = refl
 pub no : {A : Type 0} {k : Bool} → k ≡ true → k ≡ false → A
 no d e = absurd (true≢false (sym d ∙ e))
 
+pub kept-less : {A : Type 0} {size : A → ℕ} {k : Bool} {x y : A} → Moved size k x y → k ≡ true → size y < size x
+kept-less (same d e) t = no t d
+kept-less (less d h) t = h
+
+pub else-same : {A : Type 0} {size : A → ℕ} {k : Bool} {x y : A} → Moved size k x y → k ≡ false → y ≡ x
+else-same (same d e) f = e
+else-same (less d h) f = no d f
+
 not-longer : {A : Type 0} {size : A → ℕ} {k : Bool} {x y : A} → Moved size k x y → size y ≤ size x
 not-longer {size = size} (same d e) = omega (linear, ap size e)
 not-longer (less d h) = omega linear
@@ -76,9 +84,9 @@ changed-at-most t p a b =
     omega (linear, at-most h, arith-size p a b)
 
 -- P6 kept the node
-kept-less : {k : Bool} (p : Operator) (t : Change) (a b c d : Expr) → k ≡ true → size c + size d < size a + size b
+kept-node : {k : Bool} (p : Operator) (t : Change) (a b c d : Expr) → k ≡ true → size c + size d < size a + size b
     → Status k (arith p a b) (arith-changed t p c d)
-kept-less p t a b c d e h =
+kept-node p t a b c d e h =
     record { moved = less e (omega (linear, arith-size p a b, changed-at-most t p c d)); shaped = λ f. refl }
 
 -- a constant of shape z is looked for
@@ -95,7 +103,7 @@ module _ (p : Operator) (z : Shape) (apart : fits (only z) other ≡ false) (a b
       of-test true y (same i j) =
           rw (g (ap (λ x. fits (only z) (shape x)) j ∙ y)) (record { moved = less e h; shaped = λ f. q })
       of-test true y (less i j) = no y (ap (fits (only z)) (m .shaped i) ∙ apart)
-      of-test false y n = kept-less p u a b c d (or-left l e) (omega (linear, not-longer n))
+      of-test false y n = kept-node p u a b c d (or-left l e) (omega (linear, not-longer n))
 
   -- the second part is shorter; P6 drops the first where it is the constant
   second-less : {k l : Bool} (n : Bool) (t u : Change) → ((e : Expr) → fits (only z) (shape e) ≡ true → size e ≡ 2)
@@ -118,7 +126,7 @@ module _ (p : Operator) (z : Shape) (apart : fits (only z) other ≡ false) (a b
           (arith-changed (cond j Simplify.first (cond (fits (only z) (shape c)) s Simplify.kept)) p c d)
       of-tests n false j r o =
           let s : Change = cond n Simplify.negated-second Simplify.second in
-          kept-less p (cond j Simplify.first (cond (fits (only z) (shape c)) s Simplify.kept)) a b c d
+          kept-node p (cond j Simplify.first (cond (fits (only z) (shape c)) s Simplify.kept)) a b c d
           (or-right k e) (omega (linear, ap size y))
       of-tests true true true r o =
           record { moved = less e (omega (linear, two d o, two c (still ∙ r))); shaped = λ f. refl }
@@ -182,14 +190,15 @@ module _ (k l : Bool) (a b c d : Expr) where
       (arith-change minus-zero-first Plus (shape c) (shape d)) e (m .shaped e) h n (rw (m .shaped e)) (λ x. rw x)
   on-first Minus e h m n =
       unless (zero-less-zero Minus (shape a) (shape b))
-      (and-false (fits (only constant-0) (shape a)) (fits (only constant-0) (shape b)) .1 (inl (ap (fits (only constant-0)) (m .shaped e))))
+      (and-false (fits (only constant-0) (shape a)) (fits (only constant-0) (shape b)) .1
+      (inl (ap (fits (only constant-0)) (m .shaped e))))
       (first-less Minus constant-0 refl a b c d (arith-change zero-minus-first Minus (shape a) (shape b))
       (arith-change minus-zero-first Minus (shape c) (shape d)) e (m .shaped e) h n (rw (m .shaped e)) (λ x. rw x))
   on-first Times e h m n =
       first-less Times constant-1 refl a b c d (arith-change zero-minus-first Times (shape a) (shape b))
       (arith-change minus-zero-first Times (shape c) (shape d)) e (m .shaped e) h n (rw (m .shaped e)) (λ x. rw x)
-  on-first Div e h m n = kept-less Div Simplify.kept a b c d (or-left l e) (omega (linear, not-longer (n .moved)))
-  on-first Mod e h m n = kept-less Mod Simplify.kept a b c d (or-left l e) (omega (linear, not-longer (n .moved)))
+  on-first Div e h m n = kept-node Div Simplify.kept a b c d (or-left l e) (omega (linear, not-longer (n .moved)))
+  on-first Mod e h m n = kept-node Mod Simplify.kept a b c d (or-left l e) (omega (linear, not-longer (n .moved)))
 
   on-second : (p : Operator) → k ≡ false → c ≡ a → l ≡ true → size d < size b → Status l b d → Goal p
   unfolding arith-node
@@ -201,7 +210,8 @@ module _ (k l : Bool) (a b c d : Expr) where
   on-second Minus x y e h n =
       let q = n .shaped e in
       unless (zero-less-zero Minus (shape a) (shape b))
-      (and-false (fits (only constant-0) (shape a)) (fits (only constant-0) (shape b)) .1 (inr (ap (fits (only constant-0)) q)))
+      (and-false (fits (only constant-0) (shape a)) (fits (only constant-0) (shape b)) .1
+      (inr (ap (fits (only constant-0)) q)))
       (second-less Minus constant-0 refl a b c d true (arith-change zero-minus-first Minus (shape a) (shape b))
       (arith-change minus-zero-first Minus (shape c) (shape d)) zero-size x y e q h
       (rw (q, and-true (fits (only constant-0) (shape a)))) (rw (and-true (fits (only constant-0) (shape c)))))
@@ -210,8 +220,8 @@ module _ (k l : Bool) (a b c d : Expr) where
       second-less Times constant-1 refl a b c d false (arith-change zero-minus-first Times (shape a) (shape b))
       (arith-change minus-zero-first Times (shape c) (shape d)) one-size x y e q h
       (rw (q, and-true (fits (only constant-1) (shape a)))) (rw (and-true (fits (only constant-1) (shape c))))
-  on-second Div x y e h n = kept-less Div Simplify.kept a b c d (or-right k e) (omega (linear, ap size y))
-  on-second Mod x y e h n = kept-less Mod Simplify.kept a b c d (or-right k e) (omega (linear, ap size y))
+  on-second Div x y e h n = kept-node Div Simplify.kept a b c d (or-right k e) (omega (linear, ap size y))
+  on-second Mod x y e h n = kept-node Mod Simplify.kept a b c d (or-right k e) (omega (linear, ap size y))
 
   pub arith-status : (p : Operator) → Status k a c → Status l b d → Goal p
   arith-status p m n = of-moved (m .moved) (n .moved)

@@ -110,7 +110,8 @@ node-shows p a b e f g =
     ⊎-elim (λ h. of-node p h) (λ h. arith-shows t p x y (keeps a) (keeps b) h f g)
     (or-iff (zero-less-zero p (shape x) (shape y)) (in-parts t (keeps a) (keeps b)) .0 e)
   where
-    of-node : (q : Operator) → zero-less-zero q (shape (before a)) (shape (before b)) ≡ true → Has (arith-node zero-minus-first q (before a) (before b))
+    of-node : (q : Operator) → zero-less-zero q (shape (before a)) (shape (before b)) ≡ true
+        → Has (arith-node zero-minus-first q (before a) (before b))
     of-node Minus h =
         let sides = both-true (fits (only constant-0) (shape (before a))) (fits (only constant-0) (shape (before b))) h in
         rw (zero-is (before a) (sides .0)) (inl (zero-is (before b) (sides .1)))

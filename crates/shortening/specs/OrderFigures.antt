@@ -1,5 +1,6 @@
 -- 02, P10, by computation: expressions and formulas with what they become under P6's order and under P10's, as words, and
--- whether P6's result kept a subtraction whose two sides had both become constant 0. Assumes nothing.
+-- whether P6's result kept a subtraction whose two sides had both become constant 0; a list in three rooms, with what
+-- is answered. Assumes nothing.
 use Prim.Native.Nat.{ℕ}
 use mathlib.Core.Path.{_≡_, refl}
 use mathlib.Core.Bool.{Bool, true, false}
@@ -9,9 +10,12 @@ use Rattle.script.specs.declared.Operator.the-variants.{Plus, Minus, Times}
 use Rattle.script.specs.declared.Relation.the-variants.{Equal}
 use Rattle.script.specs.declared.Connective.the-variants.{And}
 use Rattle.script.specs.Syntax.{Expr, const, var, arith, neg, choose, Formula, truth, cmp, not, join}
-use Rattle.script.specs.Computed.{numbers}
-use Rattle.script.specs.Words.{expr-words, formula-words}
+use Rattle.script.specs.Computed.{numbers, counted-down}
+use Rattle.script.specs.Rows.{row-of}
+use Rattle.script.specs.Words.{expr-words, formula-words, line-words, all-lines, list-words}
+use Rattle.script.specs.Listing.{read-list, read-expr-within, read-formula-within, spelled-within, found-within, line-before-within, lines-before-within, lines-within}
 use Rattle.shortening.specs.Simplify.{zero-minus-first, minus-zero-first, arith-node, join-node, not-node, shorten, shortenᶠ}
+use Rattle.shortening.specs.Shortened.{Written, refuse, filled, written}
 use Rattle.shortening.specs.Kept.{keeps, keepsᶠ}
 
 abbrev 𝟎 : Expr
@@ -29,8 +33,19 @@ pub record Both : Type 0 where
   pub is : List ℤ
   pub kept : Bool
 
-abbrev both : List ℤ → List ℤ → Bool → Both
-both us vs k = record { was = us; is = vs; kept = k }
+abbrev of-expression : Expr → Both
+of-expression e = record {
+  was = expr-words (shorten zero-minus-first e);
+  is = expr-words (shorten minus-zero-first e);
+  kept = keeps e;
+}
+
+abbrev of-formula : Formula → Both
+of-formula f = record {
+  was = formula-words (shortenᶠ zero-minus-first f);
+  is = formula-words (shortenᶠ minus-zero-first f);
+  kept = keepsᶠ f;
+}
 
 abbrev moves : List ℕ → List ℕ → Both
 moves us vs = record { was = numbers us; is = numbers vs; kept = true }
@@ -52,7 +67,7 @@ expression-figures =
     ∷ (arith Minus 𝟎-𝟎 x, moves (4 ∷ 8 ∷ 1 ∷ 0 ∷ 2 ∷ 0 ∷ []) (8 ∷ 2 ∷ 0 ∷ []))
     ∷ (arith Times x 𝟎-𝟎, moves (5 ∷ 2 ∷ 0 ∷ 8 ∷ 1 ∷ 0 ∷ []) (5 ∷ 2 ∷ 0 ∷ 1 ∷ 0 ∷ []))
     ∷ (neg 𝟎-𝟎, moves (8 ∷ 8 ∷ 1 ∷ 0 ∷ []) (8 ∷ 1 ∷ 0 ∷ []))
-    ∷ (choose (cmp Equal x 𝟎-𝟎) 𝟎 x, moves (10 ∷ 20 ∷ 2 ∷ 0 ∷ 8 ∷ 1 ∷ 0 ∷ 1 ∷ 0 ∷ 2 ∷ 0 ∷ []) (10 ∷ 20 ∷ 2 ∷ 0 ∷ 1 ∷ 0 ∷ 1 ∷ 0 ∷ 2 ∷ 0 ∷ []))
+    ∷ (choose (truth true) 𝟎-𝟎 x, moves (10 ∷ 16 ∷ 8 ∷ 1 ∷ 0 ∷ 2 ∷ 0 ∷ []) (10 ∷ 16 ∷ 1 ∷ 0 ∷ 2 ∷ 0 ∷ []))
     -- sides that "had both become constant 0"
     ∷ (arith Minus (arith Plus 𝟎 𝟎) (arith Times 𝟎 (const (pos 1))), moves (8 ∷ 1 ∷ 0 ∷ []) (1 ∷ 0 ∷ []))
     -- one side alone
@@ -71,12 +86,35 @@ formula-figures =
     ∷ (join And (truth false) (cmp Equal x 𝟎-𝟎), stays (17 ∷ []))
     ∷ []
 
-expressions-hold : map (λ (f : Expr × Both). both (expr-words (shorten zero-minus-first (f .0))) (expr-words (shorten minus-zero-first (f .0))) (keeps (f .0))) expression-figures
+expressions-hold : map (λ (f : Expr × Both). of-expression (f .0)) expression-figures
     ≡ map (λ (f : Expr × Both). f .1) expression-figures
 unfolding expression-figures numbers expr-words formula-words keeps shorten arith-node join-node not-node
 expressions-hold = refl
 
-formulas-hold : map (λ (f : Formula × Both). both (formula-words (shortenᶠ zero-minus-first (f .0))) (formula-words (shortenᶠ minus-zero-first (f .0))) (keepsᶠ (f .0))) formula-figures
+formulas-hold : map (λ (f : Formula × Both). of-formula (f .0)) formula-figures
     ≡ map (λ (f : Formula × Both). f .1) formula-figures
 unfolding formula-figures numbers expr-words formula-words keeps shorten arith-node join-node not-node
 formulas-hold = refl
+
+-- ---- answers
+
+-- v0 = 0 − 0, by main of row 9, with depth 0
+abbrev words : List ℤ
+words = counted-down (20 ∷ 2 ∷ 0 ∷ 4 ∷ 1 ∷ 0 ∷ 1 ∷ 0 ∷ 4 ∷ 9 ∷ 8 ∷ 0 ∷ []) 1
+
+-- a room, with what was answered under P6's order and what is under P10's
+answer-figures : List (ℕ × Written × Written)
+answer-figures =
+    (9, refuse 31 9, refuse 31 9)
+    ∷ (10, refuse 31 10, filled (counted-down (20 ∷ 2 ∷ 0 ∷ 1 ∷ 0 ∷ 4 ∷ 9 ∷ 5 ∷ 0 ∷ []) 1) 10)
+    ∷ (
+      11,
+      filled (counted-down (20 ∷ 2 ∷ 0 ∷ 8 ∷ 1 ∷ 0 ∷ 4 ∷ 9 ∷ 6 ∷ 0 ∷ []) 1) 11,
+      filled (counted-down (20 ∷ 2 ∷ 0 ∷ 1 ∷ 0 ∷ 4 ∷ 9 ∷ 5 ∷ 0 ∷ []) 1) 11,
+    )
+    ∷ []
+
+answers-hold : map (λ (f : ℕ × Written × Written). (f .0, written zero-minus-first words (f .0), written minus-zero-first words (f .0))) answer-figures
+    ≡ answer-figures
+unfolding answer-figures counted-down numbers row-of list-words all-lines line-words expr-words formula-words read-expr-within read-formula-within spelled-within found-within line-before-within lines-before-within lines-within read-list written shorten arith-node
+answers-hold = refl

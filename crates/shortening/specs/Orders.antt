@@ -14,7 +14,8 @@ use Rattle.shortening.specs.Simplify.{other, truth-shape, Truth-change, 
 use Rattle.shortening.specs.Simplify as Simplify
 use Rattle.shortening.specs.Never.{size, sizeᶠ, join-size, cmp-size, choose-size, some-wordsᶠ}
 use Rattle.shortening.specs.Kept.{in-partsᶠ, node-keepsᶠ, keeps, keepsᶠ}
-use Rattle.shortening.specs.Moved.{Moved, same, less, no, two-moved, Status, Statusᶠ, stays, arith-status}
+use Rattle.shortening.specs.Moved.{Moved, same, less, no, kept-less, two-moved, Status, Statusᶠ, stays, arith-status}
+use Rattle.shortening.specs.Moved as Moved
 
 -- ---- a node of two formulas
 
@@ -105,16 +106,8 @@ changed-iff f = of-moved (statusᶠ f .moved)
     of-moved (less d h) = (λ t e. absurd (omega (linear, ap sizeᶠ e)), λ n. d)
 
 pub else-same : (f : Formula) → keepsᶠ f ≡ false → shortenᶠ minus-zero-first f ≡ shortenᶠ zero-minus-first f
-else-same f = of-moved (statusᶠ f .moved)
-  where
-    of-moved : {k : Bool} {x y : Formula} → Moved sizeᶠ k x y → k ≡ false → y ≡ x
-    of-moved (same d h) e = h
-    of-moved (less d h) e = no d e
+else-same f = Moved.else-same (statusᶠ f .moved)
 
 pub changed-shorter : (f : Formula) → keepsᶠ f ≡ true
     → sizeᶠ (shortenᶠ minus-zero-first f) < sizeᶠ (shortenᶠ zero-minus-first f)
-changed-shorter f = of-moved (statusᶠ f .moved)
-  where
-    of-moved : {k : Bool} {x y : Formula} → Moved sizeᶠ k x y → k ≡ true → sizeᶠ y < sizeᶠ x
-    of-moved (same d e) t = no t d
-    of-moved (less d h) t = h
+changed-shorter f = kept-less (statusᶠ f .moved)
