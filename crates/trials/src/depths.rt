@@ -1,25 +1,25 @@
 // Lists with depths, and lists from before (02, P9): what the reader gives of a line, and the depths of a script's loops.
 
 use crate::run;
-use crate::run::say_number;
 use script::Line;
+use trial_words::output;
 
 fn say_line(name: &[u8], line: Line) {
     io::write_all(1, name);
     if line.number == 0 {
         io::write_all(1, b": kind");
-        say_number(line.kind);
+        output::number(line.kind);
         io::write_all(1, b", row");
-        say_number(line.row);
+        output::number(line.row);
         io::write_all(1, b", depth");
-        say_number(line.depth);
+        output::number(line.depth);
         io::write_all(1, b", from");
-        say_number(line.start);
+        output::number(line.start);
         io::write_all(1, b" to");
-        say_number(line.end);
+        output::number(line.end);
     } else {
         io::write_all(1, b": refused");
-        say_number(line.number);
+        output::number(line.number);
     }
     io::write_all(1, b"\n");
 }
@@ -71,9 +71,9 @@ fn say_depths(list: &[i32], conditions: usize) {
     while i < conditions {
         if i < 100 {
             let line = list_reader::line_at(list, i as i32);
-            say_number(line.kind);
-            say_number(line.row);
-            say_number(line.depth);
+            output::number(line.kind);
+            output::number(line.row);
+            output::number(line.depth);
             io::write_all(1, b";");
         }
         i += 1;

@@ -1,20 +1,10 @@
 // Example A: by room and scratch, and with a row edited.
 
-use crate::printed;
 use crate::run;
-
-pub fn rows() -> [i32; 124] {
-    let mut table = [0; 124];
-    printed::numbers(
-        b"1 0 0 0, 2 0 0 0, 19 0 1 0, 1 0 0 0, 2 0 0 0, 18 3 4 0, 1 0 0 0, 2 0 0 0, 19 6 7 0, 2 0 0 0, 37 8 9 0, 2 0 0 0, 1 1 0 0,
-        4 11 12 0, 33 0 13 0, 36 5 10 14, 2 0 0 0, 1 0 0 0, 20 16 17 0, 48 2 15 18.",
-        &mut table,
-    );
-    table
-}
+use trial_words::printed;
 
 fn within(name: &[u8], room: usize, lent: usize) {
-    run::words(name, &rows(), 80, room, lent);
+    run::words(name, &printed::example_a(), 80, room, lent);
 }
 
 pub fn rooms() {
@@ -31,7 +21,7 @@ pub fn rooms() {
 
 // With these words in the row, and 0.
 fn edited(name: &[u8], row: usize, kind: i32, first: i32, second: i32) {
-    let mut table = rows();
+    let mut table = printed::example_a();
     if row < 20 {
         let at = 4 * row;
         table[at] = kind;

@@ -1,10 +1,8 @@
 // Runs the trial rows of document 01 and writes a line for each: its name, and what the generator answers, or div and mod.
 // Then scripts that divide (02, P5), the scripts of example A's conditions (02, P1), and texts with what the reader answers
-// (02, P4); then lists read, with depths and without (02, P9), lists with their conditions shortened (02, P6), last tables with
-// shared parts mended (02, P7).
+// (02, P4); last lists read, with depths and without (02, P9), and lists with their conditions shortened (02, P6 and P10). Tables
+// that are mended (02, P7) are `mending_trials`.
 
-mod printed; // numbers as the document prints them
-mod word; // a word of a list
 mod run; // one trial
 mod example; // example A, by room and scratch, and with a row edited
 mod small; // the script of four rows, and tables by their number of words
@@ -15,8 +13,6 @@ mod scripts; // conditions as scripts
 mod texts; // scripts as text
 mod depths; // lists read, with depths and without
 mod shortening; // lists shortened
-mod mending; // tables mended
-mod doubling; // tables mended that grow to 2,048 rows and beyond
 
 fn main() {
     example::rooms();
@@ -34,6 +30,4 @@ fn main() {
     depths::words();
     depths::scripts();
     shortening::all();
-    mending::all();
-    doubling::all();
 }

@@ -1,25 +1,20 @@
 // One trial: a table and its buffers, and what the generator answers, as the program `vcgen` writes it.
 
-use crate::printed;
-use crate::word;
 use script::Answer;
-
-pub fn say_number(n: usize) {
-    io::write_all(1, b" ");
-    io::print_decimal(1, n as u64);
-}
+use trial_words::output;
+use trial_words::printed;
 
 // Both numbers of an answer are said: of a list its conditions and words, of a refusal its number and row.
 pub fn say(name: &[u8], answer: Answer) {
     io::write_all(1, name);
     if answer.number == 0 {
         io::write_all(1, b": planned");
-        say_number(answer.conditions);
-        say_number(answer.words);
+        output::number(answer.conditions);
+        output::number(answer.words);
     } else {
         io::write_all(1, b": refused");
-        say_number(answer.number);
-        say_number(answer.row);
+        output::number(answer.number);
+        output::number(answer.row);
     }
     io::write_all(1, b"\n");
 }
@@ -52,25 +47,6 @@ pub fn rows(name: &[u8], rows: &[u8], room: usize, lent: usize) {
     words(name, &table, n, room, lent);
 }
 
-// Every word of a list.
-pub fn say_words(list: &[i32]) {
-    let mut i: usize = 0;
-    while i < list.len() {
-        word::say(list[i]);
-        i += 1;
-    }
-}
-
-// The first n words of a list, after its name.
-pub fn say_list(name: &[u8], list: &[i32], n: usize) {
-    io::write_all(1, name);
-    io::write_all(1, b", list:");
-    if n <= list.len() {
-        say_words(&list[..n]);
-    }
-    io::write_all(1, b"\n");
-}
-
 // What the generator answers to the first n words of a table, and the list.
 fn listed_part(name: &[u8], table: &[i32], n: usize) {
     let mut list = [7; 512];
@@ -79,7 +55,7 @@ fn listed_part(name: &[u8], table: &[i32], n: usize) {
         let answer = generator::generate(&table[..n], &mut list, &mut scratch);
         let words = answer.words;
         say(name, answer);
-        say_list(name, &list, words);
+        output::list(name, &list, words);
     }
 }
 

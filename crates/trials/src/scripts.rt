@@ -1,8 +1,8 @@
 // Conditions as scripts for solvers (02, P1): example A's, what is refused, and the last variable (02, P2) in lists of both forms
 // (02, P9).
 
-use crate::example;
-use crate::run;
+use trial_words::output;
+use trial_words::printed;
 
 // The list of the first n words of a table.
 fn list_of(table: &[i32], n: usize, list: &mut [i32], scratch: &mut [i32]) {
@@ -21,7 +21,7 @@ fn script(list: &[i32], index: i32, text: &mut [u8]) {
         }
     } else {
         io::write_all(1, b"script refused");
-        run::say_number(answer.number);
+        output::number(answer.number);
         io::write_all(1, b"\n");
     }
 }
@@ -42,7 +42,7 @@ const LAST_DEPTH: [i32; 10] = [20, 2, 1023, 2, 255, 4, 0, 5, 7, -1];
 const NO_DEPTH: [i32; 10] = [20, 2, 1023, 2, 255, 4, 0, 5, 8, -1];
 
 pub fn all() {
-    let table = example::rows();
+    let table = printed::example_a();
     let mut list = [7; 98];
     let mut scratch = [7; 40];
     let mut text = [7; 512];

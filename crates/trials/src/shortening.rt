@@ -1,18 +1,18 @@
 // Lists with their conditions shortened, each in its form (02, P9), and the shorter of two formulas (02, P6).
 
-use crate::printed;
-use crate::run;
+use trial_words::output;
+use trial_words::printed;
 
 // Says what the first n words of a list become in a run.
 fn shorten_part(name: &[u8], list: &[i32], n: usize, short: &mut [i32]) {
     if n <= list.len() {
         let answer = shortener::shorten(&list[..n], short);
         if answer.number == 0 {
-            run::say_list(name, short, answer.used);
+            output::list(name, short, answer.used);
         } else {
             io::write_all(1, name);
             io::write_all(1, b": refused");
-            run::say_number(answer.number);
+            output::number(answer.number);
             io::write_all(1, b"\n");
         }
     }
@@ -45,9 +45,9 @@ fn shorter<'a>(old: &'a [i32], new: &'a [i32], index: i32) {
     let mut number: usize = 7;
     let formula = shortener::shorter(old, new, index, &mut number);
     io::write_all(1, b"shorter:");
-    run::say_number(number);
+    output::number(number);
     io::write_all(1, b",");
-    run::say_words(formula);
+    output::words(formula);
     io::write_all(1, b"\n");
 }
 

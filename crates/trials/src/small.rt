@@ -1,6 +1,7 @@
 // The script of four rows, one of ten with as short a list, and tables by their number of words.
 
 use crate::run;
+use trial_words::output;
 
 const FOUR_ROWS: [i32; 16] = [16, 0, 0, 0, 32, 0, 0, 0, 16, 0, 0, 0, 48, 0, 1, 2];
 
@@ -68,7 +69,7 @@ pub fn list() {
         b"four rows",
         generator::generate(&FOUR_ROWS, &mut list, &mut scratch),
     );
-    run::say_list(b"four rows", &list, 8);
+    output::list(b"four rows", &list, 8);
 }
 
 // All words are 0: where their number passes, row 0 has a kind that is not listed.

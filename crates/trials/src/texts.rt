@@ -2,7 +2,7 @@
 // text is read and planned.
 
 use crate::run;
-use crate::run::say_number;
+use trial_words::output;
 
 // Says what a text gets with so many words: at most 512.
 fn read(text: &[u8], room: usize) {
@@ -12,11 +12,11 @@ fn read(text: &[u8], room: usize) {
         io::write_all(1, text);
         if answer.number == 0 {
             io::write_all(1, b": read");
-            say_number(answer.used);
+            output::number(answer.used);
         } else {
             io::write_all(1, b": refused");
-            say_number(answer.number);
-            say_number(answer.place);
+            output::number(answer.number);
+            output::number(answer.place);
         }
         io::write_all(1, b"\n");
     }

@@ -23,8 +23,8 @@ slice-aggregate-write-all c = search needs
 write-all-requires-2 : tie.Need-write-all-requires-2
 write-all-requires-2 c κs = search needs
 
-say-number-requires : tie.Need-say-number-requires
-say-number-requires c κs = search needs
+number-requires : tie.Need-number-requires
+number-requires c κs = search needs
 
 slice-aggregate-write-all-2 : tie.Need-slice-aggregate-write-all-2
 slice-aggregate-write-all-2 c = search needs
@@ -32,11 +32,11 @@ slice-aggregate-write-all-2 c = search needs
 write-all-requires-3 : tie.Need-write-all-requires-3
 write-all-requires-3 c κs = search needs
 
-say-number-requires-2 : tie.Need-say-number-requires-2
-say-number-requires-2 c κs = search needs
+number-requires-2 : tie.Need-number-requires-2
+number-requires-2 c κs = search needs
 
-say-number-requires-3 : tie.Need-say-number-requires-3
-say-number-requires-3 c κs = search needs
+number-requires-3 : tie.Need-number-requires-3
+number-requires-3 c κs = search needs
 
 slice-aggregate-write-all-3 : tie.Need-slice-aggregate-write-all-3
 slice-aggregate-write-all-3 c = search needs
@@ -60,11 +60,11 @@ read-spec =
     write-all-requires
     slice-aggregate-write-all
     write-all-requires-2
-    say-number-requires
+    number-requires
     slice-aggregate-write-all-2
     write-all-requires-3
-    say-number-requires-2
-    say-number-requires-3
+    number-requires-2
+    number-requires-3
     slice-aggregate-write-all-3
     write-all-requires-4
     returns

@@ -1,9 +1,9 @@
--- `trials::doubling::alike` is safe and ends. Assumes nothing.
+-- `mending_trials::doubling::alike` is safe and ends. Assumes nothing.
 use borrow.Author.Needs.{needs}
 use Prim.Native.Nat.{_-_}
 use lib.ListN.{length}
-use Rattle.trials.proofs.doubling.alike.Statement.{statement}
-use Rattle.trials.proofs.doubling.alike.Tie as tie
+use Rattle.mending_trials.proofs.doubling.alike.Statement.{statement}
+use Rattle.mending_trials.proofs.doubling.alike.Tie as tie
 
 abbrev Inv-loop : tie.InvT-loop
 Inv-loop words expected i₀ i = Unit {0}

@@ -1,9 +1,9 @@
--- `trials::printed::numbers` is safe and ends. Assumes nothing.
+-- `trial_words::printed::numbers` is safe and ends. Assumes nothing.
 use borrow.Author.Needs.{needs}
 use Prim.Native.Nat.{_-_}
 use lib.ListN.{length}
-use Rattle.trials.proofs.printed.numbers.Statement.{statement}
-use Rattle.trials.proofs.printed.numbers.Tie as tie
+use Rattle.trial_words.proofs.printed.numbers.Statement.{statement}
+use Rattle.trial_words.proofs.printed.numbers.Tie as tie
 
 abbrev Inv-loop : tie.InvT-loop
 Inv-loop text words₀ n₀ value₀ open₀ i₀ words n value «open» i = Unit {0}

@@ -2,7 +2,7 @@
 // expected, up to the first that is not. The words were 7 before.
 
 use crate::mending;
-use crate::run;
+use trial_words::output;
 
 // The next word, and how many there are then.
 fn put(words: &mut [i32; 9000], n: usize, value: usize) -> usize {
@@ -136,9 +136,9 @@ fn alike(words: &[i32], expected: &[i32]) -> usize {
 
 fn say_alike(name: &[u8], words: &[i32], expected: &[i32; 9000]) {
     io::write_all(1, name);
-    run::say_number(alike(words, expected));
+    output::number(alike(words, expected));
     io::write_all(1, b" of");
-    run::say_number(words.len());
+    output::number(words.len());
     io::write_all(1, b" words as expected\n");
 }
 

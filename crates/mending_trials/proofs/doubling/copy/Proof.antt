@@ -1,8 +1,8 @@
--- `trials::doubling::copy` is safe and ends. Assumes nothing.
+-- `mending_trials::doubling::copy` is safe and ends. Assumes nothing.
 use borrow.Author.Needs.{needs}
 use Prim.Native.Nat.{_-_}
-use Rattle.trials.proofs.doubling.copy.Statement.{statement}
-use Rattle.trials.proofs.doubling.copy.Tie as tie
+use Rattle.mending_trials.proofs.doubling.copy.Statement.{statement}
+use Rattle.mending_trials.proofs.doubling.copy.Tie as tie
 
 abbrev Inv-loop : tie.InvT-loop
 Inv-loop new₀ origins₀ rows further i₀ new origins i = Unit {0}

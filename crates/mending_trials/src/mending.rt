@@ -1,28 +1,27 @@
 // Tables with shared parts, mended (02, P7): every field of the answer, and every word of both runs, which were 7 before.
 
-use crate::example;
-use crate::printed;
-use crate::run;
 use mender::MendAnswer;
+use trial_words::output;
+use trial_words::printed;
 
 pub fn say_answer(name: &[u8], answer: MendAnswer) {
     io::write_all(1, name);
     io::write_all(1, b": number");
-    run::say_number(answer.number);
+    output::number(answer.number);
     io::write_all(1, b", row");
-    run::say_number(answer.row);
+    output::number(answer.row);
     io::write_all(1, b", words");
-    run::say_number(answer.words);
+    output::number(answer.words);
     io::write_all(1, b", dropped");
-    run::say_number(answer.dropped);
+    output::number(answer.dropped);
     io::write_all(1, b", copied");
-    run::say_number(answer.copied);
+    output::number(answer.copied);
     io::write_all(1, b"\n");
 }
 
 fn say_run(name: &[u8], words: &[i32]) {
     io::write_all(1, name);
-    run::say_words(words);
+    output::words(words);
     io::write_all(1, b"\n");
 }
 
@@ -117,7 +116,7 @@ fn shared() {
 
 // It is in order.
 fn example_a() {
-    mend_words(b"A, mended", &example::rows(), 80, 80, 20);
+    mend_words(b"A, mended", &printed::example_a(), 80, 80, 20);
 }
 
 // 13: with the mark's row.

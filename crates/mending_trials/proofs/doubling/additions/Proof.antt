@@ -1,8 +1,8 @@
--- `trials::doubling::additions` is safe and ends. Assumes nothing.
+-- `mending_trials::doubling::additions` is safe and ends. Assumes nothing.
 use borrow.Author.Needs.{needs}
 use Prim.Native.Nat.{_-_}
-use Rattle.trials.proofs.doubling.additions.Statement.{statement}
-use Rattle.trials.proofs.doubling.additions.Tie as tie
+use Rattle.mending_trials.proofs.doubling.additions.Statement.{statement}
+use Rattle.mending_trials.proofs.doubling.additions.Tie as tie
 
 abbrev Inv-loop : tie.InvT-loop
 Inv-loop words₀ times n₀ i₀ words n i = Unit {0}

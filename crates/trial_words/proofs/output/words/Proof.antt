@@ -1,10 +1,10 @@
--- `trials::run::say_words` is safe and ends. Assumes nothing.
+-- `trial_words::output::words` is safe and ends. Assumes nothing.
 use borrow.Author.Needs.{needs}
 use Prim.Native.Nat.{_-_}
 use lib.ListN.{length}
 use native.Mathlib.Omega.{arith}
-use Rattle.trials.proofs.run.say_words.Statement.{statement}
-use Rattle.trials.proofs.run.say_words.Tie as tie
+use Rattle.trial_words.proofs.output.words.Statement.{statement}
+use Rattle.trial_words.proofs.output.words.Tie as tie
 
 abbrev Inv-loop : tie.InvT-loop
 Inv-loop list i₀ i = Unit {0}
@@ -15,14 +15,14 @@ abbrev μ-loop : tie.MeasureT-loop
 loop-holds : tie.Need-loop-holds Inv-loop μ-loop
 loop-holds c = search needs
 
-mul-say : tie.Need-mul-say Inv-loop μ-loop
-mul-say c = search needs
+mul-word : tie.Need-mul-word Inv-loop μ-loop
+mul-word c = search needs
 
-shared-slice-copy-out-say : tie.Need-shared-slice-copy-out-say Inv-loop μ-loop
-shared-slice-copy-out-say c = search needs
+shared-slice-copy-out-word : tie.Need-shared-slice-copy-out-word Inv-loop μ-loop
+shared-slice-copy-out-word c = search needs
 
-say-requires : tie.Need-say-requires Inv-loop μ-loop
-say-requires c κs = search needs
+word-requires : tie.Need-word-requires Inv-loop μ-loop
+word-requires c κs = search needs
 
 add-i : tie.Need-add-i Inv-loop μ-loop
 add-i c = search needs
@@ -39,16 +39,16 @@ loop-again c = search needs
 returns : tie.Need-returns Inv-loop μ-loop
 returns c = search needs
 
-pub say-words-spec : {M : Type 1} → statement M
-say-words-spec =
+pub words-spec : {M : Type 1} → statement M
+words-spec =
     tie.close
     (tie.spec
     Inv-loop
     μ-loop
     loop-holds
-    mul-say
-    shared-slice-copy-out-say
-    say-requires
+    mul-word
+    shared-slice-copy-out-word
+    word-requires
     add-i
     loop-less
     loop-again

@@ -1,9 +1,9 @@
--- `trials::doubling::mend_part` is safe and ends. Assumes nothing.
+-- `mending_trials::doubling::mend_part` is safe and ends. Assumes nothing.
 use native.Mathlib.Omega.{arith}
 use lib.ListN.{length-take}
 use borrow.Author.Needs.{needs}
-use Rattle.trials.proofs.doubling.mend_part.Statement.{statement}
-use Rattle.trials.proofs.doubling.mend_part.Tie as tie
+use Rattle.mending_trials.proofs.doubling.mend_part.Statement.{statement}
+use Rattle.mending_trials.proofs.doubling.mend_part.Tie as tie
 
 slice-aggregate-mend-slice : tie.Need-slice-aggregate-mend-slice
 slice-aggregate-mend-slice c = simp length-take (omega arith)
