@@ -33,6 +33,7 @@ pub mod Kept
 pub mod Moved
 pub mod Orders
 pub mod NegatedZero
+pub mod Zeroed
 pub mod Changed
 -- ---- from conditions and verdicts to runs
 
