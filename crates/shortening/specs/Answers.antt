@@ -1,9 +1,10 @@
 -- What the pass answers, for every words and every output: each of its three answers has its exact occasion
 -- (`answered-iff`), so has each number (`numbers`), and there is no other. An output as long as the old list is never too
 -- short (`room-enough`). With number 0, the words used are a list in the old one's form that is read as the shortened
--- conditions (`new-list`). The output keeps its length (`written-length`). Assumes nothing.
+-- conditions (`new-list`), and that comes back as it is from a second pass, whichever order either has (`written-again`).
+-- The output keeps its length (`written-length`). Assumes nothing.
 use Prim.Native.Nat.{ℕ, _≤_, _<_}
-use mathlib.Core.Path.{_≡_, refl, sym, ap, _∙_}
+use mathlib.Core.Path.{_≡_, refl, sym, ap, _∙_, subst}
 use mathlib.Core.Logic.{_↔_, _⊎_, inl, inr}
 use mathlib.Core.Option.{Option, none, some}
 use mathlib.Core.List.{List}
@@ -21,6 +22,7 @@ use Rattle.script.specs.Listing.{form-of, read-list}
 use Rattle.theorems.specs.ReadBack.{read-written, written-read, malformed-iff}
 use Rattle.shortening.specs.Simplify.{Order, shorten-all}
 use Rattle.shortening.specs.Shortened.{Written, refuse, filled, written-for, written, used-words}
+use Rattle.shortening.specs.Done.{all-again}
 use Rattle.shortening.specs.Lists.{list-at-most, form-same, well-formed-shortened}
 
 -- the words of the shortened list, in the form of the words ws
@@ -151,3 +153,15 @@ module _ (o : Order) (ws : List ℤ) (room : ℕ) where
       of-answer (torn h e) = ap held e ∙ length-replicate room (pos 0)
       of-answer (too-short cs w h e) = ap held e ∙ length-replicate room (pos 0)
       of-answer (fits cs w h e) = ap held e ∙ simp (length-append, length-replicate) (omega linear)
+
+module _ (o u : Order) (ws : List ℤ) (room : ℕ) where
+  pub written-again : written o ws room .number ≡ 0 → let us = used-words (written o ws room) in
+      (room₂ : ℕ) → length us ≤ room₂ → written u us room₂ ≡ filled us room₂
+  written-again z room₂ h =
+      let n = new-list o ws room z in
+      let us = used-words (written o ws room) in
+      let listed : Well-formed us (shorten-all o (n .before)) =
+      subst (λ vs. Well-formed vs (shorten-all o (n .before))) (sym (n .words)) (well-formed-shortened o ws (n .before) (n .listed)) in
+      let same : short-words u us (shorten-all o (n .before)) ≡ us =
+      (λ i. list-words (n .same-form i) (all-again o u (n .before) i)) ∙ sym (n .words) in
+      room-enough u us room₂ (shorten-all o (n .before)) listed h ∙ ap (λ vs. filled vs room₂) same

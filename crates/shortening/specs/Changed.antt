@@ -1,38 +1,30 @@
 -- 02, P10, of lists and answers: a list's shortened conditions change exactly where one of them kept a subtraction whose
--- two sides had both become constant 0, and the new list is shorter then (`lists-moved`). So the answer for a room changes
--- exactly where one did and the new list has room (`answer-changes-iff`): then the number is 0, and it was 31, or 0 with
--- more words used (`changed-answer`). All other answers are equal: number, words used and every word. Assumes nothing.
+-- two sides had both become constant 0, and the new list is shorter then (`lists-moved`). So for every room the answer is
+-- the same, number, words used and every word, or one did and the new list has room (`same-or-changes`,
+-- `answer-changes-iff`): then the number is 0, and it was 31, or 0 with more words used (`changed-answer`). Assumes
+-- nothing.
 use Prim.Native.Nat.{ℕ, _≤_, _<_}
 use mathlib.Core.Path.{_≡_, refl, sym, ap, _∙_}
-use mathlib.Core.Logic.{_↔_, _≢_, _⊎_, inl, inr}
-use mathlib.Core.Option.{Option, none, some}
+use mathlib.Core.Logic.{_↔_, _≢_, _⊎_, inl, inr, ⊎-elim}
 use mathlib.Core.List.{List, [], _∷_}
-use mathlib.Core.Bool.{Bool, true, false, cond}
+use mathlib.Core.Bool.{Bool, true, false}
 use native.Mathlib.Omega.{arith as linear}
 use lib.IntN.{ℤ}
 use lib.Dec.{ltb}
 use lib.ListN.{length, length-append}
-use borrow.Author.Tests.{lt-ltb, ltb-true, ltb-false}
+use borrow.Author.Tests.{ltb-true, ltb-false}
 use Rattle.script.specs.Syntax.{Formula}
 use Rattle.script.specs.Conditions.{Condition, condition}
 use Rattle.script.specs.Words.{Form, formula-words, trailer, line-words, all-lines, count-word, list-words}
 use Rattle.script.specs.WellFormed.{Well-formed}
-use Rattle.script.specs.Listing.{form-of, read-list}
-use Rattle.theorems.specs.ReadBack.{written-read}
-use Rattle.shortening.specs.Simplify.{zero-minus-first, minus-zero-first, shortenᶠ, shorten-condition, shorten-all}
-use Rattle.shortening.specs.Shortened.{Written, refuse, filled, fit, written-for, written}
+use Rattle.script.specs.Listing.{form-of}
+use Rattle.shortening.specs.Simplify.{zero-minus-first, minus-zero-first, shorten-condition}
+use Rattle.shortening.specs.Shortened.{Written, filled, written}
 use Rattle.shortening.specs.Never.{sizeᶠ}
-use Rattle.shortening.specs.Kept.{keepsᶠ, some-keeps}
-use Rattle.shortening.specs.Moved.{Moved, same, less, kept-less, two-moved}
+use Rattle.shortening.specs.Answers.{short-words, Answered, torn, too-short, fits, answered, only-answer}
+use Rattle.shortening.specs.Kept.{old-all, new-all, keepsᶠ, some-keeps}
+use Rattle.shortening.specs.Moved.{Moved, same, less, kept-less, not-longer, two-moved}
 use Rattle.shortening.specs.Orders.{statusᶠ}
-use Rattle.shortening.specs.Answers.{short-words, too-short, fits, only-answer}
-
--- the conditions under P6's order, and under P10's
-abbrev before : List Condition → List Condition
-before cs = shorten-all zero-minus-first cs
-
-abbrev after : List Condition → List Condition
-after cs = shorten-all minus-zero-first cs
 
 -- ---- a list in either form
 
@@ -56,7 +48,7 @@ module _ (form : Form) where
   lines-size : List Condition → ℕ
   lines-size cs = length (all-lines form cs)
 
-  lines-moved : (cs : List Condition) → Moved lines-size (some-keeps cs) (before cs) (after cs)
+  lines-moved : (cs : List Condition) → Moved lines-size (some-keeps cs) (old-all cs) (new-all cs)
   unfolding lines-size line-size all-lines
   lines-moved [] = same refl refl
   lines-moved (c ∷ cs) =
@@ -64,7 +56,7 @@ module _ (form : Form) where
       (λ d ds. omega (linear, length-append (line-words form d) (all-lines form ds))) (line-moved c) (lines-moved cs)
 
   pub lists-moved : (cs : List Condition)
-      → Moved (λ ds. length (list-words form ds)) (some-keeps cs) (before cs) (after cs)
+      → Moved (λ ds. length (list-words form ds)) (some-keeps cs) (old-all cs) (new-all cs)
   unfolding lines-size list-words
   lists-moved cs = of-lines (lines-moved cs)
     where
@@ -79,82 +71,75 @@ module _ (form : Form) where
 -- ---- answers
 
 module _ (ws : List ℤ) (room : ℕ) where
-  -- what was answered under P6's order, and what is under P10's
-  abbrev pub Was : Written
-  Was = written zero-minus-first ws room
+  abbrev pub old-answer : Written
+  old-answer = written zero-minus-first ws room
 
-  abbrev pub Is : Written
-  Is = written minus-zero-first ws room
+  abbrev pub new-answer : Written
+  new-answer = written minus-zero-first ws room
 
-  -- the words of the new list, likewise
-  abbrev pub former-words : List Condition → List ℤ
-  former-words cs = short-words zero-minus-first ws cs
+  -- the words of the new list
+  abbrev pub old-words : List Condition → List ℤ
+  old-words cs = short-words zero-minus-first ws cs
 
-  abbrev pub present-words : List Condition → List ℤ
-  present-words cs = short-words minus-zero-first ws cs
+  abbrev pub new-words : List Condition → List ℤ
+  new-words cs = short-words minus-zero-first ws cs
 
   -- a condition of the list kept such a subtraction, and the new list has room
   pub record Changes : Type 0 where
     pub conditions : List Condition
     pub listed : Well-formed ws conditions
     pub kept : some-keeps conditions ≡ true
-    pub room-left : length (present-words conditions) ≤ room
+    pub room-left : length (new-words conditions) ≤ room
 
   -- the number is 0, and it was 31, or 0 with more words used
-  abbrev pub Better : Type 0
-  Better = (Is .number ≡ 0) × ((Was .number ≡ 31) ⊎ ((Was .number ≡ 0) × (Is .used < Was .used)))
+  abbrev pub Now-shorter : Type 0
+  Now-shorter =
+      (new-answer .number ≡ 0)
+      × ((old-answer .number ≡ 31) ⊎ ((old-answer .number ≡ 0) × (new-answer .used < old-answer .used)))
 
-  no-room : (us : List ℤ) → room < length us → fit us room ≡ refuse 31 room
-  no-room us h = ap (λ b. cond b (refuse 31 room) (filled us room)) (lt-ltb room (length us) h)
-
-  changes : Is ≢ Was → Changes
-  unfolding written
-  changes n = of-list (read-list ws) refl n
+  pub same-or-changes : (new-answer ≡ old-answer) ⊎ Changes
+  same-or-changes = of-answer (answered minus-zero-first ws room)
     where
-      of-list : (l : Option (List Condition)) → read-list ws ≡ l
-          → written-for minus-zero-first (form-of ws) l room ≢ written-for zero-minus-first (form-of ws) l room → Changes
-      of-list none p n = absurd (n refl)
-      of-list (some cs) p n = of-lists (lists-moved (form-of ws) cs)
-        where
-          of-room : some-keeps cs ≡ true → length (present-words cs) < length (former-words cs)
-              → (b : Bool) → ltb room (length (present-words cs)) ≡ b → Changes
-          of-room k h true e =
-              let short = ltb-true room (length (present-words cs)) e in
-              absurd (n (no-room (present-words cs) short ∙ sym (no-room (former-words cs) (omega linear))))
-          of-room k h false e = record {
-            conditions = cs;
-            listed = written-read ws cs p;
-            kept = k;
-            room-left = ltb-false room (length (present-words cs)) e;
-          }
+      of-lists : (cs : List Condition) → Well-formed ws cs → length (new-words cs) ≤ room
+          → new-answer ≡ filled (new-words cs) room
+          → Moved (λ ds. length (list-words (form-of ws) ds)) (some-keeps cs) (old-all cs) (new-all cs)
+          → (new-answer ≡ old-answer) ⊎ Changes
+      of-lists cs w h e (same d g) =
+          let words : new-words cs ≡ old-words cs = ap (list-words (form-of ws)) g in
+          let fitted = only-answer zero-minus-first ws room _ (fits cs w (omega (linear, ap length words)) refl) in
+          inl (e ∙ ap (λ us. filled us room) words ∙ sym fitted)
+      of-lists cs w h e (less d g) = inr (record { conditions = cs; listed = w; kept = d; room-left = h })
 
-          of-lists : Moved (λ ds. length (list-words (form-of ws) ds)) (some-keeps cs) (before cs) (after cs) → Changes
-          of-lists (same d e) = absurd (n (ap (λ ds. fit (list-words (form-of ws) ds) room) e))
-          of-lists (less d h) = of-room d h (ltb room (length (present-words cs))) refl
+      of-answer : Answered minus-zero-first ws room new-answer → (new-answer ≡ old-answer) ⊎ Changes
+      of-answer (torn h e) = inl (e ∙ sym (only-answer zero-minus-first ws room _ (torn h refl)))
+      of-answer (too-short cs w h e) =
+          let longer : room < length (old-words cs) = omega (linear, not-longer (lists-moved (form-of ws) cs)) in
+          inl (e ∙ sym (only-answer zero-minus-first ws room _ (too-short cs w longer refl)))
+      of-answer (fits cs w h e) = of-lists cs w h e (lists-moved (form-of ws) cs)
 
-  pub changed-answer : Changes → Better
+  pub changed-answer : Changes → Now-shorter
   changed-answer c =
       let cs = c .conditions in
-      let is = only-answer minus-zero-first ws room _ (fits cs (c .listed) (c .room-left) refl) in
+      let now = only-answer minus-zero-first ws room _ (fits cs (c .listed) (c .room-left) refl) in
       let shorter = kept-less (lists-moved (form-of ws) cs) (c .kept) in
-      (ap number is, of-room cs (c .listed) is shorter (ltb room (length (former-words cs))) refl)
+      (ap number now, of-room cs (c .listed) now shorter (ltb room (length (old-words cs))) refl)
     where
       number : Written → ℕ
       number r = r .number
 
-      of-room : (cs : List Condition) → Well-formed ws cs → Is ≡ filled (present-words cs) room
-          → length (present-words cs) < length (former-words cs) → (b : Bool) → ltb room (length (former-words cs)) ≡ b
-          → (Was .number ≡ 31) ⊎ ((Was .number ≡ 0) × (Is .used < Was .used))
-      of-room cs w is h true e =
+      of-room : (cs : List Condition) → Well-formed ws cs → new-answer ≡ filled (new-words cs) room
+          → length (new-words cs) < length (old-words cs) → (b : Bool) → ltb room (length (old-words cs)) ≡ b
+          → (old-answer .number ≡ 31) ⊎ ((old-answer .number ≡ 0) × (new-answer .used < old-answer .used))
+      of-room cs w now h true e =
           inl (ap number (only-answer zero-minus-first ws room _ (too-short cs w (ltb-true room _ e) refl)))
-      of-room cs w is h false e =
-          let was = only-answer zero-minus-first ws room _ (fits cs w (ltb-false room _ e) refl) in
+      of-room cs w now h false e =
+          let then = only-answer zero-minus-first ws room _ (fits cs w (ltb-false room _ e) refl) in
           let used : Written → ℕ = λ r. r .used in
-          inr (ap number was, omega (linear, ap used is, ap used was))
+          inr (ap number then, omega (linear, ap used now, ap used then))
 
-  pub answer-changes-iff : (Is ≢ Was) ↔ Changes
-  answer-changes-iff = (changes, λ c e. differ e (changed-answer c))
+  pub answer-changes-iff : (new-answer ≢ old-answer) ↔ Changes
+  answer-changes-iff = (λ n. ⊎-elim (λ e. absurd (n e)) (λ c. c) same-or-changes, λ c e. differ e (changed-answer c))
     where
-      differ : Is ≡ Was → Better → ⊥
+      differ : new-answer ≡ old-answer → Now-shorter → ⊥
       differ e (z, inl h) = omega (linear, ap (λ (r : Written). r .number) e)
       differ e (z, inr h) = omega (linear, h .1, ap (λ (r : Written). r .used) e)

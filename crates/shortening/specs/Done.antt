@@ -1,7 +1,8 @@
 -- Nothing is left to shorten: in what comes out under an order, no rule applies at any node (`shorten-done`), under the
 -- other order as well (`done-under`). So a second pass changes nothing, whichever order either pass has
--- (`shorten-again`): of a list from before P10 `8 1 0` stays. Argument: a node that a rule changed becomes one of its
--- parts, a negation or a value; a node that is kept is one at which no rule applies. Assumes nothing.
+-- (`shorten-again`, `all-again`; of answers `Answers.written-again`): of what P6's order left, `8 1 0` stays. Argument: a
+-- node that a rule changed becomes one of its parts, a negation or a value; a node that is kept is one at which no rule
+-- applies. Assumes nothing.
 use mathlib.Core.Path.{_≡_, refl, ap, _∙_}
 use mathlib.Core.List.{List, [], _∷_}
 use mathlib.Core.Bool.{Bool, true, false, cond, _&&_}
@@ -101,35 +102,33 @@ module _ (o : Order) where
 -- ---- under another order
 
 -- x and y say that the first and the second part are 0
-first-rules : (x y : Bool) → cond (x && true) Simplify.negated-second (cond y Simplify.first Simplify.kept) ≡ Simplify.kept
+first-rules : (x y : Bool)
+    → cond (x && true) Simplify.negated-second (cond y Simplify.first Simplify.kept) ≡ Simplify.kept
     → cond y Simplify.first (cond (x && true) Simplify.negated-second Simplify.kept) ≡ Simplify.kept
 first-rules true y e = cc
 first-rules false true e = cc
 first-rules false false e = refl
 
-last-rules : (x y : Bool) → cond y Simplify.first (cond (x && true) Simplify.negated-second Simplify.kept) ≡ Simplify.kept
+last-rules : (x y : Bool)
+    → cond y Simplify.first (cond (x && true) Simplify.negated-second Simplify.kept) ≡ Simplify.kept
     → cond (x && true) Simplify.negated-second (cond y Simplify.first Simplify.kept) ≡ Simplify.kept
 last-rules x true e = cc
 last-rules true false e = cc
 last-rules false false e = refl
 
 -- both orders have the same rules
-kept-under : (o u : Order) (p : Operator) (x y : Shape) → arith-change o p x y ≡ Simplify.kept
+kept-under : (p : Operator) (o u : Order) (x y : Shape) → arith-change o p x y ≡ Simplify.kept
     → arith-change u p x y ≡ Simplify.kept
-kept-under zero-minus-first zero-minus-first p x y e = e
-kept-under minus-zero-first minus-zero-first p x y e = e
-kept-under zero-minus-first minus-zero-first Minus x y e =
+kept-under Plus o u x y e = e
+kept-under Times o u x y e = e
+kept-under Div o u x y e = e
+kept-under Mod o u x y e = e
+kept-under Minus zero-minus-first zero-minus-first x y e = e
+kept-under Minus minus-zero-first minus-zero-first x y e = e
+kept-under Minus zero-minus-first minus-zero-first x y e =
     first-rules (fits (only constant-0) x) (fits (only constant-0) y) e
-kept-under minus-zero-first zero-minus-first Minus x y e =
+kept-under Minus minus-zero-first zero-minus-first x y e =
     last-rules (fits (only constant-0) x) (fits (only constant-0) y) e
-kept-under zero-minus-first minus-zero-first Plus x y e = e
-kept-under zero-minus-first minus-zero-first Times x y e = e
-kept-under zero-minus-first minus-zero-first Div x y e = e
-kept-under zero-minus-first minus-zero-first Mod x y e = e
-kept-under minus-zero-first zero-minus-first Plus x y e = e
-kept-under minus-zero-first zero-minus-first Times x y e = e
-kept-under minus-zero-first zero-minus-first Div x y e = e
-kept-under minus-zero-first zero-minus-first Mod x y e = e
 
 module _ (o u : Order) where
   mutual
@@ -137,7 +136,7 @@ module _ (o u : Order) where
     done-under (const z) h = tt
     done-under (var v) h = tt
     done-under (mark m) h = tt
-    done-under (arith p a b) h = (kept-under o u p (shape a) (shape b) (h .0), done-under a (h .1), done-under b (h .2))
+    done-under (arith p a b) h = (kept-under p o u (shape a) (shape b) (h .0), done-under a (h .1), done-under b (h .2))
     done-under (neg a) h = done-under a h
     done-under (choose f a b) h = (done-underᶠ f (h .0), done-under a (h .1), done-under b (h .2))
 

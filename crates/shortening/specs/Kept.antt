@@ -1,15 +1,36 @@
 -- 02, P10: which results, in P6's order, "kept a subtraction whose two sides had both become constant 0" (`keeps`,
--- `keepsᶠ`; of a list `some-keeps`). A side is looked at as it became. What a rule dropped is not kept, and a negate of 0
--- that stands in the condition itself is no subtraction. Assumes nothing.
+-- `keepsᶠ`; of a list `some-keeps`). P6's order makes a negated zero, `8 1 0`, of such a subtraction; it is kept where
+-- that is left in the result, and not in a part that a rule dropped. A side is looked at as it became. A negate of 0 that
+-- stands in the condition itself is no subtraction. Assumes nothing.
 use mathlib.Core.List.{List, [], _∷_}
-use mathlib.Core.Bool.{Bool, true, false, _&&_, _||_}
+use mathlib.Core.Bool.{Bool, false, _&&_, _||_}
 use Rattle.script.specs.declared.Operator.{Operator}
 use Rattle.script.specs.declared.Operator.the-variants.{Plus, Minus, Times, Div, Mod}
 use Rattle.script.specs.declared.Connective.{Connective}
 use Rattle.script.specs.Syntax.{Expr, const, var, mark, arith, neg, choose, Formula, truth, cmp, not, join}
 use Rattle.script.specs.Conditions.{Condition}
-use Rattle.shortening.specs.Simplify.{Shape, constant-0, shape, truth-shape, only, fits, Change, Truth-change, zero-minus-first, arith-change, join-change, shorten, shortenᶠ}
+use Rattle.shortening.specs.Simplify.{Shape, constant-0, shape, truth-shape, only, fits, Change, Truth-change, zero-minus-first, minus-zero-first, arith-change, join-change, shorten, shortenᶠ, shorten-all}
 use Rattle.shortening.specs.Simplify as Simplify
+
+-- ---- P6's results, and P10's
+
+abbrev pub old : Expr → Expr
+old e = shorten zero-minus-first e
+
+abbrev pub oldᶠ : Formula → Formula
+oldᶠ f = shortenᶠ zero-minus-first f
+
+abbrev pub old-all : List Condition → List Condition
+old-all cs = shorten-all zero-minus-first cs
+
+abbrev pub new : Expr → Expr
+new e = shorten minus-zero-first e
+
+abbrev pub newᶠ : Formula → Formula
+newᶠ f = shortenᶠ minus-zero-first f
+
+abbrev pub new-all : List Condition → List Condition
+new-all cs = shorten-all minus-zero-first cs
 
 -- ---- a node, by the shapes that its parts became, and by whether each keeps one
 
@@ -47,8 +68,7 @@ unfoldable mutual
   keeps (const z) = false
   keeps (var v) = false
   keeps (mark m) = false
-  keeps (arith p a b) =
-      node-keeps p (shape (shorten zero-minus-first a)) (shape (shorten zero-minus-first b)) (keeps a) (keeps b)
+  keeps (arith p a b) = node-keeps p (shape (old a)) (shape (old b)) (keeps a) (keeps b)
   keeps (neg a) = keeps a
   keeps (choose f a b) = keepsᶠ f || (keeps a || keeps b)
 
@@ -56,8 +76,7 @@ unfoldable mutual
   keepsᶠ (truth b) = false
   keepsᶠ (cmp r a b) = keeps a || keeps b
   keepsᶠ (not f) = keepsᶠ f
-  keepsᶠ (join c f g) =
-      node-keepsᶠ c (truth-shape (shortenᶠ zero-minus-first f)) (truth-shape (shortenᶠ zero-minus-first g)) (keepsᶠ f) (keepsᶠ g)
+  keepsᶠ (join c f g) = node-keepsᶠ c (truth-shape (oldᶠ f)) (truth-shape (oldᶠ g)) (keepsᶠ f) (keepsᶠ g)
 
 abbrev pub some-keeps : List Condition → Bool
 some-keeps [] = false

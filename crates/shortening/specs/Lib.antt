@@ -1,4 +1,5 @@
--- 02, P6 and P10: shorter conditions. First what is to be believed: the rules, and what the two entries answer and leave.
+-- 02, P6 and P10: shorter conditions. First what is to be believed: the rules, what the two entries answer and leave, and
+-- which results P10 speaks of.
 -- Then that the rules say 02's sentences; that conditions hold in the same states, and are never longer; what the entries
 -- answer, by occasions; what P10 changed; demand 3 and verdicts through the shortened list, with a witness; last figures,
 -- and wrong turns.
@@ -7,6 +8,7 @@
 
 pub mod Simplify
 pub mod Shortened
+pub mod Kept
 -- ---- the rules as equations; shapes, for the code
 
 pub mod Picked
@@ -29,8 +31,8 @@ pub mod TwoLists
 pub mod Handed
 -- ---- P10's order of the first two rules, beside P6's
 
-pub mod Kept
 pub mod Moved
+pub mod MovedNode
 pub mod Orders
 pub mod NegatedZero
 pub mod Zeroed

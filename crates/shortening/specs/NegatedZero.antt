@@ -1,10 +1,12 @@
--- 02, P10: "it was `8 1 0` and is now `1 0`": of every subtraction whose two sides had both become constant 0
--- (`was-and-is`); and in every result that changes such a negated zero stood (`shows`, `showsᶠ`). Assumes nothing.
+-- 02, P10: "The first two rules of P6 both match 0 − 0, and the first leaves a negated zero": P6's order as equations
+-- (`zero-minus`, `minus-zero`; P10's are in `Sentences`). "it was `8 1 0` and is now `1 0`": of every subtraction whose
+-- two sides had both become constant 0 (`was`, `is`). In every result that changes some negated zero stood (`shows`,
+-- `showsᶠ`). Assumes nothing.
 use Prim.Native.Nat.{ℕ}
 use mathlib.Core.Path.{_≡_, refl, ap, _∙_}
-use mathlib.Core.Logic.{_⊎_, inl, inr, ⊎-elim}
+use mathlib.Core.Logic.{_≢_, _⊎_, inl, inr, ⊎-elim, ⊎-map}
 use mathlib.Core.List.{[], _∷_}
-use mathlib.Core.Bool.{Bool, true, false, _&&_, _||_, false≢true}
+use mathlib.Core.Bool.{Bool, true, false, cond, _&&_, _||_, false≢true}
 use lib.IntN.{pos}
 use Rattle.script.specs.declared.Operator.{Operator}
 use Rattle.script.specs.declared.Operator.the-variants.{Plus, Minus, Times, Div, Mod}
@@ -12,52 +14,49 @@ use Rattle.script.specs.declared.Connective.{Connective}
 use Rattle.script.specs.Syntax.{Expr, const, var, mark, arith, neg, choose, Formula, truth, cmp, not, join}
 use Rattle.script.specs.Words.{expr-words}
 use Rattle.theorems.specs.Tests.{or-iff}
-use Rattle.shortening.specs.Simplify.{constant-0, other, shape, truth-shape, only, fits, Change, Truth-change, zero-minus-first, minus-zero-first, arith-change, join-change, arith-changed, join-changed, arith-node, join-node, not-node, shorten, shortenᶠ}
+use Rattle.shortening.specs.Simplify.{constant-0, other, shape, truth-shape, only, fits, Change, Truth-change, zero-minus-first, minus-zero-first, arith-change, join-change, arith-changed, join-changed, arith-node, join-node, not-node, shorten}
 use Rattle.shortening.specs.Simplify as Simplify
 use Rattle.shortening.specs.Picked.{zero-is}
-use Rattle.shortening.specs.Kept.{zero-less-zero, in-parts, in-partsᶠ, keeps, keepsᶠ}
-use Rattle.shortening.specs.Moved.{Moved, same, less, no, Status}
+use Rattle.shortening.specs.Sentences.{𝟎, not-0}
+use Rattle.shortening.specs.Kept.{old, oldᶠ, new, zero-less-zero, in-parts, in-partsᶠ, keeps, keepsᶠ}
+use Rattle.shortening.specs.Moved.{Moved, same, less, no}
 use Rattle.shortening.specs.Orders.{status}
 
-both-true : (a b : Bool) → (a && b) ≡ true → (a ≡ true) × (b ≡ true)
-both-true true b e = (refl, e)
-both-true false b e = absurd (false≢true e)
+-- ---- "0 − E becomes negate E", before "E − 0 becomes E"
 
--- what comes out under P6's order, and under P10's
-abbrev before : Expr → Expr
-before e = shorten zero-minus-first e
+pub zero-minus : (z e : Expr) → old z ≡ 𝟎 → old (arith Minus z e) ≡ neg (old e)
+unfolding shorten arith-node
+zero-minus z e h = ap (λ x. arith-node zero-minus-first Minus x (old e)) h
 
-abbrev after : Expr → Expr
-after e = shorten minus-zero-first e
+pub minus-zero : (e z : Expr) → old z ≡ 𝟎 → old e ≢ 𝟎 → old (arith Minus e z) ≡ old e
+unfolding shorten arith-node
+minus-zero e z h k =
+    ap (λ x. arith-node zero-minus-first Minus (old e) x) h
+    ∙ ap (λ b. arith-changed (cond (b && true) Simplify.negated-second Simplify.first) Minus (old e) 𝟎) (not-0 (old e) k)
 
 -- ---- "it was `8 1 0` and is now `1 0`"
 
+pub was : (a b : Expr) → old a ≡ 𝟎 → old b ≡ 𝟎 → expr-words (old (arith Minus a b)) ≡ pos 8 ∷ pos 1 ∷ pos 0 ∷ []
+unfolding expr-words
+was a b h k = ap expr-words (zero-minus a b h ∙ ap neg k)
+
 -- what P6's order made 0, P10's makes 0
-zero-stays : (e : Expr) → fits (only constant-0) (shape (before e)) ≡ true → after e ≡ const (pos 0)
-zero-stays e h = of-status (status e .moved) (status e .shaped) ∙ zero-is (before e) h
+zero-stays : (e : Expr) → old e ≡ 𝟎 → new e ≡ 𝟎
+zero-stays e h = of-status (status e .moved) (status e .shaped) ∙ h
   where
-    of-status : {k : Bool} {size : Expr → ℕ} → Moved size k (before e) (after e) → (k ≡ true → shape (before e) ≡ other)
-        → after e ≡ before e
+    is-zero : fits (only constant-0) (shape (old e)) ≡ true
+    is-zero = ap (λ x. fits (only constant-0) (shape x)) h
+
+    of-status : {k : Bool} {size : Expr → ℕ} → Moved size k (old e) (new e) → (k ≡ true → shape (old e) ≡ other)
+        → new e ≡ old e
     of-status (same d g) f = g
-    of-status (less d g) f = no h (ap (fits (only constant-0)) (f d))
+    of-status (less d g) f = no is-zero (ap (fits (only constant-0)) (f d))
 
-pub record Was-and-is (e : Expr) : Type 0 where
-  pub was : expr-words (before e) ≡ pos 8 ∷ pos 1 ∷ pos 0 ∷ []
-  pub is : expr-words (after e) ≡ pos 1 ∷ pos 0 ∷ []
-
-pub was-and-is : (p : Operator) (a b : Expr) → zero-less-zero p (shape (before a)) (shape (before b)) ≡ true
-    → Was-and-is (arith p a b)
+pub is : (a b : Expr) → old a ≡ 𝟎 → old b ≡ 𝟎 → expr-words (new (arith Minus a b)) ≡ pos 1 ∷ pos 0 ∷ []
 unfolding shorten arith-node expr-words
-was-and-is Minus a b h =
-    let sides = both-true (fits (only constant-0) (shape (before a))) (fits (only constant-0) (shape (before b))) h in
-    record {
-      was = λ i. expr-words (arith-node zero-minus-first Minus (zero-is (before a) (sides .0) i) (zero-is (before b) (sides .1) i));
-      is = λ i. expr-words (arith-node minus-zero-first Minus (zero-stays a (sides .0) i) (zero-stays b (sides .1) i));
-    }
-was-and-is Plus a b h = absurd (false≢true h)
-was-and-is Times a b h = absurd (false≢true h)
-was-and-is Div a b h = absurd (false≢true h)
-was-and-is Mod a b h = absurd (false≢true h)
+is a b h k = λ i. expr-words (arith-node minus-zero-first Minus (zero-stays a h i) (zero-stays b k i))
+
+-- ---- what shows in the result
 
 -- a negated zero stands in it
 abbrev mutual
@@ -66,7 +65,7 @@ abbrev mutual
   Has (var v) = ⊥
   Has (mark m) = ⊥
   Has (arith p a b) = Has a ⊎ Has b
-  Has (neg a) = (a ≡ const (pos 0)) ⊎ Has a
+  Has (neg a) = (a ≡ 𝟎) ⊎ Has a
   Has (choose f a b) = Hasᶠ f ⊎ (Has a ⊎ Has b)
 
   pub Hasᶠ : Formula → Type 0
@@ -76,7 +75,7 @@ abbrev mutual
   Hasᶠ (join c f g) = Hasᶠ f ⊎ Hasᶠ g
 
 either : {A B : Type 0} {k l : Bool} → (k || l) ≡ true → (k ≡ true → A) → (l ≡ true → B) → A ⊎ B
-either {k = k} {l} e f g = ⊎-elim (λ x. inl (f x)) (λ y. inr (g y)) (or-iff k l .0 e)
+either {k = k} {l} e f g = ⊎-map f g (or-iff k l .0 e)
 
 arith-shows : (t : Change) (p : Operator) (a b : Expr) (k l : Bool) → in-parts t k l ≡ true → (k ≡ true → Has a)
     → (l ≡ true → Has b) → Has (arith-changed t p a b)
@@ -85,8 +84,8 @@ arith-shows Simplify.first p a b k l e f g = f e
 arith-shows Simplify.second p a b k l e f g = g e
 arith-shows Simplify.negated-second p a b k l e f g = inr (g e)
 
-join-shows : (t : Truth-change) (c : Connective) (a b : Formula) (k l : Bool) → in-partsᶠ t k l ≡ true → (k ≡ true → Hasᶠ a)
-    → (l ≡ true → Hasᶠ b) → Hasᶠ (join-changed t c a b)
+join-shows : (t : Truth-change) (c : Connective) (a b : Formula) (k l : Bool) → in-partsᶠ t k l ≡ true
+    → (k ≡ true → Hasᶠ a) → (l ≡ true → Hasᶠ b) → Hasᶠ (join-changed t c a b)
 join-shows Simplify.kept c a b k l e f g = either e f g
 join-shows Simplify.first c a b k l e f g = f e
 join-shows Simplify.second c a b k l e f g = g e
@@ -99,43 +98,41 @@ not-shows (cmp r a b) h = h
 not-shows (not f) h = h
 not-shows (join c f g) h = h
 
--- the node itself, or one of its parts
-node-shows : (p : Operator) (a b : Expr) → keeps (arith p a b) ≡ true → (keeps a ≡ true → Has (before a))
-    → (keeps b ≡ true → Has (before b)) → Has (before (arith p a b))
-unfolding keeps shorten arith-node
-node-shows p a b e f g =
-    let x = before a in
-    let y = before b in
-    let t = arith-change zero-minus-first p (shape x) (shape y) in
-    ⊎-elim (λ h. of-node p h) (λ h. arith-shows t p x y (keeps a) (keeps b) h f g)
-    (or-iff (zero-less-zero p (shape x) (shape y)) (in-parts t (keeps a) (keeps b)) .0 e)
+-- the subtraction itself
+zero-shows : (p : Operator) (x y : Expr) → zero-less-zero p (shape x) (shape y) ≡ true
+    → Has (arith-node zero-minus-first p x y)
+unfolding arith-node
+zero-shows Minus x y h = of-tests (fits (only constant-0) (shape x)) (fits (only constant-0) (shape y)) (zero-is y) h
   where
-    of-node : (q : Operator) → zero-less-zero q (shape (before a)) (shape (before b)) ≡ true
-        → Has (arith-node zero-minus-first q (before a) (before b))
-    of-node Minus h =
-        let sides = both-true (fits (only constant-0) (shape (before a))) (fits (only constant-0) (shape (before b))) h in
-        rw (zero-is (before a) (sides .0)) (inl (zero-is (before b) (sides .1)))
-    of-node Plus h = absurd (false≢true h)
-    of-node Times h = absurd (false≢true h)
-    of-node Div h = absurd (false≢true h)
-    of-node Mod h = absurd (false≢true h)
+    of-tests : (k l : Bool) → (l ≡ true → y ≡ 𝟎) → (k && l) ≡ true
+        → Has (arith-changed (cond (k && true) Simplify.negated-second (cond l Simplify.first Simplify.kept)) Minus x y)
+    of-tests true true f e = inl (f refl)
+    of-tests true false f e = absurd (false≢true e)
+    of-tests false l f e = absurd (false≢true e)
+zero-shows Plus x y h = absurd (false≢true h)
+zero-shows Times x y h = absurd (false≢true h)
+zero-shows Div x y h = absurd (false≢true h)
+zero-shows Mod x y h = absurd (false≢true h)
 
 mutual
-  unfolding keeps shorten join-node
+  unfolding keeps shorten arith-node join-node
 
-  pub shows : (e : Expr) → keeps e ≡ true → Has (before e)
+  pub shows : (e : Expr) → keeps e ≡ true → Has (old e)
   shows (const z) e = absurd (false≢true e)
   shows (var v) e = absurd (false≢true e)
   shows (mark m) e = absurd (false≢true e)
-  shows (arith p a b) e = node-shows p a b e (λ h. shows a h) (λ h. shows b h)
+  shows (arith p a b) e =
+      let t = arith-change zero-minus-first p (shape (old a)) (shape (old b)) in
+      ⊎-elim (zero-shows p (old a) (old b))
+      (λ h. arith-shows t p (old a) (old b) (keeps a) (keeps b) h (λ k. shows a k) (λ k. shows b k))
+      (or-iff (zero-less-zero p (shape (old a)) (shape (old b))) (in-parts t (keeps a) (keeps b)) .0 e)
   shows (neg a) e = inr (shows a e)
   shows (choose f a b) e = either e (λ h. showsᶠ f h) (λ h. either h (λ k. shows a k) (λ k. shows b k))
 
-  pub showsᶠ : (f : Formula) → keepsᶠ f ≡ true → Hasᶠ (shortenᶠ zero-minus-first f)
+  pub showsᶠ : (f : Formula) → keepsᶠ f ≡ true → Hasᶠ (oldᶠ f)
   showsᶠ (truth b) e = absurd (false≢true e)
   showsᶠ (cmp r a b) e = either e (λ h. shows a h) (λ h. shows b h)
-  showsᶠ (not f) e = not-shows (shortenᶠ zero-minus-first f) (showsᶠ f e)
+  showsᶠ (not f) e = not-shows (oldᶠ f) (showsᶠ f e)
   showsᶠ (join c f g) e =
-      let x = shortenᶠ zero-minus-first f in
-      let y = shortenᶠ zero-minus-first g in
-      join-shows (join-change c (truth-shape x) (truth-shape y)) c x y (keepsᶠ f) (keepsᶠ g) e (λ h. showsᶠ f h) (λ h. showsᶠ g h)
+      join-shows (join-change c (truth-shape (oldᶠ f)) (truth-shape (oldᶠ g))) c (oldᶠ f) (oldᶠ g) (keepsᶠ f) (keepsᶠ g) e
+      (λ h. showsᶠ f h) (λ h. showsᶠ g h)

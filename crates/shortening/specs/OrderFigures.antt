@@ -14,9 +14,9 @@ use Rattle.script.specs.Computed.{numbers, counted-down}
 use Rattle.script.specs.Rows.{row-of}
 use Rattle.script.specs.Words.{expr-words, formula-words, line-words, all-lines, list-words}
 use Rattle.script.specs.Listing.{read-list, read-expr-within, read-formula-within, spelled-within, found-within, line-before-within, lines-before-within, lines-within}
-use Rattle.shortening.specs.Simplify.{zero-minus-first, minus-zero-first, arith-node, join-node, not-node, shorten, shortenᶠ}
+use Rattle.shortening.specs.Simplify.{zero-minus-first, minus-zero-first, arith-node, join-node, not-node, shorten}
 use Rattle.shortening.specs.Shortened.{Written, refuse, filled, written}
-use Rattle.shortening.specs.Kept.{keeps, keepsᶠ}
+use Rattle.shortening.specs.Kept.{old, oldᶠ, new, newᶠ, keeps, keepsᶠ}
 
 abbrev 𝟎 : Expr
 𝟎 = const (pos 0)
@@ -28,22 +28,22 @@ abbrev 𝟎-𝟎 : Expr
 𝟎-𝟎 = arith Minus 𝟎 𝟎
 
 -- P6's words, P10's words, and whether one was kept
-pub record Both : Type 0 where
-  pub was : List ℤ
-  pub is : List ℤ
-  pub kept : Bool
+record Both : Type 0 where
+  was : List ℤ
+  is : List ℤ
+  kept : Bool
 
 abbrev of-expression : Expr → Both
 of-expression e = record {
-  was = expr-words (shorten zero-minus-first e);
-  is = expr-words (shorten minus-zero-first e);
+  was = expr-words (old e);
+  is = expr-words (new e);
   kept = keeps e;
 }
 
 abbrev of-formula : Formula → Both
 of-formula f = record {
-  was = formula-words (shortenᶠ zero-minus-first f);
-  is = formula-words (shortenᶠ minus-zero-first f);
+  was = formula-words (oldᶠ f);
+  is = formula-words (newᶠ f);
   kept = keepsᶠ f;
 }
 
@@ -53,7 +53,7 @@ moves us vs = record { was = numbers us; is = numbers vs; kept = true }
 abbrev stays : List ℕ → Both
 stays us = record { was = numbers us; is = numbers us; kept = false }
 
-pub expression-figures : List (Expr × Both)
+expression-figures : List (Expr × Both)
 expression-figures =
     -- "it was `8 1 0` and is now `1 0`"
     (𝟎-𝟎, moves (8 ∷ 1 ∷ 0 ∷ []) (1 ∷ 0 ∷ []))
@@ -78,7 +78,7 @@ expression-figures =
     ∷ (arith Minus 𝟎 (neg 𝟎), stays (8 ∷ 8 ∷ 1 ∷ 0 ∷ []))
     ∷ []
 
-pub formula-figures : List (Formula × Both)
+formula-figures : List (Formula × Both)
 formula-figures =
     (not (cmp Equal 𝟎-𝟎 𝟎), moves (22 ∷ 20 ∷ 8 ∷ 1 ∷ 0 ∷ 1 ∷ 0 ∷ []) (22 ∷ 20 ∷ 1 ∷ 0 ∷ 1 ∷ 0 ∷ []))
     ∷ (join And (truth true) (cmp Equal x 𝟎-𝟎), moves (20 ∷ 2 ∷ 0 ∷ 8 ∷ 1 ∷ 0 ∷ []) (20 ∷ 2 ∷ 0 ∷ 1 ∷ 0 ∷ []))
@@ -114,7 +114,9 @@ answer-figures =
     )
     ∷ []
 
-answers-hold : map (λ (f : ℕ × Written × Written). (f .0, written zero-minus-first words (f .0), written minus-zero-first words (f .0))) answer-figures
-    ≡ answer-figures
+abbrev answers : ℕ → ℕ × Written × Written
+answers room = (room, written zero-minus-first words room, written minus-zero-first words room)
+
+answers-hold : map answers (9 ∷ 10 ∷ 11 ∷ []) ≡ answer-figures
 unfolding answer-figures counted-down numbers row-of list-words all-lines line-words expr-words formula-words read-expr-within read-formula-within spelled-within found-within line-before-within lines-before-within lines-within read-list written shorten arith-node
 answers-hold = refl

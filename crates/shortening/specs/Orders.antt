@@ -1,7 +1,7 @@
 -- 02, P10: "The results that change are exactly those that kept a subtraction whose two sides had both become constant 0"
 -- (`changed-iff`); all others are equal (`else-same`), and each of those becomes shorter (`changed-shorter`). Argument: by
--- induction. Where nothing is kept, both orders give the same tree. Where something is kept, P6's result is no constant,
--- and P10's is shorter (`Moved`). Truths do not move: no rule makes a truth of a comparison. Assumes nothing.
+-- induction. Where nothing is kept, both orders give the same tree. Where something is kept, P6's result is neither 0 nor
+-- 1, and P10's is shorter (`MovedNode`). Truths do not move: no rule makes a truth of a comparison. Assumes nothing.
 use Prim.Native.Nat.{_+_, _<_}
 use mathlib.Core.Path.{_≡_, refl, ap}
 use mathlib.Core.Logic.{_↔_, _≢_}
@@ -10,19 +10,21 @@ use native.Mathlib.Omega.{arith as linear}
 use Rattle.script.specs.declared.Connective.{Connective}
 use Rattle.script.specs.Syntax.{Expr, const, var, mark, arith, neg, choose, Formula, truth, cmp, not, join}
 use Rattle.script.specs.Words.{expr-words, formula-words}
-use Rattle.shortening.specs.Simplify.{other, truth-shape, Truth-change, zero-minus-first, minus-zero-first, join-change, join-changed, join-node, not-node, shorten, shortenᶠ}
+use Rattle.shortening.specs.Simplify.{other, truth-shape, Truth-change, join-change, join-changed, join-node, not-node, shorten}
 use Rattle.shortening.specs.Simplify as Simplify
 use Rattle.shortening.specs.Never.{size, sizeᶠ, join-size, cmp-size, choose-size, some-wordsᶠ}
-use Rattle.shortening.specs.Kept.{in-partsᶠ, node-keepsᶠ, keeps, keepsᶠ}
-use Rattle.shortening.specs.Moved.{Moved, same, less, no, kept-less, two-moved, Status, Statusᶠ, stays, arith-status}
+use Rattle.shortening.specs.Kept.{old, oldᶠ, new, newᶠ, in-partsᶠ, node-keepsᶠ, keeps, keepsᶠ}
+use Rattle.shortening.specs.Moved.{Moved, same, less, no, kept-less, two-moved}
 use Rattle.shortening.specs.Moved as Moved
+use Rattle.shortening.specs.MovedNode.{Status, Statusᶠ, stays, arith-status}
 
 -- ---- a node of two formulas
 
 module _ (k l : Bool) (c : Connective) (f g x y : Formula) (m : Statusᶠ k f x) (n : Statusᶠ l g y) where
   changed-status : (t : Truth-change) → Statusᶠ (in-partsᶠ t k l) (join-changed t c f g) (join-changed t c x y)
   changed-status Simplify.kept = record {
-    moved = two-moved sizeᶠ sizeᶠ sizeᶠ 1 (λ a b. join c a b) (λ a b. omega (linear, join-size c a b)) (m .moved) (n .moved);
+    moved = two-moved sizeᶠ sizeᶠ sizeᶠ 1 (λ a b. join c a b) (λ a b. omega (linear, join-size c a b))
+        (m .moved) (n .moved);
     shaped = refl;
   }
   changed-status Simplify.first = m
@@ -71,43 +73,40 @@ not-status k f x m = not-moved k f x (m .shaped) (m .moved)
 mutual
   unfolding shorten keeps
 
-  pub status : (e : Expr) → Status (keeps e) (shorten zero-minus-first e) (shorten minus-zero-first e)
+  pub status : (e : Expr) → Status (keeps e) (old e) (new e)
   status (const z) = stays refl
   status (var v) = stays refl
   status (mark m) = stays refl
   status (arith p a b) =
-      arith-status (keeps a) (keeps b) (shorten zero-minus-first a) (shorten zero-minus-first b) (shorten minus-zero-first a)
-      (shorten minus-zero-first b) p (status a) (status b)
+      arith-status (keeps a) (keeps b) (old a) (old b) (new a) (new b) p (status a) (status b)
   status (neg a) = record { moved = neg-moved (status a .moved); shaped = λ e. refl }
   status (choose f a b) = record {
     moved = choose-moved (statusᶠ f .moved) (status a .moved) (status b .moved);
     shaped = λ e. refl;
   }
 
-  pub statusᶠ : (f : Formula) → Statusᶠ (keepsᶠ f) (shortenᶠ zero-minus-first f) (shortenᶠ minus-zero-first f)
+  pub statusᶠ : (f : Formula) → Statusᶠ (keepsᶠ f) (oldᶠ f) (newᶠ f)
   statusᶠ (truth b) = record { moved = same refl refl; shaped = refl }
   statusᶠ (cmp r a b) = record {
     moved = two-moved size size sizeᶠ 1 (λ a b. cmp r a b) (λ a b. omega (linear, cmp-size r a b))
         (status a .moved) (status b .moved);
     shaped = refl;
   }
-  statusᶠ (not f) = not-status (keepsᶠ f) (shortenᶠ zero-minus-first f) (shortenᶠ minus-zero-first f) (statusᶠ f)
+  statusᶠ (not f) = not-status (keepsᶠ f) (oldᶠ f) (newᶠ f) (statusᶠ f)
   statusᶠ (join c f g) =
-      join-status (keepsᶠ f) (keepsᶠ g) c (shortenᶠ zero-minus-first f) (shortenᶠ zero-minus-first g)
-      (shortenᶠ minus-zero-first f) (shortenᶠ minus-zero-first g) (statusᶠ f) (statusᶠ g)
+      join-status (keepsᶠ f) (keepsᶠ g) c (oldᶠ f) (oldᶠ g) (newᶠ f) (newᶠ g) (statusᶠ f) (statusᶠ g)
 
 -- ---- 02's sentence
 
-pub changed-iff : (f : Formula) → (keepsᶠ f ≡ true) ↔ (shortenᶠ minus-zero-first f ≢ shortenᶠ zero-minus-first f)
+pub changed-iff : (f : Formula) → (keepsᶠ f ≡ true) ↔ (newᶠ f ≢ oldᶠ f)
 changed-iff f = of-moved (statusᶠ f .moved)
   where
     of-moved : {k : Bool} {x y : Formula} → Moved sizeᶠ k x y → (k ≡ true) ↔ (y ≢ x)
     of-moved (same d e) = (λ t. no t d, λ n. absurd (n e))
     of-moved (less d h) = (λ t e. absurd (omega (linear, ap sizeᶠ e)), λ n. d)
 
-pub else-same : (f : Formula) → keepsᶠ f ≡ false → shortenᶠ minus-zero-first f ≡ shortenᶠ zero-minus-first f
+pub else-same : (f : Formula) → keepsᶠ f ≡ false → newᶠ f ≡ oldᶠ f
 else-same f = Moved.else-same (statusᶠ f .moved)
 
-pub changed-shorter : (f : Formula) → keepsᶠ f ≡ true
-    → sizeᶠ (shortenᶠ minus-zero-first f) < sizeᶠ (shortenᶠ zero-minus-first f)
+pub changed-shorter : (f : Formula) → keepsᶠ f ≡ true → sizeᶠ (newᶠ f) < sizeᶠ (oldᶠ f)
 changed-shorter f = kept-less (statusᶠ f .moved)

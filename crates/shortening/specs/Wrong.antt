@@ -1,4 +1,4 @@
--- Wrong rules of 02, P6: each of its rules lost, rules exchanged or changed, rules that it does not have, and rules that
+-- Wrong rules of 02, P6 and P10: each of the rules lost, rules exchanged or changed, rules that it does not have, and rules that
 -- look at parts as they were; each told from the right ones at one formula (`other-answers`). To look at a rule's result
 -- again is no wrong turn, since no rule fits there: `Done.shorten-doneᶠ`. Assumes nothing.
 use Prim.Native.Nat.{ℕ, zero, suc}
@@ -17,7 +17,7 @@ use Rattle.script.specs.Conditions.{condition}
 use Rattle.script.specs.Rows.{row-of}
 use Rattle.script.specs.Words.{op-word, conn-word, with-depth, expr-words, formula-words, line-words, all-lines, list-words}
 use Rattle.script.specs.Listing.{read-list, read-expr-within, read-formula-within, spelled-within, found-within, line-before-within, lines-before-within, lines-within}
-use Rattle.shortening.specs.Simplify.{constant-0, constant-1, is-false, any, only, Rule, rule, Change, Truth-change, Order, zero-minus-first, minus-zero-first, order, arith-rules, join-rules, arith-node, join-node, not-node, shorten}
+use Rattle.shortening.specs.Simplify.{constant-0, constant-1, is-false, any, only, Rule, rule, Change, Truth-change, zero-minus-first, order, arith-rules, join-rules, arith-node, join-node, not-node, shorten}
 use Rattle.shortening.specs.Simplify as Simplify
 use Rattle.shortening.specs.Shortened.{written}
 use Rattle.shortening.specs.Variants.{Rules, shorten-by, lines-by, pass-by, right-rules, right-seen, right-trailed, right-formed, right-answer, Pass, Wrong, Other-answers, all-told}
@@ -82,17 +82,18 @@ without-not (join c f g) = not (join c f g)
 abbrev pub not-keeps-the-value : Pass
 not-keeps-the-value = with-parts without-not neg
 
--- 0 − 0 by the other of its two rules: P6's order
-abbrev exchanged : Order → Order
-exchanged zero-minus-first = minus-zero-first
-exchanged minus-zero-first = zero-minus-first
-
+-- 02, P10: 0 − 0 by the other of its two rules, as before; by neither; `1 0`, but with nodes around it that see a negated
+-- zero still; and the sign of any negated zero dropped, that of a script's own
 abbrev pub orders-exchanged : Pass
-orders-exchanged = of-operator Minus λ rs. arith-rules (exchanged order) Minus
+orders-exchanged = of-operator Minus λ rs. arith-rules zero-minus-first Minus
 
--- 02, P10, by another way: 0 − 0 taken for none of both rules; a negated zero taken for 0, wherever it comes from
-abbrev pub zero-less-zero-kept : Pass
-zero-less-zero-kept = of-operator Minus λ rs. rule (only constant-0) (only constant-0) Simplify.kept ∷ rs
+abbrev pub zero-less-zero-stays : Pass
+zero-less-zero-stays = of-operator Minus λ rs. rule (only constant-0) (only constant-0) Simplify.kept ∷ rs
+
+abbrev pub shrunk-no-further : Pass
+shrunk-no-further =
+    pass-by right-rules (record { expression = λ a x. shorten zero-minus-first a; claim = λ f x. x })
+    right-trailed right-formed right-answer
 
 abbrev without-sign : Expr → Expr
 without-sign (const (pos zero)) = const (pos zero)
@@ -104,8 +105,8 @@ without-sign (arith p x y) = neg (arith p x y)
 without-sign (neg x) = neg (neg x)
 without-sign (choose f x y) = neg (choose f x y)
 
-abbrev pub negated-zero-dropped : Pass
-negated-zero-dropped = with-parts not-node without-sign
+abbrev pub sign-of-zero-dropped : Pass
+sign-of-zero-dropped = with-parts not-node without-sign
 
 abbrev pub sign-lost : Pass
 sign-lost = of-operator Minus λ rs. rule (only constant-0) any Simplify.second ∷ rs
@@ -193,8 +194,9 @@ wrongs =
     ∷ at-formula (not-lost false) (not (truth false))
     ∷ at-formula not-keeps-the-value (not (truth true))
     ∷ at-expression orders-exchanged (arith Minus 𝟎 𝟎)
-    ∷ at-expression zero-less-zero-kept (arith Minus 𝟎 𝟎)
-    ∷ at-expression negated-zero-dropped (neg 𝟎)
+    ∷ at-expression zero-less-zero-stays (arith Minus 𝟎 𝟎)
+    ∷ at-expression shrunk-no-further (arith Plus x (arith Minus 𝟎 𝟎))
+    ∷ at-expression sign-of-zero-dropped (neg 𝟎)
     ∷ at-expression sign-lost (arith Minus 𝟎 x)
     ∷ at-expression times-zero-dropped (arith Times x 𝟎)
     ∷ at-expression divided-by-one (arith Div x 𝟏)

@@ -8,10 +8,10 @@ use lib.IntN.{pos}
 use Rattle.script.specs.declared.Operator.{Operator}
 use Rattle.script.specs.declared.Operator.the-variants.{Plus, Minus, Times, Div, Mod}
 use Rattle.script.specs.Syntax.{Expr, const, var, mark, arith, neg, choose, Formula, truth, cmp, not, join}
-use Rattle.shortening.specs.Simplify.{constant-0, shape, only, fits, Change, zero-minus-first, minus-zero-first, arith-changed, arith-node, join-node, not-node, shorten, shortenᶠ}
+use Rattle.shortening.specs.Simplify.{constant-0, shape, only, fits, Change, zero-minus-first, minus-zero-first, arith-changed, arith-node, join-node, not-node, shorten}
 use Rattle.shortening.specs.Simplify as Simplify
 use Rattle.shortening.specs.Picked.{zero-is}
-use Rattle.shortening.specs.Kept.{zero-less-zero}
+use Rattle.shortening.specs.Kept.{old, oldᶠ, new, newᶠ, zero-less-zero}
 
 unfoldable mutual
   pub zeroed : Expr → Expr
@@ -19,8 +19,7 @@ unfoldable mutual
   zeroed (var v) = var v
   zeroed (mark m) = mark m
   zeroed (arith p a b) =
-      cond (zero-less-zero p (shape (shorten zero-minus-first (zeroed a))) (shape (shorten zero-minus-first (zeroed b))))
-      (const (pos 0)) (arith p (zeroed a) (zeroed b))
+      cond (zero-less-zero p (shape (old (zeroed a))) (shape (old (zeroed b)))) (const (pos 0)) (arith p (zeroed a) (zeroed b))
   zeroed (neg a) = neg (zeroed a)
   zeroed (choose f a b) = choose (zeroedᶠ f) (zeroed a) (zeroed b)
 
@@ -67,32 +66,30 @@ node-same Times a b h = refl
 node-same Div a b h = refl
 node-same Mod a b h = refl
 
-of-test : (p : Operator) (a b : Expr) (z : Bool)
-    → zero-less-zero p (shape (shorten zero-minus-first a)) (shape (shorten zero-minus-first b)) ≡ z
-    → arith-node minus-zero-first p (shorten zero-minus-first a) (shorten zero-minus-first b)
-    ≡ shorten zero-minus-first (cond z (const (pos 0)) (arith p a b))
+of-test : (p : Operator) (a b : Expr) (z : Bool) → zero-less-zero p (shape (old a)) (shape (old b)) ≡ z
+    → arith-node minus-zero-first p (old a) (old b) ≡ old (cond z (const (pos 0)) (arith p a b))
 unfolding shorten
-of-test p a b true e = sym (node-zero p (shorten zero-minus-first a) (shorten zero-minus-first b) e)
-of-test p a b false e = sym (node-same p (shorten zero-minus-first a) (shorten zero-minus-first b) e)
+of-test p a b true e = sym (node-zero p (old a) (old b) e)
+of-test p a b false e = sym (node-same p (old a) (old b) e)
 
 -- ---- expressions and formulas
 
 mutual
   unfolding zeroed shorten
 
-  pub as-zero : (e : Expr) → shorten minus-zero-first e ≡ shorten zero-minus-first (zeroed e)
+  pub as-zero : (e : Expr) → new e ≡ old (zeroed e)
   as-zero (const z) = refl
   as-zero (var v) = refl
   as-zero (mark m) = refl
   as-zero (arith p a b) =
-      let x = shorten zero-minus-first (zeroed a) in
-      let y = shorten zero-minus-first (zeroed b) in
+      let x = old (zeroed a) in
+      let y = old (zeroed b) in
       (λ i. arith-node minus-zero-first p (as-zero a i) (as-zero b i))
       ∙ of-test p (zeroed a) (zeroed b) (zero-less-zero p (shape x) (shape y)) refl
   as-zero (neg a) = λ i. neg (as-zero a i)
   as-zero (choose f a b) = λ i. choose (as-zeroᶠ f i) (as-zero a i) (as-zero b i)
 
-  pub as-zeroᶠ : (f : Formula) → shortenᶠ minus-zero-first f ≡ shortenᶠ zero-minus-first (zeroedᶠ f)
+  pub as-zeroᶠ : (f : Formula) → newᶠ f ≡ oldᶠ (zeroedᶠ f)
   as-zeroᶠ (truth b) = refl
   as-zeroᶠ (cmp r a b) = λ i. cmp r (as-zero a i) (as-zero b i)
   as-zeroᶠ (not f) = λ i. not-node (as-zeroᶠ f i)
