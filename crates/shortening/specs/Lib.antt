@@ -1,8 +1,7 @@
 -- 02, P6 and P10: shorter conditions. First what is to be believed: the rules, what the two entries answer and leave, and
--- which results P10 speaks of.
--- Then that the rules say 02's sentences; that conditions hold in the same states, and are never longer; what the entries
--- answer, by occasions; what P10 changed; demand 3 and verdicts through the shortened list, with a witness; last figures,
--- and wrong turns.
+-- which results P10 speaks of. Then that the rules say 02's sentences; that conditions hold in the same states, and are
+-- never longer; what the entries answer, by occasions; what P10 changed; demand 3 and verdicts through the shortened list,
+-- with a witness; last figures, and wrong turns.
 
 -- ---- the rules, and the answers
 
