@@ -1,4 +1,4 @@
-//! Document 01 and requests P1, P2 and P4 to P9 a second time, written from the
+//! Document 01 and requests P1, P2 and P4 to P10 a second time, written from the
 //! documents alone: trees, `Vec` and `Box`, clear rather than fast.
 //!
 //! Whole numbers of runs are kept as `i128`. Where a value would leave that

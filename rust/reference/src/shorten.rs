@@ -1,5 +1,5 @@
 //! Request P6, "Shorter conditions": a list with less padding, and the shorter
-//! of two conditions.
+//! of two conditions; the rules in the order that request P10 gives them.
 //!
 //! A formula of a list may be as deep as the list has words: its nodes stand
 //! side by side in a `Vec`, are read from the end back and written with a
@@ -148,10 +148,10 @@ enum Becomes {
 /// place, are shortened: "trying in this order at each node, one rule at most".
 fn ruled(head: Head, parts: &[(Head, usize)]) -> Becomes {
     match (head, parts) {
+        // "E − 0 becomes E"; by request P10, "E − 0 is to be tried before 0 − E."
+        (MINUS, [(_, e), (ZERO, _)]) => Becomes::Part(*e),
         // "0 − E becomes negate E"
         (MINUS, [(ZERO, _), (_, e)]) => Becomes::Node(NEGATE, vec![*e]),
-        // "E − 0 becomes E"
-        (MINUS, [(_, e), (ZERO, _)]) => Becomes::Part(*e),
         // "E + 0 and 0 + E become E"
         (PLUS, [(_, e), (ZERO, _)] | [(ZERO, _), (_, e)]) => Becomes::Part(*e),
         // "E × 1 and 1 × E become E"

@@ -1,11 +1,14 @@
-//! Request P6, "Shorter conditions", sentence by sentence: the rules, the new
-//! list with its room, the entry over two lists, the deepest formulas, and that
-//! the meaning stays. Of the two forms that lists have since request P9, formulas
-//! are tried in both, and lists of words in the older one.
+//! Requests P6, "Shorter conditions", and P10, "Zero minus zero", sentence by
+//! sentence: the rules, the new list with its room, the entry over two lists, the
+//! deepest formulas, and that the meaning stays. Of the two forms that lists have
+//! since request P9, formulas are tried in both, and lists of words in the older
+//! one, those of request P10 in both.
 
 mod random;
+mod random_formulas;
 
 use random::Random;
+use random_formulas::formula_by_chance;
 use reference::*;
 
 const AMPLE: usize = 20_000;
@@ -95,11 +98,12 @@ fn expression_stays(expression: &[i32]) {
 /// and 1 × E become E"
 #[test]
 fn each_rule_for_expressions() {
-    let parts: [&[i32]; 6] = [
+    let parts: [&[i32]; 7] = [
         &[2, 0],
         &[9, 1],
         &[1, 5],
         &[NEGATE, 2, 3],
+        &[NEGATE, 1, 0],
         &[DIV, 2, 0, 1, 0],
         &[CHOOSE, TRUE, 1, 0, 1, 1],
     ];
@@ -167,8 +171,8 @@ fn pairs_of_constants() {
             let old = [kind, 1, a, 1, b];
             match (kind, a, b) {
                 (PLUS, 0, e) | (PLUS, e, 0) => expression_becomes(&old, &[1, e]),
-                (MINUS, 0, e) => expression_becomes(&old, &[NEGATE, 1, e]),
                 (MINUS, e, 0) => expression_becomes(&old, &[1, e]),
+                (MINUS, 0, e) => expression_becomes(&old, &[NEGATE, 1, e]),
                 (TIMES, 1, e) | (TIMES, e, 1) => expression_becomes(&old, &[1, e]),
                 _ => expression_stays(&old),
             }
@@ -215,7 +219,6 @@ fn what_has_no_rule() {
             expression_stays(&[&[kind, 1, constant][..], &e].concat());
         }
     }
-    expression_stays(&[NEGATE, 1, 0]);
     expression_stays(&[NEGATE, 1, 5]);
     expression_stays(&[NEGATE, NEGATE, 2, 0]);
     expression_stays(&[MINUS, 2, 0, 2, 0]);
@@ -234,40 +237,130 @@ fn what_has_no_rule() {
     stays(&[&[AND][..], &F, &[NOT], &F].concat());
 }
 
-/// "The first two rules of P6 both match 0 − 0, and the first leaves a negated
-/// zero."
+/// 0 − 0, which "The first two rules of P6 both match".
+const ZERO_MINUS_ZERO: [i32; 5] = [MINUS, 1, 0, 1, 0];
+
+/// Every way to subtract so many zeros from one another.
+fn zeros_subtracted(zeros: usize) -> Vec<Vec<i32>> {
+    if zeros == 1 {
+        return vec![vec![1, 0]];
+    }
+    let mut all = Vec::new();
+    for left in 1..zeros {
+        for first in zeros_subtracted(left) {
+            for second in zeros_subtracted(zeros - left) {
+                all.push([&[MINUS], &first[..], &second].concat());
+            }
+        }
+    }
+    all
+}
+
+/// "it was `8 1 0` and is now `1 0`"; and so are (0 − 0) − 0, 0 − (0 − 0) and
+/// (0 − 0) − (0 − 0).
 #[test]
 fn zero_minus_zero() {
-    let old = [MINUS, 1, 0, 1, 0];
-    expression_becomes(&old, &[NEGATE, 1, 0]);
-    // A negated zero is no constant 0 for the nodes around it.
+    expression_becomes(&ZERO_MINUS_ZERO, &[1, 0]);
+    for old in (3..8).flat_map(zeros_subtracted) {
+        expression_becomes(&old, &[1, 0]);
+    }
+}
+
+/// "a subtraction whose two sides had both become constant 0"
+#[test]
+fn sides_that_become_zero() {
+    let zeros: [&[i32]; 6] = [
+        &[1, 0],
+        &ZERO_MINUS_ZERO,
+        &[PLUS, 1, 0, 1, 0],
+        &[TIMES, 1, 0, 1, 1],
+        &[TIMES, 1, 1, MINUS, 1, 0, 1, 0],
+        &[PLUS, MINUS, 1, 0, 1, 0, MINUS, 1, 0, 1, 0],
+    ];
+    for left in zeros {
+        for right in zeros {
+            expression_becomes(&[&[MINUS], left, right].concat(), &[1, 0]);
+        }
+    }
+    // These are 0, too, but no constant.
+    for e in [[TIMES, 1, 0, 1, 0], [PLUS, 1, 1, 1, -1], [DIV, 1, 0, 1, 1]] {
+        expression_becomes(&[&[MINUS][..], &e, &ZERO_MINUS_ZERO].concat(), &e);
+        let negated = [&[NEGATE][..], &e].concat();
+        expression_becomes(&[&[MINUS][..], &ZERO_MINUS_ZERO, &e].concat(), &negated);
+        expression_stays(&[&[MINUS][..], &e, &e].concat());
+    }
+}
+
+/// "nodes around it may shrink further, as v0 + (0 − 0), now v0"
+#[test]
+fn around_zero_minus_zero() {
+    let z = &ZERO_MINUS_ZERO[..];
+    expression_becomes(&[&[PLUS, 2, 0], z].concat(), &[2, 0]);
+    expression_becomes(&[&[PLUS], z, &[2, 0]].concat(), &[2, 0]);
+    expression_becomes(&[&[MINUS, 2, 0], z].concat(), &[2, 0]);
+    expression_becomes(&[&[MINUS], z, &[2, 0]].concat(), &[NEGATE, 2, 0]);
+    let one = [&[PLUS, 1, 1], z].concat();
+    expression_becomes(&[&[TIMES, 2, 0], &one[..]].concat(), &[2, 0]);
+    expression_becomes(&[&[TIMES], &one[..], &[2, 0]].concat(), &[2, 0]);
+    let twice = [&[PLUS, PLUS], z, &[2, 0], z].concat();
+    expression_becomes(&twice, &[2, 0]);
+}
+
+/// What has no rule for constant 0 stays around it.
+#[test]
+fn around_zero_minus_zero_without_a_rule() {
+    let z = &ZERO_MINUS_ZERO[..];
+    for kind in [TIMES, DIV, MOD] {
+        expression_becomes(&[&[kind, 2, 0], z].concat(), &[kind, 2, 0, 1, 0]);
+        expression_becomes(&[&[kind], z, &[2, 0]].concat(), &[kind, 1, 0, 2, 0]);
+        expression_becomes(&[&[kind], z, z].concat(), &[kind, 1, 0, 1, 0]);
+    }
     expression_becomes(
-        &[&[PLUS, 2, 0][..], &old].concat(),
-        &[PLUS, 2, 0, NEGATE, 1, 0],
+        &[&[CHOOSE, EQUAL], z, &[1, 0], z, z].concat(),
+        &[CHOOSE, EQUAL, 1, 0, 1, 0, 1, 0, 1, 0],
     );
+    for kind in 18..=21 {
+        becomes(&[&[kind], z, z].concat(), &[kind, 1, 0, 1, 0]);
+    }
+    let equal = [&[EQUAL], z, &[1, 0]].concat();
+    becomes(&[&[NOT], &equal[..]].concat(), &[NOT, EQUAL, 1, 0, 1, 0]);
+    for kind in [AND, OR, IMPLIES] {
+        becomes(
+            &[&[kind], &equal[..], &equal].concat(),
+            &[kind, EQUAL, 1, 0, 1, 0, EQUAL, 1, 0, 1, 0],
+        );
+    }
+}
+
+/// Formulas that drop a part, drop it as before.
+#[test]
+fn zero_minus_zero_in_dropped_parts() {
+    let equal = &[&[EQUAL], &ZERO_MINUS_ZERO[..], &[2, 0]].concat()[..];
+    let kept = &[EQUAL, 1, 0, 2, 0];
+    becomes(&[&[AND, FALSE], equal].concat(), &[FALSE]);
+    becomes(&[&[AND], equal, &[FALSE]].concat(), &[FALSE]);
+    becomes(&[&[IMPLIES, FALSE], equal].concat(), &[TRUE]);
+    becomes(&[&[IMPLIES], equal, &[TRUE]].concat(), &[TRUE]);
+    becomes(&[&[AND, TRUE], equal].concat(), kept);
+    becomes(&[&[IMPLIES, TRUE], equal].concat(), kept);
+}
+
+/// A negated zero that a planner wrote is no subtraction: it stays, and is no
+/// constant 0 for the nodes around it.
+#[test]
+fn zeros_negated_by_a_planner() {
+    let negated = &[NEGATE, 1, 0][..];
+    expression_stays(negated);
+    expression_becomes(&[&[NEGATE], &ZERO_MINUS_ZERO[..]].concat(), negated);
+    for kind in [PLUS, MINUS, TIMES, DIV, MOD] {
+        expression_stays(&[&[kind], negated, negated].concat());
+        expression_stays(&[&[kind, 2, 0], negated].concat());
+        expression_stays(&[&[kind], negated, &[2, 0]].concat());
+    }
+    expression_becomes(&[&[MINUS], negated, &ZERO_MINUS_ZERO].concat(), negated);
     expression_becomes(
-        &[&[PLUS][..], &old, &[2, 0]].concat(),
-        &[PLUS, NEGATE, 1, 0, 2, 0],
-    );
-    expression_becomes(
-        &[&[MINUS, 2, 0][..], &old].concat(),
-        &[MINUS, 2, 0, NEGATE, 1, 0],
-    );
-    expression_becomes(
-        &[&[MINUS][..], &old, &[2, 0]].concat(),
-        &[MINUS, NEGATE, 1, 0, 2, 0],
-    );
-    expression_becomes(&[&[MINUS][..], &old, &[1, 0]].concat(), &[NEGATE, 1, 0]);
-    let negated_twice = [NEGATE, NEGATE, 1, 0];
-    expression_becomes(&[&[MINUS, 1, 0][..], &old].concat(), &negated_twice);
-    expression_becomes(
-        &[&[MINUS][..], &old, &old].concat(),
-        &[MINUS, NEGATE, 1, 0, NEGATE, 1, 0],
-    );
-    // Both sides become 0 before the node is looked at.
-    expression_becomes(
-        &[MINUS, PLUS, 1, 0, 1, 0, TIMES, 1, 0, 1, 1],
-        &[NEGATE, 1, 0],
+        &[&[MINUS], &ZERO_MINUS_ZERO[..], negated].concat(),
+        &[NEGATE, NEGATE, 1, 0],
     );
 }
 
@@ -378,22 +471,49 @@ const SHORTENED: [i32; 32] = [
     FALSE, 5, 7, 1, 5,
 ];
 
+/// v0 + (0 − 0) equal 5, and not (0 − 0 equal 0). Before request P10 their new
+/// list had 23 words.
+const ZEROS: [i32; 27] = [
+    EQUAL, PLUS, 2, 0, MINUS, 1, 0, 1, 0, 1, 5, 1, 9, 11, //
+    NOT, EQUAL, MINUS, 1, 0, 1, 0, 1, 0, 4, 10, 9, 2,
+];
+
+const ZEROS_SHORTENED: [i32; 18] = [
+    EQUAL, 2, 0, 1, 5, 1, 9, 5, //
+    NOT, EQUAL, 1, 0, 1, 0, 4, 10, 6, 2,
+];
+
+/// The same with depths.
+const DEEP_ZEROS: [i32; 29] = [
+    EQUAL, PLUS, 2, 0, MINUS, 1, 0, 1, 0, 1, 5, 1, 9, 11, 6, //
+    NOT, EQUAL, MINUS, 1, 0, 1, 0, 1, 0, 4, 10, 9, 0, -2,
+];
+
+const DEEP_ZEROS_SHORTENED: [i32; 20] = [
+    EQUAL, 2, 0, 1, 5, 1, 9, 5, 6, //
+    NOT, EQUAL, 1, 0, 1, 0, 4, 10, 6, 0, -2,
+];
+
 #[test]
 fn a_list_with_its_trailers() {
     assert_eq!(shortened_list(&PADDED), SHORTENED);
     assert_eq!(shortened_list(&SHORTENED), SHORTENED);
     assert_eq!(shortened_list(&EXAMPLE_A), EXAMPLE_A);
     assert_eq!(shortened_list(&[25, 16, 16, 4, 3, 3, 1]), [16, 4, 3, 1, 1]);
+    assert_eq!(shortened_list(&ZEROS), ZEROS_SHORTENED);
+    assert_eq!(shortened_list(&DEEP_ZEROS), DEEP_ZEROS_SHORTENED);
 }
 
 /// "31 when the output is too short", by need; zeros behind what is used, and
 /// nothing but zeros on refusal.
 #[test]
 fn every_room() {
-    let lists: [(&[i32], &[i32]); 3] = [
+    let lists: [(&[i32], &[i32]); 5] = [
         (&PADDED, &SHORTENED),
         (&EXAMPLE_A, &EXAMPLE_A),
         (&[25, 16, 16, 4, 3, 3, 1], &[16, 4, 3, 1, 1]),
+        (&ZEROS, &ZEROS_SHORTENED),
+        (&DEEP_ZEROS, &DEEP_ZEROS_SHORTENED),
     ];
     for (old, new) in lists {
         let need = new.len();
@@ -600,14 +720,12 @@ fn deepest(count: usize) -> Vec<(Vec<i32>, Vec<i32>)> {
         (compared(&left(PLUS, &v, &[1, 0])), compared(&v)),
         (compared(&right(&[TIMES, 1, 1], &v)), compared(&v)),
         (compared(&left(MINUS, &v, &[1, 0])), compared(&v)),
+        (compared(&left(MINUS, &[1, 0], &[1, 0])), compared(&[1, 0])),
         (
             compared(&right(&[MINUS, 1, 0], &v)),
             compared(&right(&[NEGATE], &v)),
         ),
-        (
-            compared(&left(MINUS, &[1, 0], &[1, 0])),
-            compared(&[NEGATE, 1, 0]),
-        ),
+        (compared(&right(&[MINUS, 1, 0], &[1, 0])), compared(&[1, 0])),
         (
             compared(&right(&[CHOOSE, TRUE, 1, 0], &v)),
             compared(&right(&[CHOOSE, TRUE, 1, 0], &v)),
@@ -642,56 +760,6 @@ fn far_deeper_than_a_list() {
             assert!(shortened_formula(&old) == new);
         }
     });
-}
-
-/// An expression by chance, its words put after those in `words`.
-fn put_expression(random: &mut Random, depth: usize, words: &mut Vec<i32>) {
-    let kind = match depth {
-        0 => random.pick(&[1, 1, 2, 9]),
-        _ => random.pick(&[1, 2, 3, 3, 4, 4, 4, 5, 5, 6, 7, 8, 9, 10]),
-    };
-    words.push(kind);
-    match kind {
-        1 => words.push(random.pick(&[0, 0, 0, 0, 1, 1, 1, -1, 2, i32::MIN])),
-        2 => words.push(random.pick(&[0, 1, 128, 1_023])),
-        9 => words.push(random.pick(&[0, 3])),
-        8 => put_expression(random, depth - 1, words),
-        _ => {
-            if kind == CHOOSE {
-                put_formula(random, depth - 1, words);
-            }
-            put_expression(random, depth - 1, words);
-            put_expression(random, depth - 1, words);
-        }
-    }
-}
-
-/// A formula by chance, its words put after those in `words`.
-fn put_formula(random: &mut Random, depth: usize, words: &mut Vec<i32>) {
-    let kind = match depth {
-        0 => random.pick(&[TRUE, FALSE]),
-        _ => random.pick(&[16, 17, 18, 19, 20, 21, 22, 22, 23, 23, 23, 24, 25, 25, 25]),
-    };
-    words.push(kind);
-    match kind {
-        TRUE | FALSE => {}
-        NOT => put_formula(random, depth - 1, words),
-        18..=21 => {
-            put_expression(random, depth - 1, words);
-            put_expression(random, depth - 1, words);
-        }
-        _ => {
-            put_formula(random, depth - 1, words);
-            put_formula(random, depth - 1, words);
-        }
-    }
-}
-
-fn formula_by_chance(random: &mut Random) -> Vec<i32> {
-    let mut words = Vec::new();
-    let depth = 1 + random.below(6);
-    put_formula(random, depth, &mut words);
-    words
 }
 
 fn state_by_chance(random: &mut Random) -> State {

@@ -38,7 +38,7 @@ impl<'a> Fields<'a> {
     }
 
     /// What the generator is to answer.
-    #[allow(dead_code)] // the lines of P6 and P7 are of other entries
+    #[allow(dead_code)] // the lines of P6, P7 and P10 are of other entries
     pub fn outcome(&self) -> reference::Outcome {
         let words = self.number("words");
         assert_eq!(words, self.words("list").len());
@@ -64,7 +64,7 @@ impl<'a> Fields<'a> {
 
 /// Each line has the fields of these names, `answer` gives what `due` makes of
 /// them, and so many lines have each number.
-#[allow(dead_code)] // the lines of P6 have two forms
+#[allow(dead_code)] // the lines of P6 and P10 have two forms
 pub fn expect_lines<T: Debug + PartialEq, const N: usize>(
     vectors: &str,
     names: &[&str],
