@@ -8,7 +8,7 @@ use crate::{Refusal, LONGEST_LIST};
 /// -E; E + 0, 0 + E, E * 1 and 1 * E become E; true and F, and F and true become F;
 /// false and F, and F and false become false; true implies F becomes F; false implies F,
 /// and F implies true become true; not true becomes false, and not false true. All else
-/// stays, as `or`, F implies false, 0 * E, -0 and not not F do. A new condition holds in
+/// stays, as `or`, F implies false, 0 * E, -(0) and not not F do. A new condition holds in
 /// the same states as its old one, and is never longer; kinds, rows, depths and order
 /// stay, and so does the form: a list from before P9 is written as one.
 ///

@@ -7,7 +7,7 @@ use super::shortening::{split, Shortener, Way};
 
 fuzz::faults! {
     /// One way in which 0 - 0 may go wrong. Where it becomes 0 in some places alone, it
-    /// becomes -0 in all others, as before.
+    /// becomes -(0) in all others, as before.
     pub enum Zeros {
         WrittenSoAlone,
         ShortenedSidesAlone,
