@@ -86,24 +86,34 @@ pub fn truths_leaning_left() -> Vec<i32> {
 }
 
 /// v0 less than an expression with this around it, again and again.
-fn deep_expression(around: Around) -> Vec<i32> {
-    let deep = nested(&[around], &[2, 1], WORDS - 3);
+fn deep_expression(around: Around, innermost: &[i32]) -> Vec<i32> {
+    let deep = nested(&[around], innermost, WORDS - 3);
     list_of(&[&[18, 2, 0], &deep[..]].concat())
 }
 
 /// 0 + (0 + (.. v1))
 pub fn zeros_leaning_right() -> Vec<i32> {
-    deep_expression([&[3, 1, 0], &[]])
+    deep_expression([&[3, 1, 0], &[]], &[2, 1])
 }
 
 /// ((v1 + 0) + 0) ..
 pub fn zeros_leaning_left() -> Vec<i32> {
-    deep_expression([&[3], &[1, 0]])
+    deep_expression([&[3], &[1, 0]], &[2, 1])
 }
 
 /// 0 - (0 - (.. v1)), of which as many negates are left.
 pub fn negations() -> Vec<i32> {
-    deep_expression([&[4, 1, 0], &[]])
+    deep_expression([&[4, 1, 0], &[]], &[2, 1])
+}
+
+/// 0 - (0 - (.. 0)), of which 0 is left.
+pub fn zeros_less_zero() -> Vec<i32> {
+    deep_expression([&[4, 1, 0], &[]], &[1, 0])
+}
+
+/// v0 equal to (v1 plus (0 minus 0)), again and again.
+pub fn lines_with_zero_less_zero(form: Form) -> Vec<i32> {
+    list_of_each(&[20, 2, 0, 3, 2, 1, 4, 1, 0, 1, 0], form)
 }
 
 /// The list with its first word changed: refused, after all was read.

@@ -236,6 +236,11 @@ fn time_shortenings(watch: &Stopwatch) {
         ("0 + (0 + ..", lists::zeros_leaning_right()),
         ("(.. + 0) + 0", lists::zeros_leaning_left()),
         ("0 - (0 - ..", lists::negations()),
+        ("0 - (0 - .. 0", lists::zeros_less_zero()),
+        (
+            "lines with 0 - 0",
+            lists::lines_with_zero_less_zero(WithDepth),
+        ),
         (
             "torn at the front",
             lists::torn(lists::padded_lines(WithoutDepth)),

@@ -81,7 +81,7 @@ fn sorted_words(listed: &str, table: &[i32]) -> String {
 
 #[test]
 fn an_example_gives_the_order_that_is_stored_beside_it() {
-    assert_is_stored("--by-depth");
+    assert_is_stored("--by-depth", 2);
 }
 
 /// As they are and shortened, for people and as words.

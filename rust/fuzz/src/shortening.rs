@@ -1,4 +1,4 @@
-//! Lists, rooms and pairs of lists for shorter conditions (request P6).
+//! Lists, rooms and pairs of lists for shorter conditions (requests P6 and P10).
 
 use reference::{lines, shorten, Form, LONGEST_LIST};
 
@@ -146,6 +146,10 @@ struct Writer<'a> {
     words: Vec<i32>,
 }
 
+/// What becomes 0, and what looks like it was 0 - 0 and stays.
+const ZERO_LESS_ZERO: [i32; 5] = [4, 1, 0, 1, 0];
+const NEGATED_ZERO: [i32; 3] = [8, 1, 0];
+
 /// What a part has to be, or to become.
 #[derive(Clone, Copy)]
 enum Wanted {
@@ -242,8 +246,8 @@ impl Writer<'_> {
                 self.expression(second);
                 self.expression(third);
             }
-            2 => self.two_expressions(4, [Number(0), Number(0)], size),
-            3 => {
+            2 | 3 => self.two_expressions(4, [Number(0), Number(0)], size),
+            4 => {
                 let kind = self.random.pick(&[6, 7]);
                 let wanted = self.wanted(&[Number(0), Number(1)]);
                 self.two_expressions(kind, wanted, size);
@@ -260,6 +264,10 @@ impl Writer<'_> {
     fn leaf(&mut self) {
         let random = &mut *self.random;
         let any = random.number() as i32;
+        if random.once_in(32) {
+            self.words.extend(NEGATED_ZERO);
+            return;
+        }
         let leaf = match random.below(8) {
             0 => [1, 0],
             1 => [1, 1],
@@ -278,7 +286,10 @@ impl Writer<'_> {
             return;
         }
         let (kind, first, second) = match value {
-            0 => self.random.pick(&[(3, 0, 0), (5, 0, 1), (5, 1, 0)]),
+            0 => {
+                let zeros = [(4, 0, 0), (4, 0, 0), (3, 0, 0), (5, 0, 1), (5, 1, 0)];
+                self.random.pick(&zeros)
+            }
             _ => {
                 let sums = [(3, 1, 0), (3, 0, 1), (4, 1, 0), (5, 1, 1)];
                 self.random.pick(&sums)
@@ -328,7 +339,7 @@ pub const AROUND_FORMULAS: [Around; 16] = [
     [&[20, 10], &[1, 0, 2, 0, 1, 1]],
 ];
 
-pub const AROUND_EXPRESSIONS: [Around; 18] = [
+pub const AROUND_EXPRESSIONS: [Around; 20] = [
     [&[3, 1, 0], &[]],
     [&[3], &[1, 0]],
     [&[4, 1, 0], &[]],
@@ -347,6 +358,8 @@ pub const AROUND_EXPRESSIONS: [Around; 18] = [
     [&[3, 2, 0], &[]],
     [&[5], &[2, 1]],
     [&[4], &[3, 1, 0, 1, 0]],
+    [&[4], &[4, 1, 0, 1, 0]],
+    [&[4, 4, 1, 0, 1, 0], &[]],
 ];
 
 /// The innermost part with these around it in turn, again and again, in at most so many
@@ -383,7 +396,14 @@ fn chain(random: &mut Prng, most: usize) -> Vec<i32> {
         return nested(&around, random.pick(&truths), most);
     }
     let around = some_of(&AROUND_EXPRESSIONS, random);
-    let numbers: [&[i32]; 4] = [&[1, 0], &[1, 1], &[2, 0], &[9, 7]];
+    let numbers: [&[i32]; 6] = [
+        &[1, 0],
+        &[1, 1],
+        &[2, 0],
+        &[9, 7],
+        &ZERO_LESS_ZERO,
+        &NEGATED_ZERO,
+    ];
     let deep = nested(&around, random.pick(&numbers), most - 3);
     let kind = random.pick(&[18, 19, 20, 21]);
     match random.below(2) {

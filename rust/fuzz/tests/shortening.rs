@@ -1,7 +1,9 @@
 //! The proved shortening of lists, and the choice between two lists, beside the
-//! reference (request P6).
+//! reference (requests P6 and P10).
 
 mod common;
+#[allow(dead_code)] // one of its faults is tried here
+mod misshortened;
 
 use common::Proved;
 use fuzz::mutate::tear;
@@ -11,6 +13,7 @@ use fuzz::shortening::{AROUND_EXPRESSIONS, AROUND_FORMULAS};
 use fuzz::small::{every_small_change, Kinds, Trees};
 use fuzz::{compare_counting, compare_input, seed_from_environment, tell, Input, Prng, Tally};
 use leqwarti::{entries, Condition, Plan};
+use misshortened::{Misshortened, P6_ORDER};
 use reference::{lines, listed, shorten, spell_list, spelled_formula_is_true};
 use reference::{Form, Listed, Row, State, Variable};
 use reference::{LONGEST_LIST, VARIABLES};
@@ -38,6 +41,21 @@ fn not_one_difference() {
     assert!(tally.shorter_old >= 5_000 && tally.shorter_new >= 5_000);
 }
 
+/// Inputs of the comparison above to which the reference gave another answer in P6's
+/// order.
+#[test]
+fn many_answers_are_new_with_p10() {
+    let seed = seed_from_environment();
+    let mut before = Misshortened(P6_ORDER);
+    let is_new = |case: &u64| {
+        let input = Input::any_shortening(&mut Prng::for_case(seed, *case));
+        compare_input(&mut before, &input, &mut Tally::default()).is_err()
+    };
+    let new = (0..CASES).filter(is_new).count();
+    tell(format!("{CASES} inputs: {new} answers are new with P10"));
+    assert!(new >= 20_000);
+}
+
 fn compare_all(inputs: impl Iterator<Item = Input>) {
     let mut tally = Tally::default();
     let mut count = 0;
@@ -58,7 +76,7 @@ fn compare_all(inputs: impl Iterator<Item = Input>) {
 fn list_of_all() -> Vec<i32> {
     let sums = [
         20, 4, 3, 1, 0, 1, 0, 5, 2, 7, 4, 1, 1, 1, 0, // 0 + 0 - v7 * (1 - 0)
-        3, 8, 1, 0, 6, 9, 16, 1, 1, // -0 + m16 div 1
+        3, 8, 4, 1, 0, 1, 0, 6, 9, 16, 1, 1, // -(0 - 0) + m16 div 1
     ];
     let joins = [
         25, 23, 22, 17, 24, 16, 17, // not false and (true or false)

@@ -4,14 +4,13 @@ use crate::entries;
 use crate::{Refusal, LONGEST_LIST};
 
 /// A finished list with each condition shortened, parts first and then by the first
-/// rule that fits, one at most at each node: 0 - E becomes -E; E - 0, E + 0, 0 + E,
-/// E * 1 and 1 * E become E; true and F, and F and true become F; false and F, and
-/// F and false become false; true implies F becomes F; false implies F, and
-/// F implies true become true; not true becomes false, and not false true. All else
-/// stays, as `or`, F implies false, 0 * E and not not F do, and 0 - 0 becomes -0. A
-/// new condition holds in the same states as its old one, and is never longer; kinds,
-/// rows, depths and order stay, and so does the form: a list from before P9 is written
-/// as one.
+/// rule that fits, one at most at each node: E - 0 becomes E, 0 - 0 too; 0 - E becomes
+/// -E; E + 0, 0 + E, E * 1 and 1 * E become E; true and F, and F and true become F;
+/// false and F, and F and false become false; true implies F becomes F; false implies F,
+/// and F implies true become true; not true becomes false, and not false true. All else
+/// stays, as `or`, F implies false, 0 * E, -(0) and not not F do. A new condition holds in
+/// the same states as its old one, and is never longer; kinds, rows, depths and order
+/// stay, and so does the form: a list from before P9 is written as one.
 ///
 /// It refuses with [`TornList`](crate::Reason::TornList) alone, lists of more than
 /// [`LONGEST_LIST`] words too.
@@ -24,6 +23,9 @@ use crate::{Refusal, LONGEST_LIST};
 /// assert_eq!(leqwarti::shorten(&list)?, [19, 1, 0, 2, 0, 4, 9, 5, 0, -1]);
 /// let old_form = [25, 16, 19, 1, 0, 4, 2, 0, 1, 0, 4, 9, 10, 1];
 /// assert_eq!(leqwarti::shorten(&old_form)?, [19, 1, 0, 2, 0, 4, 9, 5, 1]);
+/// // v0 = (v1 + (0 - 0))
+/// let difference = [20, 2, 0, 3, 2, 1, 4, 1, 0, 1, 0, 4, 9, 11, 0, -1];
+/// assert_eq!(leqwarti::shorten(&difference)?, [20, 2, 0, 2, 1, 4, 9, 5, 0, -1]);
 /// assert_eq!(leqwarti::shorten(&list[1..]).unwrap_err().reason, Reason::TornList);
 /// # Ok::<(), leqwarti::Refusal>(())
 /// ```

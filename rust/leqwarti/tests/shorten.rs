@@ -1,8 +1,11 @@
 //! A list with its conditions shortened, the shorter of two formulas, and 31 for a
-//! buffer that is too short. What is wanted is from document 02, P6; `shorten_cases.txt`
-//! and `shorter_cases.txt` have cases that an independent reading of both documents
-//! answered, with lists from before P9. Each list of this file is shortened in both
-//! forms, from before and with depths; what is written has the form that was read.
+//! buffer that is too short. What is wanted is from document 02, P6 and P10;
+//! `shorten_cases.txt` and `shorter_cases.txt` have cases that an independent reading of
+//! both documents answered, with lists from before P9, and `zero_shorten_cases.txt` and
+//! `zero_shorter_cases.txt` such cases of P10, in both forms. The answers of 28 cases of
+//! the first file are not the ones that were read, but what P10 makes of them. Each list
+//! of this file is shortened in both forms, from before and with depths; what is written
+//! has the form that was read.
 
 mod common;
 
@@ -76,16 +79,55 @@ fn differences() {
     expect_formulas(
         "20 4 1 0 2 5 2 6         | 20 8 2 5 2 6
          20 4 2 5 1 0 2 6         | 20 2 5 2 6
-         20 4 1 0 1 0 2 6         | 20 8 1 0 2 6
          20 4 1 0 1 7 2 6         | 20 8 1 7 2 6
          20 4 1 0 8 2 5 2 6       | 20 8 8 2 5 2 6
          20 2 6 4 9 7 1 0         | 20 2 6 9 7
          20 4 4 2 5 1 0 1 0 2 6   | 20 2 5 2 6
          20 4 1 0 4 1 0 2 5 2 6   | 20 8 8 2 5 2 6
-         20 4 1 0 4 1 0 1 0 2 6   | 20 8 8 1 0 2 6
-         20 4 4 1 0 1 0 1 0 2 6   | 20 8 1 0 2 6
-         20 3 2 0 4 1 0 1 0 2 6   | 20 3 2 0 8 1 0 2 6
          20 4 1 1 1 0 2 6         | 20 1 1 2 6",
+    );
+}
+
+/// It is 0, and nodes around it see that.
+#[test]
+fn zero_minus_zero() {
+    expect_formulas(
+        "20 4 1 0 1 0 2 6               | 20 1 0 2 6
+         20 2 6 4 1 0 1 0               | 20 2 6 1 0
+         20 4 1 0 4 1 0 1 0 2 6         | 20 1 0 2 6
+         20 4 4 1 0 1 0 1 0 2 6         | 20 1 0 2 6
+         20 4 4 1 0 1 0 4 1 0 1 0 2 6   | 20 1 0 2 6
+         20 4 3 1 0 1 0 5 1 1 1 0 2 6   | 20 1 0 2 6
+         20 3 2 0 4 1 0 1 0 2 6         | 20 2 0 2 6
+         20 3 4 1 0 1 0 2 0 2 6         | 20 2 0 2 6
+         20 3 4 1 0 1 0 4 1 0 1 0 2 6   | 20 1 0 2 6
+         20 4 2 0 4 1 0 1 0 2 6         | 20 2 0 2 6
+         20 4 4 1 0 1 0 2 0 2 6         | 20 8 2 0 2 6
+         20 5 2 0 4 1 0 1 0 2 6         | 20 5 2 0 1 0 2 6
+         20 5 1 1 4 1 0 1 0 2 6         | 20 1 0 2 6
+         20 6 2 0 4 1 0 1 0 2 6         | 20 6 2 0 1 0 2 6
+         20 8 4 1 0 1 0 2 6             | 20 8 1 0 2 6
+         22 20 4 1 0 1 0 1 0            | 22 20 1 0 1 0
+         25 16 20 4 1 0 1 0 1 0         | 20 1 0 1 0
+         18 10 20 4 1 0 1 0 2 6 4 1 0 1 0 3 2 5 4 1 0 1 0 2 7 | 18 10 20 1 0 2 6 1 0 2 5 2 7
+         23 17 20 4 1 0 1 0 2 6         | 17
+         25 20 4 1 0 1 0 2 6 22 17      | 16",
+    );
+}
+
+/// A negated zero of the planner's own is no 0, beside 0 - 0 either.
+#[test]
+fn a_negated_zero_stays() {
+    expect_formulas(
+        "20 8 1 0 2 6                   |
+         20 3 2 0 8 1 0 2 6             |
+         20 4 2 0 8 1 0 2 6             |
+         20 4 8 1 0 8 1 0 2 6           |
+         20 4 8 1 0 1 0 2 6             | 20 8 1 0 2 6
+         20 4 1 0 8 1 0 2 6             | 20 8 8 1 0 2 6
+         20 4 4 1 0 1 0 8 1 0 2 6       | 20 8 8 1 0 2 6
+         20 3 8 1 0 4 1 0 1 0 2 6       | 20 8 1 0 2 6
+         20 4 1 0 8 4 1 0 1 0 2 6       | 20 8 8 1 0 2 6",
     );
 }
 
@@ -256,9 +298,10 @@ fn the_longest_lists() {
         for (name, list) in [("0 + (0 + ..", right), ("(.. + 0) + 0", left)] {
             expect(name, &list, &list_of(&[20, 2, 0, 2, 1]));
         }
-        let old = sum([&[4, 1, 0].repeat(count)[..], &[1, 0]].concat());
-        let new = sum([&vec![8; count][..], &[1, 0]].concat());
-        expect("0 - (0 - ..", &old, &new);
+        let less = |innermost: &[i32]| sum([&[4, 1, 0].repeat(count)[..], innermost].concat());
+        let negated = sum([&vec![8; count][..], &[2, 1]].concat());
+        expect("0 - (0 - .. v1", &less(&[2, 1]), &negated);
+        expect("0 - (0 - .. 0", &less(&[1, 0]), &sum(vec![1, 0]));
 
         let conditions = [22, 16, 4, 7, 2].repeat(3_276);
         let old = [&conditions[..], &[3_276]].concat();
@@ -328,6 +371,23 @@ fn the_shorter_formula() {
     );
 }
 
+/// What P6 made of 0 - 0 is a list as any other: shortened it stays, and what P10 makes is
+/// the shorter one.
+#[test]
+fn a_list_that_p6_shortened() {
+    let before = numbers("16 4 0 1, 20 3 2 0 8 1 0 2 6 4 7 9, 2");
+    expect("shortened by P6", &before, &before);
+    expect_parts(
+        "20 4 1 0 1 0 2 6 4 0 8 1    | 20 8 1 0 2 6 4 0 6 1    | 0 | new 0 6
+         20 4 1 0 1 0 2 6 4 0 8 1    | 20 1 0 2 6 4 0 5 1      | 0 | new 0 5
+         20 8 1 0 2 6 4 0 6 1        | 20 1 0 2 6 4 0 5 1      | 0 | new 0 5
+         20 1 0 2 6 4 0 5 1          | 20 8 1 0 2 6 4 0 6 1    | 0 | old 0 5
+         20 8 1 0 2 6 4 0 6 3 -1     | 20 1 0 2 6 4 0 5 3 -1   | 0 | new 0 5
+         16 4 0 1 20 8 1 0 2 6 4 0 6 2 | 16 4 0 1 20 1 0 2 6 4 0 5 2 | 0 | old 0 1
+         16 4 0 1 20 8 1 0 2 6 4 0 6 2 | 16 4 0 1 20 1 0 2 6 4 0 5 2 | 1 | new 4 9",
+    );
+}
+
 #[test]
 fn refusals_of_two_lists_in_order() {
     let (whole, two) = (numbers("22 17 4 0 2 1"), numbers("16 4 0 1 17 4 0 1 2"));
@@ -364,38 +424,60 @@ fn number_31_has_its_reason() {
     assert!(Reason::ALL.is_sorted_by_key(|reason| reason.number()));
 }
 
+/// Tries the cases of a file, and says how many they are.
+fn try_recorded(text: &str) -> usize {
+    let lines = cases(text).skip(1);
+    lines.map(try_recorded_case).count()
+}
+
+fn try_recorded_case(case: &str) {
+    let [list, room, refusal, new] = parts(case, "|");
+    let (list, room) = (numbers(list), number(room));
+    match number(refusal) {
+        0 => expect_list(case, &list, room, &numbers(new)),
+        refusal => expect_refusal(case, &list, room, refusal),
+    }
+}
+
+fn try_recorded_pairs(text: &str) -> usize {
+    let lines = cases(text).skip(1);
+    lines.map(try_recorded_pair).count()
+}
+
+fn try_recorded_pair(case: &str) {
+    let [old, new, index, refusal, place] = parts(case, "|");
+    let [side, start, length] = parts(place, " ");
+    let side = if side == "new" { NEW } else { OLD };
+    let start = number(start);
+    let wanted = ShorterPart {
+        number: number(refusal),
+        side,
+        start,
+        end: start + number::<usize>(length),
+    };
+    let found = entries::shorter(&numbers(old), &numbers(new), number(index));
+    assert_eq!(found, wanted, "{case}");
+}
+
 #[test]
 fn the_recorded_cases() {
-    let mut tried = 0;
-    for case in cases(include_str!("shorten_cases.txt")).skip(1) {
-        let [list, room, refusal, new] = parts(case, "|");
-        let (list, room) = (numbers(list), number(room));
-        match number(refusal) {
-            0 => expect_list(case, &list, room, &numbers(new)),
-            refusal => expect_refusal(case, &list, room, refusal),
-        }
-        tried += 1;
-    }
-    assert_eq!(tried, 97);
+    assert_eq!(try_recorded(include_str!("shorten_cases.txt")), 97);
+}
+
+#[test]
+fn the_recorded_cases_of_p10() {
+    assert_eq!(try_recorded(include_str!("zero_shorten_cases.txt")), 97);
 }
 
 #[test]
 fn the_recorded_cases_of_two_lists() {
-    let mut tried = 0;
-    for case in cases(include_str!("shorter_cases.txt")).skip(1) {
-        let [old, new, index, refusal, place] = parts(case, "|");
-        let [side, start, length] = parts(place, " ");
-        let side = if side == "new" { NEW } else { OLD };
-        let start = number(start);
-        let wanted = ShorterPart {
-            number: number(refusal),
-            side,
-            start,
-            end: start + number::<usize>(length),
-        };
-        let found = entries::shorter(&numbers(old), &numbers(new), number(index));
-        assert_eq!(found, wanted, "{case}");
-        tried += 1;
-    }
-    assert_eq!(tried, 60);
+    assert_eq!(try_recorded_pairs(include_str!("shorter_cases.txt")), 60);
+}
+
+#[test]
+fn the_recorded_cases_of_two_lists_of_p10() {
+    assert_eq!(
+        try_recorded_pairs(include_str!("zero_shorter_cases.txt")),
+        60
+    );
 }

@@ -1,4 +1,4 @@
-//! Shorter conditions (request P6).
+//! Shorter conditions (requests P6 and P10).
 //!
 //! Lines are read from the last one back, and the new list is written from its end
 //! to the front. The words of a formula are read once from the front, which notes its
@@ -322,14 +322,11 @@ impl Writer<'_> {
         let end = second.end;
         match (kind, first.literal, second.literal) {
             (3, ZERO, _) | (5, ONE, _) | (23 | 25, TRUE, _) => self.pass(second, end, under),
+            (3 | 4, _, ZERO) | (5, _, ONE) | (23, _, TRUE) => self.pass(first, end, under),
             (4, ZERO, _) => {
-                if second.literal == ZERO {
-                    self.put_constant(0);
-                }
                 self.put(8);
                 self.push(end);
             }
-            (3 | 4, _, ZERO) | (5, _, ONE) | (23, _, TRUE) => self.pass(first, end, under),
             (23, FALSE, _) | (23, _, FALSE) => self.literal(FALSE, end, under),
             (25, FALSE, _) | (25, _, TRUE) => self.literal(TRUE, end, under),
             _ => {

@@ -17,8 +17,8 @@ pub fn printed(arguments: &[&str], file: &Path) -> String {
     out.to_string()
 }
 
-/// Two examples have it stored, and `list` may be said or not.
-pub fn assert_is_stored(option: &str) {
+/// So many files have it stored, and `list` may be said or not.
+pub fn assert_is_stored(option: &str, files: usize) {
     let mut stored = 0;
     for file in examples() {
         if let Some(expected) = expected_with(option, &file) {
@@ -28,5 +28,5 @@ pub fn assert_is_stored(option: &str) {
             stored += 1;
         }
     }
-    assert_eq!(stored, 2);
+    assert_eq!(stored, files);
 }

@@ -1,6 +1,6 @@
-//! The inputs of the recorded answers. They are frozen: a change here changes
-//! every digest, so new inputs go to a group of their own. Nothing here is used
-//! by another test, and nothing is taken from one.
+//! The inputs of the recorded answers, and what tells them apart. They are frozen: a
+//! change here changes every digest, so new inputs go to a group of their own. Nothing
+//! here is used by another test, and nothing is taken from one.
 
 #![allow(dead_code)] // each file of recorded answers uses a part of it
 
@@ -16,6 +16,7 @@ pub mod scratch;
 pub mod shortening;
 pub mod tables;
 pub mod texts;
+pub mod zeros;
 
 /// A source of numbers that are the same for ever (SplitMix64).
 pub struct Chance(u64);

@@ -54,7 +54,7 @@ fn odd_pairs_of_lists() {
     assert!(sides.keys().copied().eq([0, 1]));
 }
 
-/// Two conditions that shorten in every way; a negate of 0 is left of one.
+/// Two conditions that shorten in every way.
 fn list() -> Vec<i32> {
     let first = [
         25, 23, 22, 17, 20, 4, 3, 1, 0, 1, 0, 5, 2, 1_023, 1, 1, 1, 7, // not false and ..

@@ -1,9 +1,10 @@
 //! The reference with one fault in the shortening of lists, or in the choice between two
-//! lists (request P6).
+//! lists (requests P6 and P10).
 
 mod choice;
 mod rules;
 mod shortening;
+mod zeros;
 
 use fuzz::{Answer, Reference, Subject, Written};
 use reference::{lines, listed, Form, Line, Listed, ShorterPart, Verdict, LONGEST_LIST};
@@ -11,10 +12,12 @@ use reference::{lines, listed, Form, Line, Listed, ShorterPart, Verdict, LONGEST
 use choice::Choice;
 use rules::{faulty_rules, RuleFault, RULES};
 use shortening::{Shortener, Way};
+use zeros::Zeros;
 
 fuzz::faults! {
     /// One way in which a new list, the answer beside it or the choice may be wrong.
-    pub enum ShortFault beside Nothing, OfRules(RuleFault), OfWay(Way), OfChoice(Choice) {
+    pub enum ShortFault
+    beside Nothing, OfRules(RuleFault), OfWay(Way), OfZeros(Zeros), OfChoice(Choice) {
         FirstConditionAlone,
         LastConditionAlone,
         OldLengths,
@@ -30,6 +33,7 @@ fuzz::faults! {
         ThirtyOneWordEarly,
         ThirtyOneWordLate,
         ThirtyOneByTheOldLength,
+        ThirtyOneAsBeforeP10,
         RoomBeforeTorn,
         TornIsEmpty,
         WordLeftBehind,
@@ -49,10 +53,15 @@ use ShortFault::*;
 pub fn short_faults() -> impl Iterator<Item = ShortFault> {
     let of_rules = RuleFault::ALL.iter().map(|&fault| OfRules(fault));
     let of_way = Way::ALL.iter().map(|&way| OfWay(way));
+    let of_zeros = Zeros::ALL.iter().map(|&zeros| OfZeros(zeros));
     let of_choice = Choice::ALL.iter().map(|&choice| OfChoice(choice));
     let in_lists = ShortFault::ALL.iter().copied();
-    of_rules.chain(of_way).chain(in_lists).chain(of_choice)
+    let in_formulas = of_rules.chain(of_way).chain(of_zeros);
+    in_formulas.chain(in_lists).chain(of_choice)
 }
+
+/// 0 - E before E - 0, as it was before P10.
+pub const P6_ORDER: ShortFault = OfRules(RuleFault::ZeroLessZeroIsNegated);
 
 /// The reference with one fault.
 pub struct Misshortened(pub ShortFault);
@@ -68,8 +77,11 @@ impl Misshortened {
         let new = reference::shorten(list, LONGEST_LIST);
         let mut conditions = listed(&new.buffer[..new.used])?;
         if list.len() <= MOST_WORDS {
-            for (condition, old) in conditions.iter_mut().zip(&old) {
-                condition.formula = self.formula(&old.formula);
+            for (place, condition) in conditions.iter_mut().enumerate() {
+                condition.formula = match self.0 {
+                    OfZeros(zeros) => zeros.shortened(list, &old, place),
+                    _ => self.formula(&old[place].formula),
+                };
             }
         }
         let kept = match self.0 {
@@ -165,6 +177,12 @@ impl Misshortened {
             }
             ThirtyOneByTheOldLength if number == 0 && room < list.len() => {
                 *answer = refuse(31, short);
+            }
+            ThirtyOneAsBeforeP10 if number == 0 => {
+                let before = Misshortened(P6_ORDER).words(list).unwrap_or_default();
+                if room < before.len() {
+                    *answer = refuse(31, short);
+                }
             }
             RoomBeforeTorn if number == 20 && room < list.len() => answer.number = 31,
             TornIsEmpty if number == 20 && list.is_empty() => answer.number = 0,

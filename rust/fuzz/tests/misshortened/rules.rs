@@ -1,4 +1,5 @@
-//! The rules of request P6 as a table, so that a fault changes a line of it.
+//! The rules of request P6, in the order of P10, as a table, so that a fault changes a
+//! line of it.
 
 /// What a rule asks of a part.
 #[derive(Clone, Copy, PartialEq)]
@@ -56,10 +57,10 @@ pub const ONE: Ask = Ask::Constant(1);
 pub const TO_TRUE: Becomes = Becomes::Truth(16);
 pub const TO_FALSE: Becomes = Becomes::Truth(17);
 
-/// The request's rules, in its order.
+/// The rules in their order.
 pub const RULES: [Rule; 15] = [
-    rule(4, ZERO, Any, Becomes::BeforeSecond(8)),
     rule(4, Any, ZERO, First),
+    rule(4, ZERO, Any, Becomes::BeforeSecond(8)),
     rule(3, Any, ZERO, First),
     rule(3, ZERO, Any, Second),
     rule(5, Any, ONE, First),
@@ -78,8 +79,8 @@ pub const RULES: [Rule; 15] = [
 fuzz::faults! {
     /// One way in which the rules may be wrong.
     pub enum RuleFault {
-        NoNegateOfASecond,
         NoFirstLessZero,
+        NoNegateOfASecond,
         NoFirstPlusZero,
         NoZeroPlusSecond,
         NoFirstTimesOne,
@@ -93,7 +94,7 @@ fuzz::faults! {
         NoImpliesTrue,
         NoNotTrue,
         NoNotFalse,
-        ZeroLessZeroIsZero,
+        ZeroLessZeroIsNegated,
         ZeroLessSecondIsTheSecond,
         FirstLessZeroIsNegated,
         ZeroPlusSecondIsNegated,
@@ -138,9 +139,9 @@ pub fn faulty_rules(fault: RuleFault) -> Vec<Rule> {
         return rules;
     }
     match fault {
-        RuleFault::ZeroLessZeroIsZero => rules.swap(0, 1),
-        RuleFault::ZeroLessSecondIsTheSecond => rules[0].becomes = Second,
-        RuleFault::FirstLessZeroIsNegated => rules[1].becomes = Becomes::BeforeFirst(8),
+        RuleFault::ZeroLessZeroIsNegated => rules.swap(0, 1),
+        RuleFault::ZeroLessSecondIsTheSecond => rules[1].becomes = Second,
+        RuleFault::FirstLessZeroIsNegated => rules[0].becomes = Becomes::BeforeFirst(8),
         RuleFault::ZeroPlusSecondIsNegated => rules[3].becomes = Becomes::BeforeSecond(8),
         RuleFault::SumsDropOne => rules[2].second = ONE,
         RuleFault::ProductsDropZero => rules[5].first = ZERO,

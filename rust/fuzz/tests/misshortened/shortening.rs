@@ -57,7 +57,7 @@ impl Shortener<'_> {
         }
     }
 
-    fn ruled(&self, node: &[i32], parts: &[Vec<i32>]) -> Vec<i32> {
+    pub fn ruled(&self, node: &[i32], parts: &[Vec<i32>]) -> Vec<i32> {
         let rule = self.rules.iter().find(|rule| applies(rule, node, parts));
         let Some(rule) = rule else {
             return [node, &parts.concat()].concat();
@@ -89,7 +89,7 @@ fn applies(rule: &Rule, node: &[i32], parts: &[Vec<i32>]) -> bool {
 }
 
 /// The words of a node without its parts, and those of each part.
-fn split(words: &[i32]) -> (&[i32], Vec<&[i32]>) {
+pub fn split(words: &[i32]) -> (&[i32], Vec<&[i32]>) {
     let own = match words[0] {
         1 | 2 | 9 => 2,
         _ => 1,
