@@ -19,7 +19,7 @@
 //! Inputs with such a list have a digest of their own (`frozen::zeros` tells them), and so
 //! have pairs in which it is the new one. All others have a digest of the yardstick from
 //! before P10, which gave the digests from before on the whole groups. P10's digests were
-//! made with the yardstick before the library was there.
+//! made with the yardstick alone, before the library was tried, which has to give the same.
 
 mod digest;
 mod frozen;
