@@ -1,6 +1,8 @@
 // The operators of 01, "Meaning of a run", on 64-bit numbers: sum, difference, product, opposite, div and mod, each told apart
 // where 64 bits do not hold it. "n = d × q + r with 0 ≤ r < |d|. Here n div 0 is 0 and n mod 0 is n."
 
+#![tactic(auto)]
+
 ghost use Rattle.std.specs.Prelude.{◌≡◌, ◌*◌, ◌<◌, pos, negsuc, nat_abs, neg_ℤ, ◌+ℤ◌, ◌-ℤ◌, ◌*ℤ◌, ltb};
 ghost use Rattle.std.specs.Int.Signed.{mag};
 ghost use Rattle.script.specs.Meaning.{divZ, modZ, whole};
@@ -8,7 +10,7 @@ ghost use Rattle.arithmetic.specs.Checking.{held};
 
 use script::Operator;
 
-#[derive(Drop)]
+#[derive(Clone, Copy)]
 pub enum Checked {
     Is(i64),
     // 64 bits do not hold it

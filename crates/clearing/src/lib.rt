@@ -1,5 +1,7 @@
 // A lent run of words, cleared.
 
+#![tactic(auto)]
+
 ghost use Rattle.std.specs.Prelude.{◌≡◌, length};
 ghost use Rattle.script.specs.Generated.{zeros};
 

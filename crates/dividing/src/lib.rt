@@ -4,6 +4,8 @@
 // into the run that has what follows each statement, at the entries of expressions and formulas, which are free there
 // (`specs/Divided.antt` says what an entry means).
 
+#![tactic(auto)]
+
 ghost use Rattle.std.specs.Prelude.{◌≡◌, true, ◌+◌, ◌<◌, length};
 ghost use Rattle.script.specs.Refusals.{verdict, accepted};
 ghost use Rattle.following.specs.Follow.{row_on, Followed};

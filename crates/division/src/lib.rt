@@ -1,12 +1,14 @@
 // Div and mod of 01, "Meaning of a run", on 64-bit numbers: "n = d × q + r with 0 ≤ r < |d|. Here n div 0 is 0 and n mod 0 is
 // n." One quotient is no 64-bit number: that of the least number by -1. It is told apart.
 
+#![tactic(auto)]
+
 ghost use Rattle.std.specs.Prelude.{◌≡◌, ℕ, suc, ◌<◌, pos, negsuc, nat_abs, neg_ℤ};
 ghost use Rattle.std.specs.Int.Signed.{mag};
 ghost use Rattle.script.specs.Meaning.{divZ, modZ};
 ghost use Rattle.division.specs.Quotients.{held, quotient};
 
-#[derive(Drop)]
+#[derive(Clone, Copy)]
 pub enum Quotient {
     Is(i64),
     // 2 to the 63rd

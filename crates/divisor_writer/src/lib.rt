@@ -3,6 +3,8 @@
 // and from which row on D has words of its own (`dividing`): so the cost goes by the words written. Once there is no room, a
 // call returns at once.
 
+#![tactic(auto)]
+
 ghost use Rattle.std.specs.Prelude.{◌<◌, length};
 ghost use Rattle.script.specs.declared.Sort.TheVariants.{Expression, Formula};
 ghost use Rattle.theorems.specs.Writing.{Wrote};

@@ -1,6 +1,8 @@
 // The editor's entry, 01: "The editor's entry takes the table as a lent run of row records and gives the same answer as
 // four words to a row." It copies the records into a local run of words and calls the generator on them. Only the
 // functions that hold the records are proved by hand.
+#![tactic(auto)]
+
 ghost use Rattle.std.specs.Prelude.{◌≡◌, ◌+◌, ◌*◌, ◌<◌, ◌≤◌, length, get_or, take};
 ghost use Rattle.editor.specs.Flat.{none, flat, put_row, copy_first, rows_copied};
 ghost use Rattle.generator.specs.Whole.{Left};
@@ -9,7 +11,7 @@ use script::Answer;
 
 // A row of a table: its kind and its three fields.
 #[repr(C)]
-#[derive(Drop)]
+#[derive(Clone, Copy)]
 pub struct Record {
     pub kind: i32,
     pub first: i32,

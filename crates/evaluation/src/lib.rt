@@ -3,6 +3,8 @@
 // both sides." A row is not taken apart: the two functions go by the number in its first word. A row of another sort has the
 // value 0 and is true, as in the definitions.
 
+#![tactic(auto)]
+
 ghost use Rattle.std.specs.Prelude.{◌≡◌, []};
 ghost use Rattle.script.specs.Meaning.{takes, relate, connect};
 ghost use Rattle.script.specs.Trees.{expr_at, formula_at};
@@ -16,7 +18,7 @@ use arithmetic::Checked;
 use script::{Operator, field, kinds};
 
 // The value of an expression, or what stops the machine.
-#[derive(Drop)]
+#[derive(Clone, Copy)]
 pub enum Value {
     Is(i64),
     // a value leaves 64 bits
@@ -26,7 +28,7 @@ pub enum Value {
 }
 
 // The truth of a formula, or what stops the machine.
-#[derive(Drop)]
+#[derive(Clone, Copy)]
 pub enum Truth {
     Is(bool),
     Overflow,

@@ -1,6 +1,8 @@
 // The entries for other languages: the reader of text, the check, the mender, the list reader, the generator, the pass that shortens
 // lists, the writer of solver scripts, and the stepping machine, with their answers as numbers that the caller lends. A slice is its place and its length.
 
+#![tactic(auto)]
+
 ghost use Rattle.std.specs.Prelude.{◌≡◌, length};
 ghost use Rattle.script.specs.Refusals.{verdict};
 ghost use Rattle.script.specs.Generated.{outcome};

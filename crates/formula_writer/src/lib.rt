@@ -4,6 +4,8 @@
 // A node's last part is a turn of the loop; a call is for the parts before it. A row is not taken apart: the writers go by
 // the number in its first word, and each arm that ends returns its own answer, since a value that arms share is copied.
 
+#![tactic(auto)]
+
 pub mod path; // what a path has of an assignment, and the search for the latest one
 
 ghost use Rattle.std.specs.Prelude.{[], ◌∷◌, ◌<◌, pos};
@@ -69,7 +71,7 @@ pub fn push_mark(list: &mut [i32], at: usize, r: RowNumber) -> usize
 }
 
 // What stands in the place of a variable.
-#[derive(Drop)]
+#[derive(Clone, Copy)]
 enum Replacement {
     // the variable itself, which was written; the place of the next word
     Itself(usize),

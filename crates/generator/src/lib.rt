@@ -1,4 +1,6 @@
 // The generator: it lists the conditions of a script, for every table, list and scratch.
+#![tactic(auto)]
+
 ghost use Rattle.std.specs.Prelude.{◌≡◌, length};
 ghost use Rattle.script.specs.Refusals.{verdict, accepted};
 ghost use Rattle.script.specs.Generated.{zeros, refusal, scratch_need, outcome};

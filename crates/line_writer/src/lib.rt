@@ -1,6 +1,8 @@
 // The lines of a list, one function for each kind of condition: its formula, then its trailer. Nothing is kept of a formula:
 // each is written straight into the list. Once there is no room, nothing more is written.
 
+#![tactic(auto)]
+
 ghost use Rattle.std.specs.Prelude.{◌≡◌, [], ◌∷◌, ◌<◌, pos};
 ghost use Rattle.script.specs.declared.Connective.TheVariants.{And};
 ghost use Rattle.script.specs.Syntax.{join};
@@ -18,7 +20,7 @@ use script::{RowNumber, Rule, field, kinds};
 
 // Where the next word goes, with the number of conditions before it; a place past the end of the list says that there was no
 // room.
-#[derive(Drop)]
+#[derive(Clone, Copy)]
 pub struct Progress {
     pub at: usize,
     pub count: usize,

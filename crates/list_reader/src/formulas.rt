@@ -10,7 +10,7 @@ ghost use Rattle.list_reader.specs.Lines.{is_some};
 use crate::kinds;
 
 // What a word opens as an expression, with what it takes to read on.
-#[derive(Drop)]
+#[derive(Clone, Copy)]
 pub enum ExpressionNode {
     // a constant, a variable or a mark, and its number
     Number,
@@ -22,7 +22,7 @@ pub enum ExpressionNode {
 }
 
 // What a word opens as a formula.
-#[derive(Drop)]
+#[derive(Clone, Copy)]
 pub enum FormulaNode {
     // true or false
     Truth,

@@ -1,5 +1,7 @@
 // The reader of finished lists, 01, "Reading a finished list": the whole list, walked from the end back, and the entries.
 
+#![tactic(auto)]
+
 mod formulas;
 mod kinds;
 mod lines;

@@ -10,7 +10,7 @@ use crate::formulas::{all_but, is_formula};
 use script::Line;
 
 // The words of a trailer; the depth is 0 where the list has none.
-#[derive(Drop)]
+#[derive(Clone, Copy)]
 pub struct Trailer {
     pub kind: i32,
     pub row: i32,

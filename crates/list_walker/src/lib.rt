@@ -5,6 +5,8 @@
 // work to a covered function. Callers with a plain slice use `start`
 // and `step_from`.
 
+#![tactic(auto)]
+
 ghost use Rattle.std.specs.Prelude.{◌≡◌, min};
 ghost use Rattle.script.specs.Listing.{first_place};
 ghost use Rattle.list_walker.specs.Steps.{opened, stepped, Part, step_at};
@@ -25,7 +27,7 @@ pub struct Stepped<'a> {
 }
 
 // The same in plain numbers: the line, and the place before it.
-#[derive(Drop)]
+#[derive(Clone, Copy)]
 pub struct Walked {
     pub line: Line,
     pub end: usize,

@@ -1,6 +1,8 @@
 // The walk that lists the conditions of a script into the list. It calls itself on a statement's first-listed part and on a
 // loop's body, and the row number falls at every turn and every call. What follows a statement is found once, before the walk.
 
+#![tactic(auto)]
+
 ghost use Rattle.std.specs.Prelude.{◌≡◌, ◌≤◌, length};
 ghost use Rattle.script.specs.Rows.{rows};
 ghost use Rattle.script.specs.Conditions.{conditions};

@@ -1,5 +1,7 @@
 // The stepping machine, 02, P11: steps of a script, from its beginning or from where a call before stopped, up to a limit.
 
+#![tactic(auto)]
+
 ghost use Rattle.std.specs.Prelude.{◌≡◌, ◌||◌, ◌+◌, ltb};
 ghost use Rattle.script.specs.Rows.{variables as Rows·variables};
 ghost use Rattle.stepping.specs.Values.{mode_64};
@@ -12,7 +14,7 @@ use stepper::{stack, steps};
 use table::Verdict;
 
 // The number of 02, P11; the row of the statement that is due, or of a refusal; the whole steps done, and the height of the stack.
-#[derive(Drop)]
+#[derive(Clone, Copy)]
 pub struct RunAnswer {
     pub number: usize,
     pub row: usize,

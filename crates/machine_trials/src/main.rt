@@ -2,6 +2,8 @@
 // limit, the words of stack that are lent, how many variables do not start at 0, each with its value, how many words the table has,
 // and these. The answer to each is written, with the stack that is left and the variables and marks that are not 0.
 
+#![tactic(auto)]
+
 mod numbers; // numbers read from text, and written
 mod calls; // one call
 

@@ -1,6 +1,8 @@
 // Marks, named: while a text is read, the row of a mark holds the mark's number k. When all rows are there, one pass
 // from the last row down puts the row of the k-th loop around it in its place.
 
+#![tactic(auto)]
+
 ghost use Rattle.std.specs.Prelude.{◌≡◌, ◌*◌, ◌-◌, ◌≤◌, pos, length};
 ghost use Rattle.grammar.specs.Renamed.{loop_of};
 ghost use Rattle.marks.specs.Stack.{stacked};

@@ -1,5 +1,7 @@
 // A table with shared parts written anew, 02, P7: a row for every use, and none that the script does not reach.
 
+#![tactic(auto)]
+
 mod parts; // 2 to 5
 mod loops; // 13: the loops around every use of a row
 mod sizes; // 14: how many rows a use of a row takes
@@ -18,7 +20,7 @@ use table::{Verdict, tests};
 
 // What is answered beside the new table and the old row of each of its rows: the number and the row of a refusal; how many words
 // the new table has, how many old rows were dropped, and how many new rows are copies of a row that was copied before.
-#[derive(Drop)]
+#[derive(Clone, Copy)]
 pub struct MendAnswer {
     pub number: usize,
     pub row: usize,

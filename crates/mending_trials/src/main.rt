@@ -1,5 +1,7 @@
 // Tables with shared parts mended (02, P7), run: for each its name, what the mender answers, and every word that it leaves.
 
+#![tactic(auto)]
+
 mod mending; // tables of up to 124 words
 mod doubling; // tables that grow to 2,048 rows and beyond
 

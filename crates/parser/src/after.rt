@@ -13,7 +13,7 @@ use crate::{PART, State, symbols};
 use script::kinds;
 
 // What is left when operators have taken a part: its sort, rows written, frames.
-#[derive(Drop)]
+#[derive(Clone, Copy)]
 pub struct Reduction {
     pub sort: usize,
     pub rows: usize,

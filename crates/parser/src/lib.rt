@@ -1,6 +1,8 @@
 // The reader of a script's tokens: an automaton with a stack of frames, which takes one token at a time and writes a row when
 // a part is complete, so that parts stand before their parent, left to right. It refuses a token where no text goes on with it.
 
+#![tactic(auto)]
+
 mod symbols; // what is known of frames and of tokens
 mod frames; // the stack
 mod rows; // the rows
@@ -31,7 +33,7 @@ pub const FULL: usize = 4095;
 // No place of a text.
 pub const NOWHERE: usize = 65535;
 
-#[derive(Drop)]
+#[derive(Clone, Copy)]
 pub struct State {
     pub mode: usize,
     // after a part: its sort

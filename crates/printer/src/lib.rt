@@ -2,6 +2,8 @@
 // text of an answer. In this order: bytes to words, the parts of a line, an answer. A part is written as far as there is room
 // (crate `text`); an answer has room.
 
+#![tactic(auto)]
+
 ghost use Rattle.std.specs.Prelude.{◌≡◌, [], ◌∷◌, ◌+◌, ◌*◌, ◌≤◌, pos, length};
 ghost use Rattle.theorems.specs.Writing.{Wrote};
 ghost use Rattle.text.specs.Decimal.{decimal};

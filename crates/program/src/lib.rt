@@ -1,4 +1,6 @@
 // The program as a function from bytes to bytes: what it writes for what it reads.
+#![tactic(auto)]
+
 ghost use Rattle.std.specs.Prelude.{◌≤◌, length};
 ghost use Rattle.theorems.specs.Writing.{Wrote};
 ghost use Rattle.printer.specs.Input.{words_of};

@@ -1,5 +1,7 @@
 // 2 to 6: the faults of one row, by the table of kinds.
 
+#![tactic(auto)]
+
 ghost use Rattle.std.specs.Prelude.{◌≡◌, ◌&&◌, ◌≤◌};
 ghost use Rattle.rows.specs.Patterns.{blank, cell, limited};
 ghost use Rattle.rows.specs.Patterns.{patterns as Patterns·patterns};

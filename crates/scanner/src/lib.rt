@@ -1,6 +1,8 @@
 // The token that begins at a place of a text: which one it is, its value, and where it ends. Nothing is copied, and one
 // loop goes over a token's bytes.
 
+#![tactic(auto)]
+
 mod bytes;
 mod runs;
 pub mod tokens;
@@ -13,7 +15,7 @@ ghost use Rattle.scanner.specs.Lexed.{lexed, none_at, word_at, symbol_at};
 
 // A token by its number in `tokens`, the value of a numeral or a variable, else 0, and the place after the token.
 // Where no token begins, the kind is `tokens::NONE`, and the end is the place itself.
-#[derive(Drop)]
+#[derive(Clone, Copy)]
 pub struct Token {
     pub kind: usize,
     pub value: usize,

@@ -15,14 +15,14 @@ const MOST: usize = 4294967295;
 const LONGEST: u64 = 0xff_ff_ff_ff_ff_ff_ff;
 
 // Where digits end, and their number up to the most.
-#[derive(Drop)]
+#[derive(Clone, Copy)]
 pub struct Number {
     pub end: usize,
     pub value: usize,
 }
 
 // Where a word ends, and its bytes as digits to the base 256, up to the longest.
-#[derive(Drop)]
+#[derive(Clone, Copy)]
 pub struct Word {
     pub end: usize,
     pub number: u64,

@@ -25,4 +25,4 @@ pos_inj e = cc
 
 -- a signed word that a local holds as bits
 pub back : {z : ℤ} → mag z < 2 ^ 31 → to_z w32 (of_z w32 z) ≡ z
-back h = to_z-of_z (record { sfits = h })
+back h = to_z-of_z {w = w32} (record { sfits = h })

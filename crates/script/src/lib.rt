@@ -1,6 +1,8 @@
 // What the code of every layer shares with the definitions in specs/: the numbers of rows and variables, a row taken
 // apart, an answer, a line of a list; and the functions that take a row apart.
 
+#![tactic(auto)]
+
 pub mod kinds;
 
 ghost use Rattle.std.specs.Prelude.{◌≡◌, ℕ, ◌+◌, ◌*◌, ◌<◌, ◌≤◌, length};
@@ -8,16 +10,16 @@ ghost use Rattle.script.specs.Rows.{field_number, row_no, var_no, row_of, row, w
 ghost use Rattle.script.specs.Refusals.{frozen};
 
 // A row number and a variable number are both small whole numbers: two types keep them apart.
-#[derive(Drop)]
+#[derive(Clone, Copy)]
 pub struct RowNumber(pub usize);
 
-#[derive(Drop)]
+#[derive(Clone, Copy)]
 pub struct VariableNumber(pub usize);
 
 // How many variables there are.
 pub const VARIABLES: usize = 1024;
 
-#[derive(Drop)]
+#[derive(Clone, Copy)]
 pub enum Operator {
     Plus,
     Minus,
@@ -26,7 +28,7 @@ pub enum Operator {
     Mod,
 }
 
-#[derive(Drop)]
+#[derive(Clone, Copy)]
 pub enum Relation {
     Less,
     AtMost,
@@ -34,7 +36,7 @@ pub enum Relation {
     Unequal,
 }
 
-#[derive(Drop)]
+#[derive(Clone, Copy)]
 pub enum Connective {
     And,
     Or,
@@ -42,7 +44,7 @@ pub enum Connective {
 }
 
 // A row taken apart: its sort, then its kind, with what its fields hold.
-#[derive(Drop)]
+#[derive(Clone, Copy)]
 pub enum Row {
     Expression(ExpressionRow),
     Formula(FormulaRow),
@@ -55,7 +57,7 @@ pub enum Row {
     Unknown,
 }
 
-#[derive(Drop)]
+#[derive(Clone, Copy)]
 pub enum ExpressionRow {
     Constant(i32),
     Variable(VariableNumber),
@@ -66,7 +68,7 @@ pub enum ExpressionRow {
     Choose(RowNumber, RowNumber, RowNumber),
 }
 
-#[derive(Drop)]
+#[derive(Clone, Copy)]
 pub enum FormulaRow {
     True,
     False,
@@ -75,7 +77,7 @@ pub enum FormulaRow {
     Junction(Connective, RowNumber, RowNumber),
 }
 
-#[derive(Drop)]
+#[derive(Clone, Copy)]
 pub enum StatementRow {
     Skip,
     Assign(VariableNumber, RowNumber),
@@ -87,7 +89,7 @@ pub enum StatementRow {
     Assert(RowNumber),
 }
 
-#[derive(Drop)]
+#[derive(Clone, Copy)]
 pub enum Sort {
     Expression,
     Formula,
@@ -98,7 +100,7 @@ pub enum Sort {
 }
 
 // The rule that a condition comes from: what 01 calls the condition kind.
-#[derive(Drop)]
+#[derive(Clone, Copy)]
 pub enum Rule {
     Exit,
     Floor,
@@ -109,7 +111,7 @@ pub enum Rule {
 }
 
 // What a call answers: 0 with the conditions and words of the list, or the number of a refusal with its row.
-#[derive(Drop)]
+#[derive(Clone, Copy)]
 pub struct Answer {
     pub number: usize,
     pub row: usize,
@@ -118,7 +120,7 @@ pub struct Answer {
 }
 
 // A line of a list: a condition's kind, row and depth, and where its formula starts and ends; or the number of a refusal.
-#[derive(Drop)]
+#[derive(Clone, Copy)]
 pub struct Line {
     pub number: usize,
     pub kind: usize,
@@ -163,6 +165,7 @@ fn variable_number(w: i32) -> VariableNumber
 }
 
 // The row whose first word is n and whose fields are a, b and c.
+#[tactic(auto, unfolding(crate::specs::Rows::row_of))]
 pub fn row_of(n: usize, a: i32, b: i32, c: i32) -> Row
     ensures { result ≡ row_of n a b c }
 {

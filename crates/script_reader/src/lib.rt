@@ -1,6 +1,8 @@
 // The reader of script text: tokens are taken one after the other, rows are written, and marks get the rows of their loops; or
 // one refusal: 44, then 40 anywhere, 41, 42 and 43.
 
+#![tactic(auto)]
+
 mod tokens; // the tokens of a text, taken
 
 ghost use Rattle.std.specs.Prelude.{◌≡◌, ◌≤◌, ◌<◌, length};
@@ -12,7 +14,7 @@ use clearing::clear;
 use parser::State;
 
 // What is answered beside the words: number and place, and how many words were used.
-#[derive(Drop)]
+#[derive(Clone, Copy)]
 pub struct TextAnswer {
     pub number: usize,
     pub place: usize,

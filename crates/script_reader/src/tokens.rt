@@ -9,7 +9,7 @@ use parser::{State, take};
 use scanner::{is_blank, token_at, tokens};
 
 // What a text's tokens come to: the state after the last, or the place of the first byte that begins none.
-#[derive(Drop)]
+#[derive(Clone, Copy)]
 pub struct Passage {
     pub whole: bool,
     pub place: usize,

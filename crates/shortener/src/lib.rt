@@ -1,5 +1,7 @@
 // A list of conditions made shorter, 02, P6: the entry for the pass, and the entry over two lists.
 
+#![tactic(auto)]
+
 mod lines;
 mod plan;
 mod rules;
@@ -23,7 +25,7 @@ const LONGEST: usize = 16384;
 const BRIEF: usize = 512;
 
 // What is answered beside the new list: the number, and how many words were used.
-#[derive(Drop)]
+#[derive(Clone, Copy)]
 pub struct ShortAnswer {
     pub number: usize,
     pub used: usize,
@@ -91,7 +93,7 @@ pub fn shorten(list: &[i32], short: &mut [i32]) -> ShortAnswer
 }
 
 // Which of two lists, and from where to where in it; with the number of a refusal, or 0.
-#[derive(Drop)]
+#[derive(Clone, Copy)]
 pub struct Part {
     pub number: usize,
     pub in_new: bool,

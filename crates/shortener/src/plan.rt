@@ -14,7 +14,7 @@ use crate::rules::{
 use script::{field_number, kinds};
 
 // Of a node: the place past it, its shape when it is shortened, and what it becomes.
-#[derive(Drop)]
+#[derive(Clone, Copy)]
 struct Entry {
     pub end: u16,
     pub shape: u8,

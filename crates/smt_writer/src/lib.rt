@@ -2,6 +2,8 @@
 // that has no room: then the writers return at once. A dividend is passed over at each division that it stands in, so the cost
 // goes by the bytes written times the depth of divisions at most.
 
+#![tactic(auto)]
+
 mod names;
 mod terms;
 
@@ -19,7 +21,7 @@ use terms::write_node;
 use text::{clear, push_text};
 
 // What is answered beside the text: the number, and how many bytes were used.
-#[derive(Drop)]
+#[derive(Clone, Copy)]
 pub struct TextAnswer {
     pub number: usize,
     pub used: usize,

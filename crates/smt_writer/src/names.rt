@@ -36,7 +36,7 @@ pub fn write_mark(text: &mut [u8], at: usize, r: RowNumber) -> usize
 }
 
 // The places past the last variable and past the last mark that are noted.
-#[derive(Drop)]
+#[derive(Clone, Copy)]
 pub struct Tops {
     pub variables: usize,
     pub marks: usize,

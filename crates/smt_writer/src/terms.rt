@@ -16,14 +16,14 @@ use script::{RowNumber, VariableNumber, field_number, kinds};
 use text::{magnitude, push_byte, push_number, push_repeated, push_text};
 
 // Where a writer stands after a part: its place in the text, and the place in the words past the part.
-#[derive(Drop)]
+#[derive(Clone, Copy)]
 pub struct Reached {
     pub place: usize,
     pub end: usize,
 }
 
 // What a kind word opens.
-#[derive(Drop)]
+#[derive(Clone, Copy)]
 pub enum Shape {
     // a constant, a variable or a mark, and its number
     Leaf,

@@ -11,7 +11,7 @@ use crate::stack::take_next;
 use evaluation::{Truth, Value, truth_at, value_at};
 use script::{field, kinds};
 
-#[derive(Drop)]
+#[derive(Clone, Copy)]
 pub enum Outcome {
     // a whole step: the height of the stack after it
     On(usize),

@@ -1,5 +1,7 @@
 // ASCII text written into a lent run of bytes, up to the first byte that has no room: bytes, numbers, and the run cleared.
 
+#![tactic(auto)]
+
 ghost use Rattle.std.specs.Prelude.{◌≡◌, [], ◌∷◌, ◌+◌, ◌%◌, nat_abs, length, replicate};
 ghost use Rattle.theorems.specs.Writing.{Wrote};
 ghost use Rattle.text.specs.Decimal.{decimal};

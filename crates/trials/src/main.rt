@@ -3,6 +3,8 @@
 // (02, P4); last lists read, with depths and without (02, P9), and lists with their conditions shortened (02, P6 and P10). Tables
 // that are mended (02, P7) are `mending_trials`.
 
+#![tactic(auto)]
+
 mod run; // one trial
 mod example; // example A, by room and scratch, and with a row edited
 mod small; // the script of four rows, and tables by their number of words

@@ -3,6 +3,8 @@
 // out where a variable is written; and what follows each statement and which rows divide, which the table fixes. Once there is
 // no room, a call returns at once.
 
+#![tactic(auto)]
+
 ghost use Rattle.std.specs.Prelude.{◌≡◌};
 ghost use Rattle.theorems.specs.Writing.{Wrote};
 ghost use Rattle.following.specs.Follow.{follow_in};
