@@ -5,7 +5,7 @@ use Prim.Native.Nat.{ℕ, zero, suc, ◌+◌, ◌*◌, ◌-◌, ◌≤◌, ◌<�
 use Rattle.std.specs.Prelude.{◌≡◌, ◌↔◌, ◌⊎◌, true, ◌||◌, ℤ, T, length}
 use Rattle.std.proofs.Math.Path.{refl, ap, subst}
 use Rattle.std.proofs.Common.{sym, ◌∙◌, inl, inr, ⊎_elim, ltb→lt}
-use Rattle.std.proofs.Math.Logic.{Iff·trans}
+use Rattle.std.proofs.Math.Logic.Iff
 use mathlib.Core.List.{List, [], ◌∷◌, ◌++◌}
 use native.Mathlib.Omega.{arith as linear}
 use Rattle.std.proofs.Math.Decide.{ℕ_discrete}
@@ -114,9 +114,9 @@ module _ (table_room origins_room : ℕ) where
   tests : (n : ℕ) → (too_long table_room origins_room n ≡ true) ↔ PassesRoom table_room origins_room n
   unfolding too_long
   tests n =
-      Iff·trans (or_iff (ltb 2048 n) (ltb table_room (4 * n) || ltb origins_room n))
+      Iff.trans (or_iff (ltb 2048 n) (ltb table_room (4 * n) || ltb origins_room n))
       (either (less 2048 n)
-      (Iff·trans (or_iff (ltb table_room (4 * n)) (ltb origins_room n))
+      (Iff.trans (or_iff (ltb table_room (4 * n)) (ltb origins_room n))
       (either (less table_room (4 * n)) (less origins_room n))))
     where
       less : (a b : ℕ) → (ltb a b ≡ true) ↔ (a < b)
@@ -138,4 +138,4 @@ module _ (table_room origins_room : ℕ) where
   too_long_iff t falls h =
       subst (λ (n : ℕ). (too_long table_room origins_room n ≡ true) ↔ TooLong t table_room origins_room)
       (sym (capped_exact t falls h))
-      (Iff·trans (tests (min cap (length (origins t)))) (told (length (origins t))))
+      (Iff.trans (tests (min cap (length (origins t)))) (told (length (origins t))))

@@ -3,7 +3,7 @@
 -- of its loop, and last 14 when the result passes 2,048 rows or either buffer." Assumes nothing.
 use Rattle.std.specs.Prelude.{ℕ, ◌-◌, ◌<◌, ◌≡◌, ◌≢◌, List, not, ℤ, length}
 use Rattle.std.proofs.Common.{arith as linear, inl, inr}
-use Rattle.std.proofs.Math.Logic.{Iff·trans}
+use Rattle.std.proofs.Math.Logic.Iff
 use Rattle.script.specs.declared.Sort.TheVariants.{Script}
 use Rattle.script.specs.Rows.{rows, row, sort_of}
 use Rattle.script.specs.Refusals.{accepted, refused, ◌and_then◌, same_sort, length_test, script_test}
@@ -30,7 +30,7 @@ pub record FaultyPart (t : List ℤ) (k r : ℕ) : Type 0 where
 
 part_says : (t : List ℤ) → Says (part_test t) (FaultyPart t)
 unfolding part_test
-part_says t k r = Iff·trans (lowest_refuses (part_fault t) (rows t) 0 k r) (out, back)
+part_says t k r = Iff.trans (lowest_refuses (part_fault t) (rows t) 0 k r) (out, back)
   where
     out : FirstFault (part_fault t) (rows t) 0 k r → FaultyPart t k r
     out F =
@@ -60,7 +60,7 @@ unfolding script_test
 script_says t =
     rw (turned (same_sort (sort_of (row t (rows t - 1))) Script) accepted (refused 7 (rows t - 1)))
     (fact_says (not (same_sort (sort_of (row t (rows t - 1))) Script)) 7 (rows t - 1)
-    (Iff·trans (not_iff (same_sort (sort_of (row t (rows t - 1))) Script))
+    (Iff.trans (not_iff (same_sort (sort_of (row t (rows t - 1))) Script))
     (false_iff (same_sort (sort_of (row t (rows t - 1))) Script) (sort_iff (sort_of (row t (rows t - 1))) Script))))
 
 -- ---- the verdict

@@ -8,7 +8,7 @@ use Rattle.script.specs.Words.{list_words, all_lines, line_words, expr_words, fo
 use Rattle.script.specs.Refusals.{lowest, row_fault_within, linked, misread, misreads, length_test, row_test_within, script_test, unlinked_test, target_test, reading_test, nesting_test, verdict_within}
 use Rattle.script.specs.Generated.{outcome_for, outcome_within}
 use Rattle.script.specs.Listing.{read_expr_within, read_formula_within, spelled_within, found_within, line_before_within, lines_before_within, lines_within, line_at_within, no_line}
-use Rattle.script.specs.Computed.{◌⨾◌, numbers, counted_down, Trial, generates, lists, reads, observed, expected}
+use Rattle.script.specs.Computed.{◌⨾◌, numbers, counted_down, Trial, lists, reads, observed, expected}
 
 -- ---- depths of loops
 

@@ -8,7 +8,6 @@ use Rattle.std.proofs.Math.Seq.{slice}
 use Rattle.script.specs.declared.ExpressionRow.TheVariants.{Constant, Variable, Arithmetic, Negate, Mark, Choose}
 use Rattle.script.specs.declared.FormulaRow.TheVariants.{True, False, Comparison, Not, Junction}
 use Rattle.script.specs.declared.Row.{Row}
-use Rattle.script.specs.declared.Row.TheVariants as Row
 use Rattle.script.specs.declared.Rule.{Rule}
 use Rattle.script.specs.declared.Rule.TheVariants.{Exit, Floor, Step, Main, Guard}
 use Rattle.script.specs.declared.Line.{Line}

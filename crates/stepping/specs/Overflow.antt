@@ -7,7 +7,7 @@
 -- Argument: what is given is decided by the first event that stops (`Working`, `FirstFault`). Assumes nothing.
 use Rattle.std.specs.Prelude.{ℕ, ◌≡◌, refl, ◌↔◌, ◌≢◌, List, [], ◌∷◌, ◌++◌, Bool, true, false, ℤ}
 use Rattle.std.proofs.Common.{sym, ◌∙◌, subst, true≢false, arith as linear}
-use Rattle.std.proofs.Math.Logic.{Iff·trans}
+use Rattle.std.proofs.Math.Logic.Iff
 use Rattle.script.specs.Syntax.{Expr, Formula}
 use Rattle.script.specs.Meaning.{Arithmetic, State, value, holds}
 use Rattle.theorems.specs.ZeroDivisors.{Zero, Zeroᶠ, zero_iff, zero_iffᶠ}
@@ -22,7 +22,7 @@ use Rattle.stepping.specs.FirstFault.{AllHarmless, StopsAt, out_of_range, First,
 module _ {A : Type 0} (M : Mode) (code : Bool) (xs : List Event) (a : A) {w : Worked A} (e : w ≡ given (first_fault M code xs) a) where
   stops_by : (f : Fault) → (w ≡ stop f) ↔ First M code xs f
   stops_by f =
-      let s = Iff·trans (stop_iff (first_fault M code xs) a f) (fault_iff M code xs f) in
+      let s = Iff.trans (stop_iff (first_fault M code xs) a f) (fault_iff M code xs f) in
       (λ h. s.0 (sym e ∙ h), λ h. e ∙ s.1 h)
 
   gives : (z : A) → (w ≡ got z) ↔ (AllHarmless M code xs × (z ≡ a))

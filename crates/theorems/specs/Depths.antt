@@ -2,7 +2,7 @@
 -- the bodies of certain loops (`Standing.Stands`); the fourth word is their number (`fourth_word`). They are different loops, since
 -- each stands higher than the one inside it (`rises`), and a row stands in one place (`stands_once`), so the number is one.
 -- Argument: the walk goes with the loops around what it walks, by induction on the row (`depths_at`). Assumes nothing.
-use Rattle.std.specs.Prelude.{ℕ, zero, suc, ◌+◌, ◌-◌, ◌<◌, ◌≡◌, refl, ◌⊎◌, Bool, true, false, cond, ℤ, pos, T, eqb, get_or, take}
+use Rattle.std.specs.Prelude.{ℕ, zero, suc, ◌+◌, ◌-◌, ◌<◌, ◌≡◌, refl, Bool, true, false, cond, ℤ, pos, T, eqb, get_or, take}
 use Rattle.std.proofs.Common.{arith as linear, sym, ap, ◌∙◌, subst, inl, inr}
 use Rattle.std.proofs.Math.Decide.{ℕ_discrete}
 use Rattle.std.proofs.Math.Option.{Option, none, some}
@@ -11,23 +11,21 @@ use Rattle.std.proofs.Math.ListN.{length, get_elem?}
 use Rattle.script.specs.declared.Line.{Line}
 use Rattle.script.specs.declared.StatementRow.TheVariants.{Skip, Assign, Sequence, If, While, Assert}
 use Rattle.script.specs.declared.Row.{Row}
-use Rattle.script.specs.declared.Row.TheVariants as Row
-use Rattle.script.specs.declared.Rule.TheVariants.{Exit, Floor, Step, Main, Guard}
 use Rattle.script.specs.Syntax.{Formula, Stmt}
 use Rattle.script.specs.Rows.{Part, parts, row, rows}
 use Rattle.script.specs.Trees.{loop_node, stmt_node, script_node, expr_at, formula_at, stmt_at, tree}
 use Rattle.script.specs.Refusals.{accepted, all_below, all_new, linked, verdict}
-use Rattle.script.specs.Conditions.{Condition, condition, conditions, walk, wp, guard, decreased, divisorsᶠ}
+use Rattle.script.specs.Conditions.{Condition, conditions, walk, wp, guard, decreased, divisorsᶠ}
 use Rattle.script.specs.Words.{Form, with_depth, formula_words, trailer, all_lines}
 use Rattle.script.specs.WellFormed.{WellFormed}
 use Rattle.script.specs.Listing.{form_of, line_at}
 use Rattle.script.specs.Generated.{outcome}
 use Rattle.theorems.specs.Options.{none_is_not, some_inj}
 use Rattle.theorems.specs.Truths.{is_true}
-use Rattle.theorems.specs.Links.{Link, here, there, LinksTo, Shared, shared_iff}
+use Rattle.theorems.specs.Links.{Link, here, there, Shared, shared_iff}
 use Rattle.theorems.specs.Standing.{code_at, inside_at, Stands, script, link}
 use Rattle.theorems.specs.Accepted.{Accepted, passed}
-use Rattle.theorems.specs.RowTrees.{below, lower₂, lower₃, stmt_is, tree_is}
+use Rattle.theorems.specs.RowTrees.{lower₂, lower₃, stmt_is, tree_is}
 use Rattle.theorems.specs.RowPaths.{link_low}
 use Rattle.theorems.specs.Induction.{by_lower}
 use Rattle.theorems.specs.Line.{word_after}

@@ -5,7 +5,7 @@
 -- only that of a plan that had room for the old list and has none for the new one moves, to 12 (`answers_move`). Assumes nothing.
 use Rattle.std.specs.Prelude.{ℕ, suc, ◌+◌, ◌≤◌, ◌<◌, ◌≡◌, refl, ◌↔◌, ◌⊎◌, Bool, true, false, cond, List, [], ◌∷◌, ◌++◌, map, T, ltb, ℤ, pos, length}
 use Rattle.std.proofs.Common.{arith as linear, sym, ap, ap₂, ◌∙◌, subst, inl, inr, length-append, ltb-true, ltb-false}
-use Rattle.std.proofs.Math.Logic.{Iff·trans}
+use Rattle.std.proofs.Math.Logic.Iff
 use Rattle.std.proofs.Math.Option.{Option, none, some}
 use Rattle.std.proofs.lemmas.List.{map-append, length-map}
 use Rattle.script.specs.declared.Answer.{Answer}
@@ -17,9 +17,9 @@ use Rattle.script.specs.declared.Connective.TheVariants.{Implies}
 use Rattle.script.specs.Syntax.{Formula, join, Stmt, skip, assign, seq, branch, loop, assert, Tree}
 use Rattle.script.specs.Conditions.{Condition, condition, divisorsᶠ, wp, decreased, exit, floor, step, guard, walk, conditions}
 use Rattle.script.specs.Trees.{tree}
-use Rattle.script.specs.Words.{Form, without_depth, with_depth, depth_words, rule_number, trailer, formula_words, line_words, all_lines, count_word, list_words}
+use Rattle.script.specs.Words.{Form, without_depth, with_depth, rule_number, trailer, formula_words, line_words, all_lines, count_word, list_words}
 use Rattle.script.specs.WellFormed.{AllInRange, DepthInRange, WellFormed}
-use Rattle.script.specs.Listing.{form_of, depth_limit, read_list}
+use Rattle.script.specs.Listing.{depth_limit, read_list}
 use Rattle.script.specs.Refusals.{Verdict, accepted, refused, verdict}
 use Rattle.script.specs.Generated.{Outcome, refusal, refuse, plan, room, scratch_need, outcome_for, outcome, outcome_within}
 use Rattle.script.specs.Promise.{AllValid, ListValid}
@@ -109,7 +109,7 @@ valid_told 𝔸 form cs = (out cs, back cs)
 pub conditions_valid : (𝔸 : Arithmetic) (form : Form) (t : List ℤ) → verdict t ≡ accepted → length (table_list form t) ≤ 16384
     → ListValid 𝔸 (table_list form t) ↔ AllValid 𝔸 (conditions (tree t))
 conditions_valid 𝔸 form t h short =
-    Iff·trans (valid_of 𝔸 (table_list form t) _ (reads_either form t h short)) (valid_told 𝔸 form (conditions (tree t)))
+    Iff.trans (valid_of 𝔸 (table_list form t) _ (reads_either form t h short)) (valid_told 𝔸 form (conditions (tree t)))
 
 pub valid_either : (𝔸 : Arithmetic) (f g : Form) (t : List ℤ) → verdict t ≡ accepted → length (table_list f t) ≤ 16384
     → length (table_list g t) ≤ 16384 → ListValid 𝔸 (table_list f t) ↔ ListValid 𝔸 (table_list g t)

@@ -3,7 +3,7 @@
 -- `linked_twice` is number 6 by itself, `whole_row` a row that passes them all. Assumes nothing.
 use Rattle.std.specs.Prelude.{ℕ, ◌≤◌, ◌≡◌, refl, ◌↔◌, ◌≢◌, ◌⊎◌, List, [], ◌∷◌, Bool, true, false, cond, not, ◌&&◌, ℤ, pos, negsuc, length, drop, ltb}
 use Rattle.std.proofs.Common.{arith, sym, ap, inl, inr, ⊎_elim, true≢false, eqb-true, ltb-false, le-ltb}
-use Rattle.std.proofs.Math.Logic.{Iff·trans}
+use Rattle.std.proofs.Math.Logic.Iff
 use Rattle.std.proofs.lemmas.Bool.{false≢true}
 use Rattle.script.specs.declared.Row.{Row}
 use Rattle.script.specs.declared.Sort.TheVariants.{Unknown}
@@ -31,7 +31,7 @@ zero_iff (negsuc a) = (λ e. absurd (false≢true e), ap is_zero)
 
 zeros_iff : (zs : List ℤ) → (all_zero zs ≡ false) ↔ Some (λ z. z ≢ pos 0) zs
 zeros_iff [] = (true≢false, absurd)
-zeros_iff (z ∷ zs) = Iff·trans (and_false (is_zero z) (all_zero zs)) (either (false_iff (is_zero z) (zero_iff z)) (zeros_iff zs))
+zeros_iff (z ∷ zs) = Iff.trans (and_false (is_zero z) (all_zero zs)) (either (false_iff (is_zero z) (zero_iff z)) (zeros_iff zs))
 
 -- ---- the words of 01
 
@@ -46,19 +46,19 @@ module _ (ws : List ℤ) where
 
   range_iff : (fs : List Field) → (in_range ws fs ≡ false) ↔ Some Beyond fs
   range_iff [] = (true≢false, absurd)
-  range_iff (value ∷ fs) = Iff·trans (range_iff fs) not_this
-  range_iff (variable v ∷ fs) = Iff·trans (and_false (ltb v variables) (in_range ws fs)) (either (at_least v variables) (range_iff fs))
-  range_iff (target v ∷ fs) = Iff·trans (and_false (ltb v variables) (in_range ws fs)) (either (at_least v variables) (range_iff fs))
-  range_iff (loop m ∷ fs) = Iff·trans (and_false (ltb m (rows ws)) (in_range ws fs)) (either (at_least m (rows ws)) (range_iff fs))
-  range_iff (link s r ∷ fs) = Iff·trans (range_iff fs) not_this
+  range_iff (value ∷ fs) = Iff.trans (range_iff fs) not_this
+  range_iff (variable v ∷ fs) = Iff.trans (and_false (ltb v variables) (in_range ws fs)) (either (at_least v variables) (range_iff fs))
+  range_iff (target v ∷ fs) = Iff.trans (and_false (ltb v variables) (in_range ws fs)) (either (at_least v variables) (range_iff fs))
+  range_iff (loop m ∷ fs) = Iff.trans (and_false (ltb m (rows ws)) (in_range ws fs)) (either (at_least m (rows ws)) (range_iff fs))
+  range_iff (link s r ∷ fs) = Iff.trans (range_iff fs) not_this
 
   below_iff : (r : ℕ) (ps : List Part) → (all_below ws r ps ≡ false) ↔ Some (λ p. r ≤ p.at) ps
   below_iff r [] = (true≢false, absurd)
-  below_iff r (p ∷ ps) = Iff·trans (and_false (ltb p.at r) (all_below ws r ps)) (either (at_least p.at r) (below_iff r ps))
+  below_iff r (p ∷ ps) = Iff.trans (and_false (ltb p.at r) (all_below ws r ps)) (either (at_least p.at r) (below_iff r ps))
 
   sorted_iff : (ps : List Part) → (well_sorted ws ps ≡ false) ↔ Some (λ p. sort_of (row ws p.at) ≢ p.sort) ps
   sorted_iff [] = (true≢false, absurd)
-  sorted_iff (p ∷ ps) = Iff·trans (and_false (same_sort (sort_of (row ws p.at)) p.sort) (well_sorted ws ps))
+  sorted_iff (p ∷ ps) = Iff.trans (and_false (same_sort (sort_of (row ws p.at)) p.sort) (well_sorted ws ps))
       (either (false_iff (same_sort (sort_of (row ws p.at)) p.sort) (sort_iff (sort_of (row ws p.at)) p.sort)) (sorted_iff ps))
 
   -- 2: "kind not listed"
@@ -110,10 +110,10 @@ module _ (ws : List ℤ) (r : ℕ) where
   unfolding row_fault_within
   row_faults k =
       chosen from_3 (same_sort (sort_of w) Unknown) 2 _ k (sort_iff (sort_of w) Unknown)
-      (chosen from_4 (not (in_range ws (fields w) && unused)) 3 _ k (Iff·trans (not_iff (in_range ws (fields w) && unused)) ranges)
-      (chosen from_5 (not (all_below ws r (parts w))) 4 _ k (Iff·trans (not_iff (all_below ws r (parts w))) (below_iff ws r (parts w)))
-      (chosen from_6 (not (well_sorted ws (parts w))) 5 _ k (Iff·trans (not_iff (well_sorted ws (parts w))) (sorted_iff ws (parts w)))
-      (chosen (λ k. k ≡ 0) (not new) 6 0 k (Iff·trans (not_iff new) (shared_iff ws r)) (sym, sym)))))
+      (chosen from_4 (not (in_range ws (fields w) && unused)) 3 _ k (Iff.trans (not_iff (in_range ws (fields w) && unused)) ranges)
+      (chosen from_5 (not (all_below ws r (parts w))) 4 _ k (Iff.trans (not_iff (all_below ws r (parts w))) (below_iff ws r (parts w)))
+      (chosen from_6 (not (well_sorted ws (parts w))) 5 _ k (Iff.trans (not_iff (well_sorted ws (parts w))) (sorted_iff ws (parts w)))
+      (chosen (λ k. k ≡ 0) (not new) 6 0 k (Iff.trans (not_iff new) (shared_iff ws r)) (sym, sym)))))
     where
       w : Row
       w = row ws r
@@ -125,7 +125,7 @@ module _ (ws : List ℤ) (r : ℕ) where
       new = all_new ws (linked ws r) (parts w)
 
       ranges : ((in_range ws (fields w) && unused) ≡ false) ↔ OutOfRange ws r
-      ranges = Iff·trans (and_false (in_range ws (fields w)) unused) (either (range_iff ws (fields w))
+      ranges = Iff.trans (and_false (in_range ws (fields w)) unused) (either (range_iff ws (fields w))
           (zeros_iff (drop (length (fields w)) (word ws r 1 ∷ word ws r 2 ∷ word ws r 3 ∷ []))))
 
   -- what the tests 2 to 5 ask of row r
@@ -152,14 +152,14 @@ module _ (ws : List ℤ) (r : ℕ) where
 
 -- "a link's row already linked by a lower row or an earlier field", in a row that passes the tests before
 pub linked_twice : (ws : List ℤ) (r : ℕ) → (row_fault ws r ≡ 6) ↔ (WellMade ws r × Shared ws r)
-linked_twice ws r = Iff·trans (row_faults ws r 6) (Iff·trans (passed_to_6 ws r 6 (omega arith)) (out, λ h. (h.0, inl (h.1, refl))))
+linked_twice ws r = Iff.trans (row_faults ws r 6) (Iff.trans (passed_to_6 ws r 6 (omega arith)) (out, λ h. (h.0, inl (h.1, refl))))
   where
     out : WellMade ws r × from_6 ws r 6 → WellMade ws r × Shared ws r
     out h = (h.0, ⊎_elim (λ s. s.0) (λ s. absurd (omega arith)) h.1)
 
 -- a row without a fault
 pub whole_row : (ws : List ℤ) (r : ℕ) → (row_fault ws r ≡ 0) ↔ (WellMade ws r × ¬ Shared ws r)
-whole_row ws r = Iff·trans (row_faults ws r 0) (Iff·trans (passed_to_6 ws r 0 (omega arith)) (out, λ h. (h.0, inr (h.1, refl))))
+whole_row ws r = Iff.trans (row_faults ws r 0) (Iff.trans (passed_to_6 ws r 0 (omega arith)) (out, λ h. (h.0, inr (h.1, refl))))
   where
     out : WellMade ws r × from_6 ws r 0 → WellMade ws r × ¬ Shared ws r
     out h = (h.0, ⊎_elim (λ s. absurd (omega arith)) (λ s. s.0) h.1)

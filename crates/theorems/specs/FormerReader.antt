@@ -3,14 +3,14 @@
 -- whatever the index, and so does each of its steps (`new_list_refused`, `generated_refused`). To words whose last one is not negative it
 -- gives what the reader gives now (`old_answers`, `old_step`), and so this tells depth 0 of them: "0 for an old list" (`old_depth`).
 -- Assumes nothing.
-use Rattle.std.specs.Prelude.{ℕ, zero, suc, ◌+◌, ◌-◌, ◌≤◌, ◌≡◌, refl, Bool, true, false, ◌&&◌, List, [], ◌∷◌, ◌++◌, ℤ, pos, negsuc, ltb, leb, length, get_or, take}
-use Rattle.std.proofs.Common.{arith as linear, sym, ap, ap₂, ◌∙◌, subst, leb-true}
+use Rattle.std.specs.Prelude.{ℕ, zero, suc, ◌+◌, ◌-◌, ◌≡◌, refl, Bool, true, false, ◌&&◌, List, [], ◌∷◌, ◌++◌, ℤ, pos, negsuc, ltb, leb, length, get_or, take}
+use Rattle.std.proofs.Common.{arith as linear, sym, ap, ◌∙◌, subst, leb-true}
 use Rattle.std.proofs.Math.Option.{Option, none, some}
 use Rattle.std.proofs.Math.Bool.{and-eq-true_iff}
 use Rattle.std.proofs.Math.ListN.{get_elem?}
 use Rattle.std.proofs.Math.Seq.{slice}
 use Rattle.script.specs.declared.Line.{Line}
-use Rattle.script.specs.Rows.{field_number, variables}
+use Rattle.script.specs.Rows.{field_number}
 use Rattle.script.specs.Conditions.{condition, conditions}
 use Rattle.script.specs.Trees.{tree}
 use Rattle.script.specs.Words.{without_depth, with_depth}

@@ -7,7 +7,6 @@ use Rattle.script.specs.declared.ExpressionRow.TheVariants.{Constant, Variable, 
 use Rattle.script.specs.declared.FormulaRow.TheVariants.{True, False, Comparison, Not, Junction}
 use Rattle.script.specs.declared.StatementRow.TheVariants.{Skip, Assign, Sequence, If, While, Assert}
 use Rattle.script.specs.declared.Row.{Row}
-use Rattle.script.specs.declared.Row.TheVariants as Row
 use Rattle.script.specs.Syntax.{Formula, Stmt}
 use Rattle.script.specs.Rows.{row, rows, fields, parts, variables}
 use Rattle.script.specs.Trees.{no_tree, expr_node, formula_node, loop_node, stmt_node, script_node, expr_at, formula_at, stmt_at, tree}

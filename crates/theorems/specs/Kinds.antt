@@ -18,7 +18,6 @@ use Rattle.script.specs.declared.StatementRow.TheVariants.{Skip, Assign, Sequenc
 use Rattle.script.specs.declared.RowNumber.{RowNumber}
 use Rattle.script.specs.declared.VariableNumber.{VariableNumber}
 use Rattle.script.specs.declared.Row.{Row}
-use Rattle.script.specs.declared.Row.TheVariants as Row
 use Rattle.script.specs.Rows.{Kind, listed, kinds, row_of, row_no, var_no, field_number}
 use Rattle.script.specs.Words.{op_word, rel_word, conn_word}
 

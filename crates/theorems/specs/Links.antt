@@ -4,7 +4,7 @@
 use Rattle.std.specs.Prelude.{ℕ, zero, suc, ◌<◌, ◌≡◌, refl, ◌↔◌, ◌⊎◌, List, [], ◌∷◌, Bool, true, false, not, ◌&&◌, ℤ, eqb, take}
 use Rattle.std.proofs.Common.{arith, sym, ap, ◌∙◌, inl, inr, ⊎_elim, true≢false, eqb-true, eq-eqb}
 use Rattle.std.proofs.Math.Decide.{ℕ_discrete}
-use Rattle.std.proofs.Math.Logic.{Iff·trans, Iff·rfl}
+use Rattle.std.proofs.Math.Logic.Iff
 use Rattle.std.proofs.lemmas.Bool.{false≢true}
 use Rattle.script.specs.Rows.{Part, parts, row}
 use Rattle.script.specs.Refusals.{member, adding, linked, all_new}
@@ -37,7 +37,7 @@ first_or_later (here e) = inl e
 first_or_later (there {i = j} l) = inr (j, l)
 
 member_cons : (k x : ℕ) (xs : List ℕ) → (member k (x ∷ xs) ≡ true) ↔ ((x ≡ k) ⊎ (member k xs ≡ true))
-member_cons k x xs = Iff·trans (or_iff (eqb k x) (member k xs)) (either (λ e. sym (eqb-true k x e), λ e. eq-eqb k x (sym e)) Iff·rfl)
+member_cons k x xs = Iff.trans (or_iff (eqb k x) (member k xs)) (either (λ e. sym (eqb-true k x e), λ e. eq-eqb k x (sym e)) Iff.rfl)
 
 -- ---- the rows that lower rows link to
 
@@ -57,12 +57,12 @@ split k p ps seen = (out, back)
 added : (ws : List ℤ) (k : ℕ) (ps : List Part) (seen : List ℕ)
     → (member k (adding ws ps seen) ≡ true) ↔ (LinksTo ps k ⊎ (member k seen ≡ true))
 added ws k [] seen = (inr, ⊎_elim (λ l. absurd (no_link l.1)) (λ m. m))
-added ws k (p ∷ ps) seen = Iff·trans (added ws k ps (p.at ∷ seen)) (split k p ps seen)
+added ws k (p ∷ ps) seen = Iff.trans (added ws k ps (p.at ∷ seen)) (split k p ps seen)
 
 pub linked_iff : (ws : List ℤ) (r k : ℕ) → (member k (linked ws r) ≡ true) ↔ LinkedBelow ws r k
 unfolding linked
 linked_iff ws zero k = (λ e. absurd (false≢true e), λ l. absurd (omega arith))
-linked_iff ws (suc r) k = Iff·trans (added ws k (parts (row ws r)) (linked ws r)) (out (linked_iff ws r k).0, back (linked_iff ws r k).1)
+linked_iff ws (suc r) k = Iff.trans (added ws k (parts (row ws r)) (linked ws r)) (out (linked_iff ws r k).0, back (linked_iff ws r k).1)
   where
     out : (member k (linked ws r) ≡ true → LinkedBelow ws r k) → LinksTo (parts (row ws r)) k ⊎ (member k (linked ws r) ≡ true)
         → LinkedBelow ws (suc r) k
@@ -120,7 +120,7 @@ shared_iff ws r = (λ e. out (repeats ws (parts (row ws r)) (linked ws r) e), ba
   where
     taken : (i k : ℕ) → (LinksTo (take i (parts (row ws r))) k ⊎ (member k (linked ws r) ≡ true)) ↔
         (LinksTo (take i (parts (row ws r))) k ⊎ LinkedBelow ws r k)
-    taken i k = either Iff·rfl (linked_iff ws r k)
+    taken i k = either Iff.rfl (linked_iff ws r k)
 
     out : Repeated (λ k. member k (linked ws r) ≡ true) (parts (row ws r)) → Shared ws r
     out R = record { field = R.field; to = R.to; link = R.link; taken = (taken R.field R.to).0 R.taken }

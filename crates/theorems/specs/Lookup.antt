@@ -192,4 +192,4 @@ count_written ws cs w = rw (lines_written ws cs w, condition_count_within) (as_m
   where
     as_many : (s : ℕ) (cs : List Condition) → length (places (form_of ws) s cs) ≡ length cs
     as_many s [] = refl
-    as_many s (c ∷ cs) = ap suc (as_many _ cs)
+    as_many s (c ∷ cs) = ap suc (as_many (s + length (line_words (form_of ws) c)) cs)

@@ -5,7 +5,7 @@ use Prim.Native.Nat.{ℕ, zero, suc, ◌+◌, ◌≤◌, ◌<◌}
 use Rattle.std.proofs.Common.{arith, sym, ◌∙◌, eq-eqb, ne_eqb}
 use Rattle.std.proofs.Math.Decide.{ℕ_discrete}
 use Rattle.std.specs.Prelude.{◌≡◌, refl, ◌↔◌, ◌≢◌, Bool, true, false, cond, not}
-use Rattle.std.proofs.Math.Logic.{Iff·trans}
+use Rattle.std.proofs.Math.Logic.Iff
 use Rattle.std.proofs.lemmas.Bool.{false≢true}
 use Rattle.theorems.specs.Tests.{not_iff, turned}
 use Rattle.script.specs.Refusals.{Verdict, accepted, refused, lowest}
@@ -116,7 +116,7 @@ where_true true k n h = ((λ e. h.0 refl, λ p. refl), (λ e. absurd (n e), λ f
 where_true false k n h = ((λ e. absurd (n (sym e)), λ p. absurd (false≢true (h.1 p))), (λ e p. false≢true (h.1 p), λ f. refl))
 
 pub where_false : {P : Type 0} (b : Bool) (k : ℕ) → k ≢ 0 → (b ≡ false) ↔ P → Gives P k (cond b 0 k)
-where_false b k n h = rw (turned b 0 k) (where_true (not b) k n (Iff·trans (not_iff b) h))
+where_false b k n h = rw (turned b 0 k) (where_true (not b) k n (Iff.trans (not_iff b) h))
 
 -- what a verdict says: the number and the row of its refusal
 abbrev pub Says : Verdict → (ℕ → ℕ → Type 0) → Type 0

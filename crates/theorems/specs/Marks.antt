@@ -8,7 +8,6 @@ use Rattle.std.proofs.Math.Dec.{not_T}
 use Rattle.script.specs.declared.ExpressionRow.TheVariants.{Constant, Variable, Arithmetic, Negate, Mark, Choose}
 use Rattle.script.specs.declared.FormulaRow.TheVariants.{True, False, Comparison, Not, Junction}
 use Rattle.script.specs.declared.Row.{Row}
-use Rattle.script.specs.declared.Row.TheVariants as Row
 use Rattle.script.specs.Rows.{row, rows, parts}
 use Rattle.script.specs.Trees.{expr_node, formula_node, expr_at, formula_at}
 use Rattle.script.specs.Refusals.{member, all_below, misread_node, misread}

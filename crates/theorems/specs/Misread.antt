@@ -2,7 +2,7 @@
 -- each of the row's links, at their places (`here_or_below`). By cases on the kind of the row. Assumes nothing.
 use Rattle.std.specs.Prelude.{ℕ, zero, suc, ◌≡◌, refl, ◌↔◌, ◌⊎◌, List, [], ◌∷◌, ◌++◌, Bool, true, false, cond, not, ◌&&◌, ◌||◌, ℤ}
 use Rattle.std.proofs.Common.{sym, ap, ◌∙◌, inl, inr, eqb-true, eq-eqb}
-use Rattle.std.proofs.Math.Logic.{Iff·trans}
+use Rattle.std.proofs.Math.Logic.Iff
 use Rattle.std.proofs.lemmas.Bool.{false≢true}
 use Rattle.std.proofs.Math.Bool.{or-false, or_assoc, and-eq-true_iff}
 use Rattle.std.proofs.Math.Dec.{eqb}
@@ -10,7 +10,6 @@ use Rattle.script.specs.declared.ExpressionRow.TheVariants.{Constant, Variable, 
 use Rattle.script.specs.declared.FormulaRow.TheVariants.{True, False, Comparison, Not, Junction}
 use Rattle.script.specs.declared.StatementRow.TheVariants.{Skip, Assign, Sequence, If, While, Assert}
 use Rattle.script.specs.declared.Row.{Row}
-use Rattle.script.specs.declared.Row.TheVariants as Row
 use Rattle.script.specs.Rows.{Part, parts, row}
 use Rattle.script.specs.Refusals.{member, frozen, misread_node, misread}
 use Rattle.theorems.specs.Links.{Link, here, there}
@@ -36,7 +35,7 @@ some_found f (p ∷ ps) e =
     go rest (inl h) = (zero, p.at, here refl, h)
     go rest (inr h) = let (i, k, l, g) = rest h in (suc i, k, there l, g)
 
-some_shown : (f : ℕ → ℕ → Bool) {i k : ℕ} {ps : List Part} → Link k i ps → f i k ≡ true → some_link f ps ≡ true
+some_shown : {k : ℕ} (f : ℕ → ℕ → Bool) {i : ℕ} {ps : List Part} → Link k i ps → f i k ≡ true → some_link f ps ≡ true
 some_shown f (here {p = p} {ps = ps} e) h = (or_iff (f zero p.at) (some_link (λ i. f (suc i)) ps)).1 (inl (ap (f zero) e ∙ h))
 some_shown f (there {p = p} {ps = ps} l) h =
     (or_iff (f zero p.at) (some_link (λ i. f (suc i)) ps)).1 (inr (some_shown (λ i. f (suc i)) l h))
@@ -99,8 +98,8 @@ module _ (ws : List ℤ) (q : ℕ) where
       → (member q (misread ws (suc n) code inside r) ≡ true) ↔ HereOrBelow n code inside r
   unfolding misread
   here_or_below n code inside r =
-      Iff·trans (by_path (node_members (misread ws n) code inside r w))
-      (Iff·trans (or_iff (wrong w code inside && eqb q r) (some_link f (parts w))) (either mine (some_iff f (parts w))))
+      Iff.trans (by_path (node_members (misread ws n) code inside r w))
+      (Iff.trans (or_iff (wrong w code inside && eqb q r) (some_link f (parts w))) (either mine (some_iff f (parts w))))
     where
       w : Row
       w = row ws r

@@ -4,7 +4,7 @@
 -- `then_says` joins two tests in order. 11 and 12 speak of the buffers, and are no part of this verdict. Assumes nothing.
 use Rattle.std.specs.Prelude.{ℕ, ◌%◌, ◌≤◌, ◌<◌, ◌≡◌, refl, ◌↔◌, ◌≢◌, ◌⊎◌, List, Bool, true, false, cond, not, ◌||◌, ℤ, length, eqb, ltb, leb}
 use Rattle.std.proofs.Common.{arith, sym, ap, inl, inr, ⊎_elim, eqb-true, eq-eqb, ne_eqb, ltb-true, lt-ltb, leb-false}
-use Rattle.std.proofs.Math.Logic.{Iff·trans}
+use Rattle.std.proofs.Math.Logic.Iff
 use Rattle.std.proofs.lemmas.Bool.{false≢true, eqb-false, lt-leb}
 use Rattle.script.specs.Rows.{rows, row}
 use Rattle.script.specs.Trees.{tree, nesting}
@@ -49,13 +49,13 @@ abbrev pub BadLength : ℕ → Type 0
 BadLength n = (n ≡ 0) ⊎ ((n % 4 ≢ 0) ⊎ (8192 < n))
 
 length_iff : (n : ℕ) → (bad_length n ≡ true) ↔ BadLength n
-length_iff n = Iff·trans (or_iff (eqb n 0) (not (eqb (n % 4) 0) || ltb 8192 n)) (either (eqb-true n 0, eq-eqb n 0) rest)
+length_iff n = Iff.trans (or_iff (eqb n 0) (not (eqb (n % 4) 0) || ltb 8192 n)) (either (eqb-true n 0, eq-eqb n 0) rest)
   where
     fours : (not (eqb (n % 4) 0) ≡ true) ↔ (n % 4 ≢ 0)
     fours = (λ e. eqb-false (n % 4) 0 ((not_iff (eqb (n % 4) 0)).0 e), λ h. ap not (ne_eqb (n % 4) 0 h))
 
     rest : ((not (eqb (n % 4) 0) || ltb 8192 n) ≡ true) ↔ ((n % 4 ≢ 0) ⊎ (8192 < n))
-    rest = Iff·trans (or_iff (not (eqb (n % 4) 0)) (ltb 8192 n)) (either fours (ltb-true 8192 n, lt-ltb 8192 n))
+    rest = Iff.trans (or_iff (not (eqb (n % 4) 0)) (ltb 8192 n)) (either fours (ltb-true 8192 n, lt-ltb 8192 n))
 
 pub length_says : (ws : List ℤ) → Says (length_test ws) (λ k r. (k ≡ 1) × (r ≡ 0) × BadLength (length ws))
 unfolding length_test
@@ -65,7 +65,7 @@ length_says ws = fact_says (bad_length (length ws)) 1 0 (length_iff (length ws))
 pub nesting_says : (ws : List ℤ) → Says (nesting_test ws) (λ k r. (k ≡ 10) × (r ≡ 0) × (8 < nesting (tree ws).body))
 unfolding nesting_test
 nesting_says ws =
-    rw (turned (leb n 8) accepted (refused 10 0)) (fact_says (not (leb n 8)) 10 0 (Iff·trans (not_iff (leb n 8)) (leb-false n 8, lt-leb n 8)))
+    rw (turned (leb n 8) accepted (refused 10 0)) (fact_says (not (leb n 8)) 10 0 (Iff.trans (not_iff (leb n 8)) (leb-false n 8, lt-leb n 8)))
   where
     n : ℕ
     n = nesting (tree ws).body
@@ -81,7 +81,7 @@ pub record FaultyRow (ws : List ℤ) (k r : ℕ) : Type 0 where
 
 pub row_says : (ws : List ℤ) → Says (row_test ws) (FaultyRow ws)
 unfolding row_test_within
-row_says ws k r = Iff·trans (lowest_refuses (row_fault ws) (rows ws) 0 k r) (out, back)
+row_says ws k r = Iff.trans (lowest_refuses (row_fault ws) (rows ws) 0 k r) (out, back)
   where
     out : FirstFault (row_fault ws) (rows ws) 0 k r → FaultyRow ws k r
     out F = record {

@@ -11,8 +11,7 @@ use Rattle.script.specs.declared.ExpressionRow.TheVariants.{Constant, Variable, 
 use Rattle.script.specs.declared.FormulaRow.TheVariants.{True, False, Comparison, Not, Junction}
 use Rattle.script.specs.declared.StatementRow.TheVariants.{Skip, Assign, Sequence, If, While, Assert}
 use Rattle.script.specs.declared.Row.{Row}
-use Rattle.script.specs.declared.Row.TheVariants as Row
-use Rattle.script.specs.declared.Sort.TheVariants.{Expression, Formula, Statement, Note, Script, Unknown}
+use Rattle.script.specs.declared.Sort.TheVariants.{Script}
 use Rattle.script.specs.Rows.{fields, sort_of, rows, row}
 use Rattle.script.specs.Refusals.{accepted, refused, ◌and_then◌, same_sort, member, frozen, linked, assigns_frozen, unlinked_fault, target_fault, script_test, unlinked_test, target_test}
 use Rattle.theorems.specs.Tests.{false_iff, sort_iff}

@@ -3,7 +3,7 @@
 -- before are read the next one is read after them (`lines_back`). Only what is written is read: by induction on the count,
 -- last one first (`lines_only`). Both for either form; the last word tells which it is (`form_written`). Assumes nothing.
 use Prim.Native.Nat.{ℕ, zero, suc, ◌+◌, ◌-◌, ◌≤◌, ◌<◌}
-use Rattle.std.specs.Prelude.{◌≡◌, refl, ◌↔◌, ℤ, pos, negsuc, ltb, leb, ◌&&◌, get_or, take}
+use Rattle.std.specs.Prelude.{◌≡◌, refl, ◌↔◌, ℤ, pos, negsuc, ltb, leb, ◌&&◌, take}
 use Rattle.std.proofs.Math.Path.{sym, ap, subst}
 use Rattle.std.proofs.Common.{ap₂, ◌∙◌, le_refl, zero-add, add-one, take-suc, lt-ltb, ltb-true, le-leb, leb-true}
 use Rattle.std.proofs.Math.Option.{Option, none, some}

@@ -10,9 +10,8 @@ use Rattle.script.specs.declared.ExpressionRow.TheVariants.{Constant, Variable, 
 use Rattle.script.specs.declared.FormulaRow.TheVariants.{True, False, Comparison, Not, Junction}
 use Rattle.script.specs.declared.StatementRow.TheVariants.{Skip, Assign, Sequence, If, While, Assert}
 use Rattle.script.specs.declared.Row.{Row}
-use Rattle.script.specs.declared.Row.TheVariants as Row
 use Rattle.script.specs.declared.Sort.{Sort}
-use Rattle.script.specs.declared.Sort.TheVariants.{Expression, Formula, Statement, Note, Script, Unknown}
+use Rattle.script.specs.declared.Sort.TheVariants.{Formula, Statement, Note, Script}
 use Rattle.script.specs.Rows.{Part, parts, row, rows, sort_of}
 use Rattle.script.specs.Syntax.{Tree}
 use Rattle.script.specs.Trees.{stmt_node, expr_at, formula_at, stmt_at, tree, nesting}
@@ -97,10 +96,14 @@ scriptless Row.Unknown = tt
 
 module _ (t : List ℤ) where
   pub link_low : (r k i : ℕ) (ps : List Part) → Link k i ps → T (all_below t r ps) → k < r
+  link_low r k zero [] x4 b = elim x4 [ ]
+  link_low r k (suc i) [] x5 b = elim x5 [ ]
   link_low r k zero (p ∷ ps) (here e) b = rw e at (ltb→lt p.at r (both (ltb p.at r) (all_below t r ps) b).0)
   link_low r k (suc i) (p ∷ ps) (there l) b = link_low r k i ps l (both (ltb p.at r) (all_below t r ps) b).1
 
   link_sort : (k i : ℕ) (ps : List Part) → Link k i ps → T (well_sorted t ps) → T (no_scripts ps) → sort_of (row t k) ≢ Script
+  link_sort k zero [] x8 s n q = elim x8 [ ]
+  link_sort k (suc i) [] x9 s n q = elim x9 [ ]
   link_sort k zero (p ∷ ps) (here e) s n q =
       let fit = (both (same_sort (sort_of (row t p.at)) p.sort) (well_sorted t ps) s).0 in
       let is = sym (same_is (sort_of (row t p.at)) p.sort fit) ∙ ap (λ (j : ℕ). sort_of (row t j)) e ∙ q in
@@ -136,6 +139,8 @@ module _ (t : List ℤ) (ok : Accepted t) where
   Under c n (p ∷ ps) = (c + N p.at ≤ n) × Under c n ps
 
   under_link : (c n k i : ℕ) (ps : List Part) → Link k i ps → Under c n ps → c + N k ≤ n
+  under_link c n k zero [] x4 u = elim x4 [ ]
+  under_link c n k (suc i) [] x5 u = elim x5 [ ]
   under_link c n k zero (p ∷ ps) (here e) u = rw e at u.0
   under_link c n k (suc i) (p ∷ ps) (there l) u = under_link c n k i ps l u.1
 

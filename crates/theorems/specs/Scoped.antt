@@ -10,7 +10,6 @@ use Rattle.std.proofs.Common.{arith as linear}
 use Rattle.script.specs.declared.StatementRow.TheVariants.{Skip, Assign, Sequence, If, While, Assert}
 use Rattle.script.specs.declared.RowNumber.{RowNumber}
 use Rattle.script.specs.declared.Row.{Row}
-use Rattle.script.specs.declared.Row.TheVariants as Row
 use Rattle.script.specs.Syntax.{Formula, Stmt}
 use Rattle.script.specs.Rows.{row, rows, parts}
 use Rattle.script.specs.Trees.{loop_node, stmt_node, script_node, expr_at, formula_at, stmt_at, tree}

@@ -2,9 +2,8 @@
 -- depths); with the right fields it is the list defined (`right_list`). A wrong turn is a change of one field of one of these four
 -- (`WrongTurns`, `WrongDivisors`; of two fields, where D is asked for at another place), and is told from the list defined by
 -- giving other words for one table (`OtherWords`). Assumes nothing.
-use Rattle.std.specs.Prelude.{ℕ, suc, ◌≡◌, refl, ◌≢◌, Bool, true, ◌&&◌, List, [], ◌∷◌, ◌++◌, ℤ, pos, T, length}
+use Rattle.std.specs.Prelude.{ℕ, suc, ◌≡◌, refl, ◌≢◌, Bool, true, ◌&&◌, List, [], ◌∷◌, ◌++◌, ℤ, T, length}
 use Rattle.std.proofs.Common.{ap, ◌∙◌}
-use Rattle.std.proofs.Math.Bool as Bool
 use Rattle.std.proofs.Math.Option.{Option}
 use Rattle.script.specs.declared.Connective.TheVariants.{And, Implies}
 use Rattle.script.specs.declared.Rule.TheVariants.{Exit, Floor, Step, Main}

@@ -7,7 +7,6 @@ use Rattle.std.proofs.Math.Bool as Bool
 use Rattle.std.specs.Int.Signed.{le_z, lt_z}
 use Rattle.script.specs.declared.StatementRow.TheVariants.{Skip, Assign, Sequence, If, While, Assert}
 use Rattle.script.specs.declared.Row.{Row}
-use Rattle.script.specs.declared.Row.TheVariants as Row
 use Rattle.script.specs.declared.Rule.{Rule}
 use Rattle.script.specs.declared.Rule.TheVariants.{Exit, Floor, Step, Main, Guard}
 use Rattle.script.specs.Syntax.{Tree}
