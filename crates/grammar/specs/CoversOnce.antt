@@ -17,7 +17,7 @@ pub record Final (cs : List ℕ) : Type 0 where
   pub no_blank : (b : ℕ) (bs : List ℕ) → b ∷ bs ≡ cs → is_blank b ≡ true → ⊥
   pub no_token : (t : Token) (n : ℕ) → TokenBegins cs t n → ⊥
 
-pub one_cover : {q r p : ℕ} {cs ds bs : List ℕ} {ls ms : List Lexeme} → Final cs → Final ds
+pub one_cover : {q r : ℕ} {cs ds : List ℕ} {p : ℕ} {bs : List ℕ} {ls ms : List Lexeme} → Final cs → Final ds
     → Covers q cs p bs ls → Covers r ds p bs ms → (q ≡ r) × (ls ≡ ms)
 one_cover f g nothing nothing = (refl, refl)
 one_cover f g nothing (blank e k) = absurd (f.no_blank _ _ refl e)

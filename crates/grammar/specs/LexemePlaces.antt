@@ -25,7 +25,7 @@ Rising p (l ∷ ls) = (p ≤ l.place) × Rising l.place ls
 -- ---- each begins at its place
 
 module _ (bytes : List ℕ) (end : Lexeme) where
-  stands : {q p : ℕ} {cs bs : List ℕ} {ls : List Lexeme} → Covers q cs p bs ls → bs ≡ drop p bytes
+  stands : {q : ℕ} {cs : List ℕ} {p : ℕ} {bs : List ℕ} {ls : List Lexeme} → Covers q cs p bs ls → bs ≡ drop p bytes
       → (i : ℕ) (l : Lexeme) → get_elem? (ls ++ (end ∷ [])) i ≡ some l → Stands bytes l ⊎ (end ≡ l)
   stands nothing here zero l e = inr (some_inj e)
   stands nothing here (suc i) l e = none_is_not e
@@ -50,7 +50,7 @@ rising_at [] h i l e = none_is_not e
 rising_at {p} (m ∷ ls) h zero l e = subst (λ (k : Lexeme). p ≤ k.place) (some_inj e) h.0
 rising_at (m ∷ ls) h (suc i) l e = omega (linear, h.0, rising_at ls h.1 i l e)
 
-covers_rise : {q p : ℕ} {cs bs : List ℕ} {ls : List Lexeme} (t : Token) → Covers q cs p bs ls
+covers_rise : {q : ℕ} {cs : List ℕ} {p : ℕ} {bs : List ℕ} {ls : List Lexeme} (t : Token) → Covers q cs p bs ls
     → Rising p (ls ++ (record { token = t; place = q } ∷ []))
 covers_rise t nothing = (omega linear, tt)
 covers_rise {q} t (blank {ls = ls} b h) =

@@ -1,6 +1,6 @@
 -- What a whole text stands for: its rows (`text_rows`), the words of its table (`text_table`) and its tree
 -- (`text_tree`). Assumes nothing.
-use Rattle.std.specs.Prelude.{◌-◌, List, [], ◌∷◌, ℤ}
+use Rattle.std.specs.Prelude.{List, [], ◌∷◌, ℤ}
 use Rattle.script.specs.Syntax.{Tree}
 use Rattle.grammar.specs.Grammar.{Phrase}
 use Rattle.grammar.specs.Rows.{Quad, by_row, table}

@@ -1,6 +1,6 @@
 -- Rows that stand in a table (`Stands`), and what one row of it means: the tree at the row of a leaf, of a prefix or of
 -- an operator (`leaf_means`, `prefix_means`, `infix_means`) is made of the trees at its parts. Assumes nothing.
-use Rattle.std.specs.Prelude.{ℕ, suc, ◌+◌, ◌-◌, ◌≡◌, refl, List, [], ◌∷◌, ◌++◌, Bool, cond, ℤ, pos, negsuc, length}
+use Rattle.std.specs.Prelude.{ℕ, suc, ◌+◌, ◌≡◌, refl, List, [], ◌∷◌, ◌++◌, Bool, cond, ℤ, pos, negsuc, length}
 use Rattle.std.proofs.Common.{◌∙◌, subst, arith as linear}
 use Rattle.std.proofs.Math.Option.{none}
 use Rattle.std.proofs.Math.Bool.{true, false}
@@ -13,9 +13,8 @@ use Rattle.script.specs.declared.Connective.TheVariants.{And, Or, Implies}
 use Rattle.script.specs.declared.ExpressionRow.TheVariants.{Arithmetic}
 use Rattle.script.specs.declared.FormulaRow.TheVariants.{Comparison, Junction}
 use Rattle.script.specs.declared.Row.{Row}
-use Rattle.script.specs.declared.Row.TheVariants as Row
 use Rattle.script.specs.Rows.{row_of, row_no, row}
-use Rattle.script.specs.Syntax.{Formula, truth}
+use Rattle.script.specs.Syntax.{truth}
 use Rattle.script.specs.Trees.{script_node, expr as expr_in, formula as formula_in, stmt as stmt_in}
 use Rattle.script.specs.Words.{op_word, rel_word, conn_word}
 use Rattle.grammar.specs.Sorts.{Sort, number, expression, formula, statement, script}

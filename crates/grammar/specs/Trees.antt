@@ -1,5 +1,5 @@
 -- The tree that a phrase stands for (`value`), with the rows of its loops. Assumes nothing.
-use Rattle.std.specs.Prelude.{ℕ, ◌+◌, ◌-◌, List, [], ◌∷◌, pos, get_or}
+use Rattle.std.specs.Prelude.{ℕ, ◌+◌, List, [], ◌∷◌, pos, get_or}
 use Rattle.std.proofs.Math.Option.{Option, none, some}
 use Rattle.script.specs.Syntax.{Expr, const, var, mark, arith, neg, choose, Formula, truth, cmp, not, join, Stmt, skip, assign, seq, branch, loop, assert, Tree}
 use Rattle.script.specs.Trees.{no_expr, no_formula, no_tree}

@@ -10,7 +10,7 @@ use Rattle.grammar.specs.Sorts.{sort-discrete, script, Hole, takes}
 use Rattle.grammar.specs.Forms.{Place, place_takes, next_place}
 use Rattle.grammar.specs.Tokens.{ending, ending_word, due_word, Token}
 use Rattle.grammar.specs.Grammar.{Phrase, closed, Chain, more, place, words, chain_words, sort}
-use Rattle.grammar.specs.States.{Frame, pending, open_at, wants, apply, hole, Mode, operand, after, due, State, at, start}
+use Rattle.grammar.specs.States.{Frame, pending, open_at, wants, apply, hole, Mode, operand, after, due, State, start}
 use Rattle.grammar.specs.Automaton.{step, run, advance}
 use Rattle.grammar.specs.Tests.{same_is}
 use Rattle.grammar.specs.LaterPlaces.{later, Later, later_is}
