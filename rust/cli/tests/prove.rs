@@ -507,18 +507,13 @@ fn what_is_false_is_shown_as_it_is_asked_for() {
     let (status, out) = proved(script);
     assert!(status == Some(4) && out.starts_with(line), "{out}");
     let part = "\nFalse there:\n    (((0 - x) * 1) + 0) <= 5: 6 on the left, 5 on the right\n";
-    let run = "A run from this start:\n    \
-        1  line 4  x := 0 - x   x = 6\n    \
-        2  line 5  assert true  true\n    \
-        ended, and the postcondition is false\n        \
-        ((x * 1) + 0) <= 5: 6 on the left, 5 on the right\n";
-    assert!(out.ends_with(&format!("{part}{run}")), "{out}");
+    assert!(out.ends_with(part), "{out}");
 
     let short = prove_with(&["--short", "-"], script).timeless();
     let head = format!("shortened to 11 words, 12 saved\n{line}");
     assert!(short.starts_with(&head), "{short}");
     let part = "\nFalse there:\n    (-(x)) <= 5: 6 on the left, 5 on the right\n";
-    assert!(short.ends_with(&format!("{part}{run}")), "{short}");
+    assert!(short.ends_with(part), "{short}");
 
     let (_, json) = json_of(&["--short", "-"], script);
     let main = &json.list("conditions")[0];
@@ -536,18 +531,13 @@ fn beside_a_bare_false_stands_the_part_of_the_own_condition() {
     let told = "\nFalse there:\n    false\n\
         False where x = 0 in the script's own condition:\n    \
         x = 5: 0 on the left, 5 on the right\n";
-    let run = "A run from this start:\n    \
-        1  line 4  skip\n    \
-        ended, and the postcondition is false\n        \
-        x = 5: 0 on the left, 5 on the right\n";
-    assert!(short.ends_with(&format!("{told}{run}")), "{short}");
+    assert!(short.ends_with(told), "{short}");
     assert!(!short.contains("these values"), "{short}");
     assert!(short.contains("\nA start with any values meets the precondition, "));
 
     let (_, own) = proved(script);
     let told = "\nFalse there:\n    x = 5: 0 on the left, 5 on the right\n";
-    let is_told = own.ends_with(&format!("{told}{run}")) && own.contains("these values");
-    assert!(is_told, "{own}");
+    assert!(own.ends_with(told) && own.contains("these values"), "{own}");
 }
 
 /// Shortened, main is `true` and no implication.
@@ -713,7 +703,6 @@ fn assert_condition(condition: &Json, line: &Line) {
     let is_false = line.verdict == "false";
     assert_eq!(values, is_false.then(|| line.values()));
     assert_eq!(condition.field("false_part").is_some(), is_false);
-    assert_eq!(condition.field("replay").is_some(), is_false);
     assert_eq!(condition.field("problem"), None);
 }
 
@@ -798,10 +787,7 @@ fn names_and_words(json: &Json, found: &mut BTreeSet<String>) {
             for (name, value) in fields {
                 found.insert(name.clone());
                 match (&name[..], value) {
-                    (
-                        "verdict" | "answer" | "of" | "state" | "from" | "outcome",
-                        Json::Text(word),
-                    ) => {
+                    ("verdict" | "answer" | "of" | "state", Json::Text(word)) => {
                         found.insert(word.clone());
                     }
                     ("values", _) => (),

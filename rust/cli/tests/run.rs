@@ -37,25 +37,12 @@ fn run(arguments: &[&str], script: &str) -> (i32, String) {
 }
 
 /// Of which examples it is stored, with the values and the status.
-const STORED: [(&str, &[&str], i32); 7] = [
+const STORED: [(&str, &[&str], i32); 5] = [
     ("countdown.script", &["x=2"], 0),
     ("countdown.rows", &["x=2"], 0),
     ("mark.script", &["x=5"], 0),
     ("nested-loops.rows", &["a=2", "b=1"], 0),
     ("pump-stop.script", &["load=3", "running=2"], 4),
-    (
-        "siding.script",
-        &[
-            "front=30",
-            "middle=20",
-            "rear=10",
-            "first=30",
-            "second=20",
-            "third=10",
-        ],
-        0,
-    ),
-    ("two-cans.script", &[], 0),
 ];
 
 #[test]

@@ -117,13 +117,13 @@ fn the_readme_tells_what_is_saved_of_the_examples() {
         let bytes = texts.iter().map(|file| bytes(arguments, file));
         bytes.sum::<usize>()
     };
-    assert_eq!([total(&["--short"]), total(&[])], [46_628, 47_096]);
+    assert_eq!([total(&["--short"]), total(&[])], [39_863, 40_321]);
     let bill = top().join("examples/oil-bill.script");
     assert_eq!(bytes(&[], &bill) - bytes(&["--short"], &bill), 256);
 
     let readme = text(&top().join("README.md")).replace('\n', " ");
     let told =
-        "46,628 bytes in place of 47,096, and more than half of it, 256 bytes, is oil-bill's";
+        "39,863 bytes in place of 40,321, and more than half of it, 256 bytes, is oil-bill's";
     assert!(readme.contains(told));
 }
 

@@ -49,10 +49,6 @@ impl Report<'_> {
                 condition
                     .with("values", Json::Object(values.collect()))
                     .with("false_part", Json::text(self.part(refutation)))
-                    .with(
-                        "replay",
-                        self.replayed(finding, refutation, |replay| replay.json()),
-                    )
             }
             Verdict::Contradiction(contradiction) => {
                 condition.with("problem", Json::text(self.contradiction(contradiction)))

@@ -4,7 +4,6 @@ mod explanation;
 mod json;
 mod premise;
 mod query;
-mod replay;
 mod report;
 mod verdict;
 
@@ -17,7 +16,6 @@ use crate::Shortened;
 
 use premise::Premise;
 use query::Query;
-use replay::Replay;
 
 pub use query::Wording;
 pub(crate) use report::part_with_sides;

@@ -6,11 +6,8 @@ use evaluator::{Name, State, Whole};
 use leqwarti::Formula;
 
 use super::explanation::{of_false, OF_CONTRADICTION, OF_DIFFERENCE, OF_NO_ANSWER, OF_OPEN};
-use super::{Contradiction, Finding, Outcome, Premise, Proof, Refutation, Replay};
-use super::{Verdict, Wording};
-use crate::run::Scene;
+use super::{Contradiction, Finding, Outcome, Premise, Proof, Refutation, Verdict, Wording};
 use crate::solvers::{Replied, Reply};
-use crate::table::Table;
 use crate::{Shortened, Source};
 
 /// Tells what is found, in the names of the file.
@@ -144,15 +141,15 @@ impl Report<'_> {
             if !told.insert(meaning.clone()) {
                 meaning.clear();
             }
-            let details = self.details(finding);
+            let details = self.details(&finding.verdict);
             format!("\n{name}, line {line}: {said}\n{meaning}{details}")
         };
         proof.unproved().map(explain).collect()
     }
 
-    /// The part that is false, what the marks stand for, and a run from there.
-    fn details(&self, finding: &Finding) -> String {
-        let Verdict::False(refutation) = &finding.verdict else {
+    /// The part that is false, and what the marks stand for.
+    fn details(&self, verdict: &Verdict) -> String {
+        let Verdict::False(refutation) = verdict else {
             return String::new();
         };
         let part = self.part_with_sides(refutation);
@@ -163,25 +160,10 @@ impl Report<'_> {
             }
             None => String::new(),
         };
-        let state = with_most_names(refutation);
-        let marks: String = state
-            .iter()
-            .filter_map(|(name, _)| self.mark(name))
-            .collect();
-        let run = self.replayed(finding, refutation, |replay| replay.text());
-        format!("False there:\n    {part}\n{own}{marks}{run}")
-    }
-
-    /// What is told of a run from the values in which a condition is false.
-    pub fn replayed<T>(
-        &self,
-        finding: &Finding,
-        refutation: &Refutation,
-        tell: impl FnOnce(&Replay) -> T,
-    ) -> T {
-        let table = Table::of(self.source.words());
-        let scene = Scene::of(self.source, &table);
-        tell(&Replay::of(&scene, finding, with_most_names(refutation)))
+        let with_most_names = refutation.own.as_deref().unwrap_or(refutation);
+        let names = with_most_names.state.iter().map(|(name, _)| name);
+        let marks: String = names.filter_map(|name| self.mark(name)).collect();
+        format!("False there:\n    {part}\n{own}{marks}")
     }
 
     fn part_with_sides(&self, refutation: &Refutation) -> String {
@@ -199,11 +181,6 @@ impl Report<'_> {
             "{name} is the variant of the loop in line {line} when the present pass of its body began.\n"
         ))
     }
-}
-
-/// The state of the script's own condition, where only `false` is left of it.
-fn with_most_names(refutation: &Refutation) -> &State {
-    &refutation.own.as_deref().unwrap_or(refutation).state
 }
 
 /// The part of a formula that is false, in the names of the file, with the values of

@@ -99,7 +99,7 @@ fn worked_out(statement: Statement) -> Option<usize> {
 }
 
 /// A whole number as one of 64 bits, where it is one.
-pub fn bits(value: &Whole) -> Option<i64> {
+fn bits(value: &Whole) -> Option<i64> {
     let has_many = value.has_more_digits_than(19);
     (!has_many).then(|| value.to_string().parse().ok())?
 }

@@ -8,7 +8,6 @@ mod start;
 mod trace;
 mod watch;
 
-pub use cause::bits;
 pub use end::{End, Truth};
 pub use page::Page;
 pub use scene::Scene;
