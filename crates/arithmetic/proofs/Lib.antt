@@ -1,4 +1,0 @@
-mod Signs
-mod Sums
-mod SumTests
-mod Products
