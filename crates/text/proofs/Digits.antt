@@ -1,7 +1,7 @@
 -- The decimal text of a number ends with its last digit, and before that has the text of the number without it. Assumes nothing.
 use Prim.Native.Nat.{ℕ, ◌+◌, ◌/◌, ◌%◌, ◌≤◌, ◌<◌}
 use mathlib.Core.Path.{◌≡◌, ◌∙◌, ap}
-use mathlib.Core.List.{List, [], ◌∷◌, ◌++◌}
+use mathlib.Core.List.{[], ◌∷◌, ◌++◌}
 use native.Mathlib.Omega.{arith}
 use Rattle.text.specs.Decimal.{decimal, decimal_low, decimal_high}
 
@@ -12,6 +12,3 @@ module _ (n d : ℕ) (last : d ≡ 48 + n % 10) where
 
   pub more_digits : 10 ≤ n → decimal n ≡ decimal (n / 10) ++ (d ∷ [])
   more_digits h = rw last (decimal_high n h)
-
-pub tenth_falls : {n t : ℕ} → n ≡ t → 10 ≤ n → n / 10 < t
-tenth_falls e h = omega arith
