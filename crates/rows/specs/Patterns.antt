@@ -5,7 +5,6 @@ use Rattle.std.proofs.Math.Path.{refl}
 use Rattle.std.proofs.Common.{sym, ap, subst, ◌∙◌, add-zero, zero-add, add-suc, suc-add, le_of_suc-le-suc, not-suc-le-zero, arith as linear, ne_eqb, leb→le}
 use Rattle.std.proofs.Math.Decide.{dec_lt}
 use Rattle.script.specs.declared.Row.{Row}
-use Rattle.script.specs.declared.Row.TheVariants as Row
 use Rattle.script.specs.declared.Sort.{Sort}
 use Rattle.script.specs.declared.Sort.TheVariants.{Expression, Formula, Statement, Note, Script, Unknown}
 use Rattle.script.specs.Rows.{Kind, kinds, listed, field_number, fields, parts, row, row_of, rows, sort_of, variables}

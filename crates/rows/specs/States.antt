@@ -165,16 +165,16 @@ pub record Tested (t : List ℤ) (r f : ℕ) (s : List ℕ) : Type 0 where
   pub is : f ≡ row_fault t r
   pub shown : Passed f → States t (suc r) (linked t (suc r)) s
 
-no : {A : Type 0} → Passed 2 → A
-no (inl e) = absurd (omega linear)
-no (inr e) = absurd (omega linear)
+no_pass : {A : Type 0} → Passed 2 → A
+no_pass (inl e) = absurd (omega linear)
+no_pass (inr e) = absurd (omega linear)
 
 module _ (t : List ℤ) (r : ℕ) {n : ℕ} (e : n ≡ field_number (word t r 0)) where
   pub unlisted_row : {s : List ℕ} → 48 < n → Tested t r 2 s
   unfolding row_fault_within
   unlisted_row h =
       let w = sym (row_is t r) ∙ unlisted (field_number (word t r 0)) (word t r 1) (word t r 2) (word t r 3) (omega linear) in
-      record { is = rw w; shown = no }
+      record { is = rw w; shown = no_pass }
 
   module _ (h : n < 49) where
     rule : of_row t r (linked t r) (row t r) (word t r 1) (word t r 2) (word t r 3)
@@ -191,7 +191,7 @@ module _ (t : List ℤ) (r : ℕ) {n : ℕ} (e : n ≡ field_number (word t r 0)
 
     pub unknown_row : {s : List ℕ} {x : ℕ} → x ≡ pattern n 0 → x ≡ 85 → Tested t r 2 s
     unfolding row_fault_within
-    unknown_row g d = record { is = rw (known_test, eq-eqb (pattern n 0) 85 (sym g ∙ d)); shown = no }
+    unknown_row g d = record { is = rw (known_test, eq-eqb (pattern n 0) 85 (sym g ∙ d)); shown = no_pass }
 
     fault_is : pattern n 0 ≢ 85 → faults t r (linked t r) (cells n (word t r 1) (word t r 2) (word t r 3)) ≡ row_fault t r
     unfolding row_fault_within
