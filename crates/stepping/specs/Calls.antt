@@ -8,7 +8,6 @@ use Rattle.std.proofs.Math.Path.{refl, ap}
 use Rattle.std.proofs.Common.{sym, ◌∙◌, arith as linear, ltb-false}
 use Rattle.std.proofs.Math.Bool.{cond}
 use Rattle.script.specs.declared.Row.{Row}
-use Rattle.script.specs.declared.Row.TheVariants as Row
 use Rattle.script.specs.declared.Sort.TheVariants.{Script}
 use Rattle.script.specs.Meaning.{State}
 use Rattle.script.specs.Run.{Frame, begin, Config, at, start}

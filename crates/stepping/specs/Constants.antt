@@ -5,7 +5,6 @@ use Rattle.std.specs.Prelude.{Bool, true, false, cond, ◌&&◌, ℤ, pos, negsu
 use mathlib.Core.List.{List, [], ◌∷◌}
 use Rattle.script.specs.declared.ExpressionRow.TheVariants.{Constant, Variable, Arithmetic, Negate, Mark, Choose}
 use Rattle.script.specs.declared.Row.{Row}
-use Rattle.script.specs.declared.Row.TheVariants as Row
 use Rattle.script.specs.Syntax.{Expr, const, var, mark, arith, neg, choose, Formula}
 use Rattle.script.specs.Rows.{Kind, listed, kinds, row_of, word, at_kind, row, rows}
 use Rattle.script.specs.Trees.{expr_node, expr, formula, expr_at}

@@ -1,6 +1,6 @@
 -- 02, P11, by computation, whole calls: when a sequence is split, limits, loops and branches. 50 and 53 are in `StopFigures`, runs that are
 -- too short or longer, and calls that go on, in `RoomFigures`. Assumes nothing.
-use Rattle.std.specs.Prelude.{ℕ, suc, ◌+◌, ◌-◌, ◌≡◌, refl, List, [], ◌∷◌, ◌++◌, map, ℤ, pos, length, set, replicate}
+use Rattle.std.specs.Prelude.{ℕ, suc, ◌-◌, ◌≡◌, refl, List, [], ◌∷◌, ◌++◌, map, ℤ, pos, length, set, replicate}
 use Rattle.script.specs.Computed.{◌⨾◌}
 use Rattle.script.specs.Rows.{row, row_of, rows}
 use Rattle.script.specs.Trees.{expr, formula, stmt, expr_at, formula_at, stmt_at, tree, nesting}

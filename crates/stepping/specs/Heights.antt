@@ -12,7 +12,6 @@ use native.Mathlib.Omega.{arith as linear}
 use Rattle.script.specs.declared.StatementRow.{StatementRow}
 use Rattle.script.specs.declared.StatementRow.TheVariants.{Skip, Assign, Sequence, If, While, Assert}
 use Rattle.script.specs.declared.Row.{Row}
-use Rattle.script.specs.declared.Row.TheVariants as Row
 use Rattle.script.specs.Rows.{row, rows}
 use Rattle.script.specs.Trees.{expr_at, formula_at, stmt_at}
 use Rattle.theorems.specs.Accepted.{Accepted}

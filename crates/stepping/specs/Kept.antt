@@ -10,7 +10,6 @@ use mathlib.Core.List.{List, [], ◌∷◌}
 use Rattle.script.specs.declared.StatementRow.{StatementRow}
 use Rattle.script.specs.declared.StatementRow.TheVariants.{Skip, Assign, Sequence, If, While, Assert}
 use Rattle.script.specs.declared.Row.{Row}
-use Rattle.script.specs.declared.Row.TheVariants as Row
 use Rattle.script.specs.Rows.{row, rows, fields, variables}
 use Rattle.script.specs.Trees.{expr_at, formula_at}
 use Rattle.script.specs.Refusals.{frozen, in_range, assigns_frozen}

@@ -9,8 +9,7 @@ use Rattle.script.specs.declared.Operator.{Operator}
 use Rattle.script.specs.declared.StatementRow.{StatementRow}
 use Rattle.script.specs.declared.StatementRow.TheVariants.{Skip, Assign, Sequence, If, While, Assert}
 use Rattle.script.specs.declared.Row.{Row}
-use Rattle.script.specs.declared.Row.TheVariants as Row
-use Rattle.script.specs.Syntax.{Expr, const, var, mark, arith, neg, choose, Formula}
+use Rattle.script.specs.Syntax.{Expr, const, var, mark, arith, neg, choose}
 use Rattle.script.specs.Meaning.{State, takes}
 use Rattle.script.specs.Rows.{row, variables}
 use Rattle.script.specs.Trees.{expr_at, formula_at}

@@ -64,6 +64,7 @@ ResultsHeld M (divisor o y ∷ xs) = ResultsHeld M xs
 module _ (M : Mode) (code : Bool) where
   never_outside : (before : List Event) (x : Event) (behind : List Event) → ResultsHeld M (before ++ (x ∷ behind))
       → ¬ StopsAt M code x overflow
+  never_outside [] (divisor _ _) behind h s = elim s [ ]
   never_outside [] (result z) behind h (out_of_range e) = true≢false (sym h.0 ∙ e)
   never_outside (result z ∷ xs) x behind h s = never_outside xs x behind h.1 s
   never_outside (divisor o y ∷ xs) x behind h s = never_outside xs x behind h s

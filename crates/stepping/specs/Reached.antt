@@ -71,9 +71,11 @@ module _ (t : List ℤ) (M : Mode) where
 
   module _ (ok : Accepted t) where
     none_due : (k : List Frame) → Stands t [] k → RowDue k 0
+    none_due (_ ∷ _) x3 = elim x3 [ ]
     none_due [] nothing = refl
 
     some_due : (r : ℕ) (rest : List ℕ) (k : List Frame) → Stands t (r ∷ rest) k → RowDue k (next t r rest).at
+    some_due r rest [] x' = elim x' [ ]
     some_due r rest (begin x ∷ k) (begins st) = is_due t ok r rest (begin x ∷ k) (begins st)
     some_due r rest (again m b i v x v₀ n ∷ k) (tests_again h e e' st) =
         is_due t ok r rest (again m b i v x v₀ n ∷ k) (tests_again h e e' st)
@@ -121,6 +123,7 @@ module _ (t : List ℤ) (M : Mode) where
           → (w : Stepped) (y : Config) → machine_step M t r rest vars marks ≡ w → step_of 𝔸 k s ≡ y → Agrees t (stmt_at t row) w y
           → Reached k s (suc limit) steps (proceed M t more steps row (hold (r ∷ rest) vars marks) w)
       unfolding after step
+      stepped limit steps more rec (on h) (failed _ _) q e x8 = elim x8 [ ]
       stepped limit steps more rec (on h) (at k' s') q e (Step.both g) =
           let p = rec h k' s' g in
           record {

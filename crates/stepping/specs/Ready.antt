@@ -3,7 +3,7 @@
 -- In this order: rows that are no statement stand for skip, what is due, sequences split, what the stack says is due.
 -- Argument: by induction on the rows, links fall. Assumes nothing.
 use Prim.Native.Nat.{ℕ, zero, suc, ◌<◌}
-use Rattle.std.specs.Prelude.{◌≡◌, List, ◌∷◌, ℤ}
+use Rattle.std.specs.Prelude.{◌≡◌, List, [], ◌∷◌, ℤ}
 use Rattle.std.proofs.Math.Path.{refl, ap, subst⁻¹}
 use Rattle.std.proofs.Common.{sym, ◌∙◌, subst, arith as linear}
 use Rattle.std.proofs.Math.Option.{some}
@@ -11,7 +11,6 @@ use Rattle.script.specs.declared.RowNumber.{RowNumber}
 use Rattle.script.specs.declared.StatementRow.{StatementRow}
 use Rattle.script.specs.declared.StatementRow.TheVariants.{Skip, Assign, Sequence, If, While, Assert}
 use Rattle.script.specs.declared.Row.{Row}
-use Rattle.script.specs.declared.Row.TheVariants as Row
 use Rattle.script.specs.Syntax.{Formula, Stmt, skip}
 use Rattle.script.specs.Meaning.{Arithmetic, State}
 use Rattle.script.specs.Run.{Frame, begin, again, first_step}
@@ -159,6 +158,7 @@ module _ (t : List ℤ) where
     -- ---- what the stack says is due
 
     pub is_due : (r : ℕ) (rest : List ℕ) (k : List Frame) → Stands t (r ∷ rest) k → Run.due k ≡ some (stmt_at t (next t r rest).at)
+    is_due r rest [] x' = elim x' [ ]
     is_due r rest (begin x ∷ k) (begins st) = ap some (split r rest k st).first
     is_due r rest (again m b i v x v₀ n ∷ k) (tests_again {b = b'} {i = i'} {x = x'} h e e' st) =
         let node : Row → Stmt = λ w. loop_node (expr_at t) (formula_at t) r (formula_at t b'.0) w (stmt_at t x'.0) in

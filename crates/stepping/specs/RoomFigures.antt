@@ -1,6 +1,6 @@
 -- 02, P11, by computation: 1 to 10 and then 51, with all lent words as they were; runs that are as long as they have to be, and
 -- longer ones; calls that go on with rows that are lent. Assumes nothing.
-use Rattle.std.specs.Prelude.{ℕ, ◌+◌, ◌-◌, ◌≡◌, refl, List, [], ◌∷◌, ◌++◌, map, ℤ, pos, length, replicate}
+use Rattle.std.specs.Prelude.{ℕ, ◌-◌, ◌≡◌, refl, List, [], ◌∷◌, ◌++◌, map, ℤ, pos, length, replicate}
 use Rattle.script.specs.Computed.{◌⨾◌}
 use Rattle.script.specs.Rows.{row, row_of}
 use Rattle.script.specs.Trees.{expr, formula, stmt, expr_at, formula_at, stmt_at, tree, nesting}

@@ -7,7 +7,6 @@ use Rattle.std.proofs.Math.Path.{subst⁻¹}
 use Rattle.std.proofs.Common.{arith as linear}
 use Rattle.script.specs.declared.StatementRow.TheVariants.{Skip, Assign, Sequence, If, While, Assert}
 use Rattle.script.specs.declared.Row.{Row}
-use Rattle.script.specs.declared.Row.TheVariants as Row
 use Rattle.script.specs.declared.Sort.TheVariants.{Script}
 use Rattle.script.specs.Syntax.{Stmt, skip, assign, seq, branch, loop, assert}
 use Rattle.script.specs.Rows.{row, rows, sort_of}

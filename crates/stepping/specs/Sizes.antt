@@ -7,7 +7,6 @@ use Rattle.std.proofs.Math.Path.{refl, subst⁻¹}
 use native.Mathlib.Omega.{arith as linear}
 use Rattle.script.specs.declared.StatementRow.TheVariants.{Skip, Assign, Sequence, If, While, Assert}
 use Rattle.script.specs.declared.Row.{Row}
-use Rattle.script.specs.declared.Row.TheVariants as Row
 use Rattle.script.specs.Syntax.{Formula, Stmt, skip, assign, seq, branch, loop, assert}
 use Rattle.script.specs.Rows.{row, rows, parts}
 use Rattle.script.specs.Trees.{loop_node, stmt_node, expr_at, formula_at, stmt, stmt_at}

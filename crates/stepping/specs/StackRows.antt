@@ -11,7 +11,6 @@ use Rattle.script.specs.declared.RowNumber.{RowNumber}
 use Rattle.script.specs.declared.StatementRow.{StatementRow}
 use Rattle.script.specs.declared.StatementRow.TheVariants.{Skip, Assign, Sequence, If, While, Assert}
 use Rattle.script.specs.declared.Row.{Row}
-use Rattle.script.specs.declared.Row.TheVariants as Row
 use Rattle.script.specs.declared.Sort.TheVariants.{Formula, Statement, Script}
 use Rattle.script.specs.Rows.{row, rows, parts, sort_of}
 use Rattle.script.specs.Refusals.{same_sort, well_sorted}

@@ -11,7 +11,6 @@ use Rattle.script.specs.declared.RowNumber.{RowNumber}
 use Rattle.script.specs.declared.StatementRow.{StatementRow}
 use Rattle.script.specs.declared.StatementRow.TheVariants.{Skip, Assign, Sequence, If, While, Assert}
 use Rattle.script.specs.declared.Row.{Row}
-use Rattle.script.specs.declared.Row.TheVariants as Row
 use Rattle.script.specs.declared.Sort.TheVariants.{Formula, Statement, Note}
 use Rattle.script.specs.Syntax.{Stmt, loop}
 use Rattle.script.specs.Meaning.{Arithmetic, State, value, holds}

@@ -3,7 +3,7 @@
 -- "a script divides by zero" one failed by a zero divisor, both at the statement at the row that is answered. And back: where no
 -- value leaves the range, the run's step decides the machine's (`steps_on`, `steps_denied`, `steps_divided`).
 -- Argument: sequences are split alike (`Ready`), and what is then due does the same (`Stands`). Assumes nothing.
-use Rattle.std.specs.Prelude.{ℕ, ◌≤◌, ◌≡◌, refl, ◌≢◌, List, ◌∷◌, ℤ, length}
+use Rattle.std.specs.Prelude.{ℕ, ◌≤◌, ◌≡◌, refl, ◌≢◌, List, [], ◌∷◌, ℤ, length}
 use Rattle.std.proofs.Common.{sym, subst}
 use Rattle.std.proofs.Math.Path.{subst⁻¹}
 use Rattle.script.specs.Syntax.{Stmt}
@@ -41,6 +41,7 @@ module _ (t : List ℤ) where
     top_agrees : (r : ℕ) (rest : List ℕ) (k : List Frame) → Stands t (r ∷ rest) k
         → Agrees t (stmt_at t (next t r rest).at) (machine_step M t r rest vars marks) (step_of M.arithmetic k s)
     unfolding machine_step step_of
+    top_agrees r rest [] x' = elim x' [ ]
     top_agrees r rest (begin x ∷ k) (begins st) =
         let p = split t ok r rest k st in
         let d = next t r rest in

@@ -8,7 +8,6 @@ use Rattle.script.specs.declared.RowNumber.{RowNumber}
 use Rattle.script.specs.declared.StatementRow.{StatementRow}
 use Rattle.script.specs.declared.StatementRow.TheVariants.{Skip, Assign, Sequence, If, While, Assert}
 use Rattle.script.specs.declared.Row.{Row}
-use Rattle.script.specs.declared.Row.TheVariants as Row
 use Rattle.script.specs.declared.Sort.TheVariants.{Note}
 use Rattle.script.specs.Syntax.{Expr, Formula, Stmt, skip, assign, branch, loop, assert}
 use Rattle.script.specs.Meaning.{State}
@@ -111,6 +110,7 @@ module _ (M : Mode) (t : List ℤ) (rest : List ℕ) (vars marks : List ℤ) whe
 
   act_back : (r : ℕ) (w : StatementRow) → Single w → T (well_sorted t (parts (Row.Statement w)))
       → Overflows M s (stmt_node (expr_at t) (formula_at t) (stmt_at t) (row t) r (Row.Statement w)) → act M t rest vars marks r w ≡ faulty overflow
+  act_back r Skip one g o = elim o [ ]
   act_back r (Assign v x) one g (assigned e) = ap (λ w. carry w (λ z. on (hold rest (set vars v.0 z) marks))) e
   act_back r (Sequence a b) one g o = absurd one
   act_back r (If b x y) one g (if_guard e) = ap (λ w. carry w (λ c. on (hold (cond c x.0 y.0 ∷ rest) vars marks))) e
