@@ -10,7 +10,6 @@ use Rattle.script.specs.declared.RowNumber.{RowNumber}
 use Rattle.script.specs.declared.ExpressionRow.TheVariants.{Constant, Variable, Arithmetic, Negate, Mark, Choose}
 use Rattle.script.specs.declared.StatementRow.TheVariants.{Skip, Assign, Sequence, If, While, Assert}
 use Rattle.script.specs.declared.Row.{Row}
-use Rattle.script.specs.declared.Row.TheVariants as Row
 use Rattle.script.specs.Rows.{parts, rows, row}
 use Rattle.script.specs.Refusals.{member}
 use Rattle.theorems.specs.Links.{Link, here, there}
@@ -44,6 +43,7 @@ kept r m (Row.Statement (Assign v x)) inside h true e l = (l, h)
 kept r m (Row.Statement (Sequence x y)) inside h true e l = (l, h)
 kept r m (Row.Statement (If x y z)) inside h true e l = (l, h)
 kept r m (Row.Statement (While x y z)) inside h true e (here p) = (here p, h)
+kept r m (Row.Statement (While x y z)) {k = k} inside h true e (there (there {i = i} x12)) = elim x12 [ ]
 kept r m (Row.Statement (While x y z)) inside h true e (there (here p)) = (there (here p), h)
 kept r m (Row.Statement (Assert f)) inside h true e l = (l, h)
 kept r m (Row.Note i v) inside h true e l = (l, h)
@@ -84,6 +84,7 @@ free r m (Row.Statement (Sequence x y)) inside l h true e = (l, h)
 free r m (Row.Statement (If x y z)) inside l h true e = (l, h)
 free r m (Row.Statement (While x y z)) inside (here p) h true e = (here p, h)
 free r m (Row.Statement (While x y z)) inside (there (here p)) h true e = (there (here p), h)
+free r m (Row.Statement (While x y z)) {k = k} inside (there (there (there {i = i} x16))) h true e = elim x16 [ ]
 free r m (Row.Statement (While x y z)) inside (there (there (here p))) h true e =
     clash (sym (subst (λ c. (c || member m inside) ≡ true) (sym (eq-eqb m r (sym (eqb-true r m e)))) refl) ∙ h)
 free r m (Row.Statement (Assert f)) inside l h true e = (l, h)

@@ -12,7 +12,6 @@ use Rattle.script.specs.declared.ExpressionRow.TheVariants.{Constant, Variable, 
 use Rattle.script.specs.declared.FormulaRow.TheVariants.{True, False, Comparison, Not, Junction}
 use Rattle.script.specs.declared.StatementRow.TheVariants.{Skip, Assign, Sequence, If, While, Assert}
 use Rattle.script.specs.declared.Row.{Row}
-use Rattle.script.specs.declared.Row.TheVariants as Row
 use Rattle.script.specs.Rows.{Part, parts, rows, row}
 use Rattle.theorems.specs.Links.{Link, here, there}
 use Rattle.theorems.specs.Standing.{inside_at, Stands, script, link}
@@ -107,6 +106,7 @@ module _ (t : List ℤ) (ok : Mendable t) where
   spot_link : {lo k : ℕ} {ps : List Part} (s : Spread t lo k ps) {j i : ℕ} → Link j i (copied_parts t s)
       → (q : ℕ) × Link q i ps × (get_or (spots t s) i 0 ≡ j)
   unfolding spots copied_parts
+  spot_link (none {k = k}) {j = j} {i = i} x4 = elim x4 [ ]
   spot_link (more {p = p} c s) (here e) = (p.at, here refl, e)
   spot_link (more c s) (there l) = let x = spot_link s l in (x.0, there x.1, x.2)
 

@@ -4,7 +4,6 @@ use Rattle.std.proofs.Common.{arith as linear, ltb→lt, leb-true, leb-false}
 use Rattle.script.specs.declared.StatementRow.TheVariants.{Skip, Assign, Sequence, If, While, Assert}
 use Rattle.script.specs.declared.Sort.TheVariants.{Unknown}
 use Rattle.script.specs.declared.Row.{Row}
-use Rattle.script.specs.declared.Row.TheVariants as Row
 use Rattle.script.specs.Rows.{Part, parts, sort_of, rows, row}
 use Rattle.script.specs.Refusals.{all_below}
 use Rattle.theorems.specs.Truths.{both, pair}

@@ -8,7 +8,6 @@ use Rattle.script.specs.declared.ExpressionRow.TheVariants.{Constant, Variable, 
 use Rattle.script.specs.declared.FormulaRow.TheVariants.{True, False, Comparison, Not, Junction}
 use Rattle.script.specs.declared.StatementRow.TheVariants.{Skip, Assign, Sequence, If, While, Assert}
 use Rattle.script.specs.declared.Row.{Row}
-use Rattle.script.specs.declared.Row.TheVariants as Row
 use Rattle.script.specs.Rows.{Field, value, variable, target, loop, link, fields, parts, field_number, kinds, row_of}
 use Rattle.theorems.specs.Links.{Link, here, there}
 use Rattle.theorems.specs.Kinds.{listed_holds, ◌also◌}

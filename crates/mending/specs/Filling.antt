@@ -77,6 +77,7 @@ module _ (t : List ℤ) (ok : Mendable t) where
   put_hits : {lo k : ℕ} {ps : List Part} (s : Spread t lo k ps) (xs : List ℕ) → total ≤ length xs → {j i : ℕ}
       → Link j i (copied_parts t s) → Right (Put s xs) j
   unfolding put spots copied_parts targets
+  put_hits (none {k = k}) xs h {j = j} {i = i} x8 = elim x8 [ ]
   put_hits (more {j = q} {p = p} c s) xs h {j} (here e) =
       let d = copied_from c in
       let l = length-set xs q p.at in

@@ -10,7 +10,6 @@ use Rattle.script.specs.declared.RowNumber.{RowNumber}
 use Rattle.script.specs.declared.ExpressionRow.TheVariants.{Mark}
 use Rattle.script.specs.declared.StatementRow.TheVariants.{Skip, Assign, Sequence, If, While, Assert}
 use Rattle.script.specs.declared.Row.{Row}
-use Rattle.script.specs.declared.Row.TheVariants as Row
 use Rattle.script.specs.Syntax.{Expr, Formula, Names, Namesᶠ, Stmt, skip, assign, seq, branch, loop, assert, Tree}
 use Rattle.script.specs.Rows.{rows, row}
 use Rattle.script.specs.Refusals.{member}

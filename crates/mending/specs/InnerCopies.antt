@@ -56,6 +56,7 @@ module _ (t : List ℤ) (ok : Mendable t) where
   pub link_within : {lo k : ℕ} {ps : List Part} (s : Spread t lo k ps) {j i : ℕ} → Link j i (copied_parts t s)
       → (lo ≤ j) × (j < k)
   unfolding copied_parts
+  link_within (none {k = k}) {j = j} {i = i} x4 = elim x4 [ ]
   link_within (more c s) (here e) =
       let a = copied_le t c in
       let b = spread_le t s in

@@ -37,6 +37,7 @@ module _ (t : List ℤ) (ok : Mendable t) where
   not_both : {lo k : ℕ} {ps : List Part} (s : Spread t lo k ps) (q : ℕ) → lo ≤ q → q < k → {j i : ℕ} → NewLink t ok q j
       → Link j i (copied_parts t s) → ⊥
   unfolding copied_parts
+  not_both (none {k = k}) q a b {j = j} {i = i} n x16 = elim x16 [ ]
   not_both (more {j = m} c s) q a b n (here e) =
       by_order q m
       (λ l. let x = stays t ok c q a l n in omega linear)
@@ -78,6 +79,8 @@ module _ (t : List ℤ) (ok : Mendable t) where
   pub one_field : {lo k : ℕ} {ps : List Part} (s : Spread t lo k ps) {j i i' : ℕ} → Link j i (copied_parts t s)
       → Link j i' (take i (copied_parts t s)) → ⊥
   unfolding copied_parts
+  one_field (none {k = k}) {j = j} {i = i} x8 _ = elim x8 [ ]
+  one_field (more {lo = lo} {j = j} {k = k} {p = p} {ps = ps} c s) (here _) x19 = elim x19 [ ]
   one_field (more c s) (there l) (here e) = let a = link_within t ok s l in omega linear
   one_field (more c s) (there l) (there m) = one_field s l m
 

@@ -1,7 +1,7 @@
 -- A run without row numbers: the steps of `Run` on the nameless script, where the marks of the loops that the run is in
 -- are a list of values, the innermost first. And what is seen of a run without names (`seen`). Assumes nothing.
 use Rattle.std.specs.Prelude.{ℕ, zero, suc, List, [], ◌∷◌, map, Bool, cond, ℤ, pos, get_or}
-use Rattle.script.specs.Syntax.{Expr, var, mark, Formula, Stmt, skip, assign, seq, branch, loop, assert}
+use Rattle.script.specs.Syntax.{Expr, Formula, Stmt, skip, assign, seq, branch, loop, assert}
 use Rattle.script.specs.Meaning.{Arithmetic, State, value, holds, defined, definedᶠ}
 use Rattle.script.specs.Run.{put, Frame, begin, again, Cause, false_assertion, zero_divisor, Config, at, failed}
 use Rattle.mending.specs.Nameless.{nameless, namelessᶠ, namelessˢ}

@@ -9,7 +9,6 @@ use Rattle.script.specs.declared.ExpressionRow.TheVariants.{Constant, Variable, 
 use Rattle.script.specs.declared.FormulaRow.TheVariants.{True, False, Comparison, Not, Junction}
 use Rattle.script.specs.declared.StatementRow.TheVariants.{Skip, Assign, Sequence, If, While, Assert}
 use Rattle.script.specs.declared.Row.{Row}
-use Rattle.script.specs.declared.Row.TheVariants as Row
 use Rattle.script.specs.Rows.{parts, row}
 use Rattle.script.specs.Refusals.{member}
 use Rattle.theorems.specs.Links.{Link}

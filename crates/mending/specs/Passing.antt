@@ -182,6 +182,11 @@ module _ (t : List ℤ) (ok : Mendable t) where
       go : (a b c d e f : Bool) → (a ≡ true → ⊥) → T b → T c → T d → T e → T f
           → ◌≡◌ {A = ℕ} (cond a 2 (cond (not (b && c)) 3 (cond (not d) 4 (cond (not e) 5 (cond (not f) 6 0))))) 0
       go true b c d e f n hb hc hd he hf = absurd (n refl)
+      go false false c d e f n hb hc hd he hf = elim hb [ ]
+      go false true false d e f n hb hc hd he hf = elim hc [ ]
+      go false true true false e f n hb hc hd he hf = elim hd [ ]
+      go false true true true false f n hb hc hd he hf = elim he [ ]
+      go false true true true true false n hb hc hd he hf = elim hf [ ]
       go false true true true true true n hb hc hd he hf = refl
 
   new_fault : (k : ℕ) → k < total → row_fault (new_table t) k ≡ 0

@@ -11,7 +11,6 @@ use Rattle.script.specs.declared.RowNumber.{RowNumber}
 use Rattle.script.specs.declared.ExpressionRow.TheVariants.{Mark}
 use Rattle.script.specs.declared.StatementRow.TheVariants.{Skip, Assign, Sequence, If, While, Assert}
 use Rattle.script.specs.declared.Row.{Row}
-use Rattle.script.specs.declared.Row.TheVariants as Row
 use Rattle.script.specs.Rows.{Part, parts, rows, row}
 use Rattle.script.specs.Refusals.{member}
 use Rattle.theorems.specs.Tests.{or_iff}
@@ -69,6 +68,7 @@ module _ (t : List ℤ) (ok : Mendable t) where
   part_at : {lo k : ℕ} {ps : List Part} (s : Spread t lo k ps) {p i : ℕ} → Link p i ps
       → PartAt lo k p (get_or (spots t s) i 0)
   unfolding spots
+  part_at (none {k = k}) {p = p} {i = i} x4 = elim x4 [ ]
   part_at (more {lo = lo} {j = j} c s) (here e) = record {
     start = lo;
     copied = subst (λ (x : ℕ). Copied t lo j x) e c;
@@ -84,6 +84,7 @@ module _ (t : List ℤ) (ok : Mendable t) where
   last_part : {lo k : ℕ} {ps : List Part} (s : Spread t lo k ps) {p i : ℕ} → Link p i ps → suc i ≡ length ps
       → suc (get_or (spots t s) i 0) ≡ k
   unfolding spots
+  last_part (none {k = k}) {p = p} {i = i} x8 d = elim x8 [ ]
   last_part (more c none) (here e) d = refl
   last_part (more c (more c' s)) (here e) d = absurd (omega linear)
   last_part (more c s) (there l) d = last_part s l (omega linear)
@@ -127,8 +128,8 @@ module _ (t : List ℤ) (ok : Mendable t) where
           record {
             higher = omega (linear, R.higher);
             within = omega (linear, R.within);
-            same = rw (s, ne_eqb (renamed t k m) k (λ y. omega (linear, R.higher)), ne_eqb m r d, R.same);
-            stands = rw (s, ne_eqb (renamed t k m) k (λ y. omega (linear, R.higher)), R.stands);
+            same = subst (λ (x : ℕ). index x (k ∷ js) ≡ index m (r ∷ is)) (sym s) (rw (ne_eqb (renamed t k m) k (λ y. omega (linear, R.higher)), ne_eqb m r d, R.same));
+            stands = subst (λ (x : ℕ). member x (k ∷ js) ≡ true) (sym s) (rw (ne_eqb (renamed t k m) k (λ y. omega (linear, R.higher)), R.stands));
             came = ap (origin t) s ∙ R.came;
           }
 

@@ -10,7 +10,6 @@ use Rattle.std.proofs.Math.IntN.{pos}
 use Rattle.std.proofs.Math.ListN.{length}
 use Rattle.script.specs.declared.ExpressionRow.TheVariants.{Constant, Variable, Arithmetic, Negate, Mark, Choose}
 use Rattle.script.specs.declared.Row.{Row}
-use Rattle.script.specs.declared.Row.TheVariants as Row
 use Rattle.script.specs.Rows.{parts, rows, row}
 use Rattle.script.specs.Refusals.{Verdict, accepted, refused, ◌and_then◌, lowest, length_test, script_test}
 use Rattle.script.specs.Generated.{zeros}

@@ -12,7 +12,6 @@ use Rattle.script.specs.declared.ExpressionRow.TheVariants.{Constant, Variable, 
 use Rattle.script.specs.declared.FormulaRow.TheVariants.{True, False, Comparison, Not, Junction}
 use Rattle.script.specs.declared.StatementRow.TheVariants.{Skip, Assign, Sequence, If, While, Assert}
 use Rattle.script.specs.declared.Row.{Row}
-use Rattle.script.specs.declared.Row.TheVariants as Row
 use Rattle.script.specs.Syntax.{Expr, Formula, Stmt}
 use Rattle.script.specs.Rows.{parts, rows, row}
 use Rattle.script.specs.Refusals.{member}

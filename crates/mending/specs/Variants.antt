@@ -6,15 +6,14 @@
 use Rattle.std.specs.Prelude.{ℕ, zero, suc, ◌*◌, ◌-◌, min, ◌≢◌, List, [], ◌∷◌, ◌++◌, map, Bool, true, false, cond, ◌&&◌, ℤ, pos, T, eqb, length, drop, get_or}
 use Rattle.script.specs.declared.ExpressionRow.TheVariants.{Constant, Variable, Arithmetic, Negate, Mark, Choose}
 use Rattle.script.specs.declared.Row.{Row}
-use Rattle.script.specs.declared.Row.TheVariants as Row
 use Rattle.script.specs.Rows.{Part, fields, parts, rows, word, row}
 use Rattle.script.specs.Refusals.{Verdict, accepted, refused, ◌and_then◌, lowest, member, length_test, script_test}
 use Rattle.script.specs.Generated.{zeros}
 use Rattle.theorems.specs.Truths.{both}
 use Rattle.theorems.specs.Differ.{other, told}
-use Rattle.mending.specs.Copies.{each, part_sum, origins, cap}
+use Rattle.mending.specs.Copies.{each, part_sum, cap}
 use Rattle.mending.specs.NewTable.{places, renewed, place_of, written}
-use Rattle.mending.specs.Reached.{outside, targets, reached, among}
+use Rattle.mending.specs.Reached.{outside, targets, among}
 use Rattle.mending.specs.Mended.{part_fault, too_long, Mended, refuse, mended}
 
 -- ---- what a wrong turn changes
