@@ -12,7 +12,6 @@ use Rattle.script.specs.declared.Connective.TheVariants.{And, Or, Implies}
 use Rattle.script.specs.declared.ExpressionRow.TheVariants.{Constant, Variable, Arithmetic, Negate, Mark, Choose}
 use Rattle.script.specs.declared.FormulaRow.TheVariants.{True, False, Comparison, Not, Junction}
 use Rattle.script.specs.declared.Row.{Row}
-use Rattle.script.specs.declared.Row.TheVariants as Row
 use Rattle.script.specs.declared.Sort.TheVariants.{Expression, Formula}
 use Rattle.script.specs.Rows.{field_number, row_no, row_of, row, word, sort_of}
 use Rattle.script.specs.Laws.{row_is, pos_inj}

@@ -7,7 +7,6 @@ use Rattle.script.specs.declared.VariableNumber.{VariableNumber}
 use Rattle.script.specs.declared.ExpressionRow.TheVariants.{Variable, Mark}
 use Rattle.script.specs.declared.StatementRow.TheVariants.{Assign}
 use Rattle.script.specs.declared.Row.{Row}
-use Rattle.script.specs.declared.Row.TheVariants as Row
 use Rattle.script.specs.declared.Sort.{Sort}
 use Rattle.script.specs.Words.{expr_words, formula_words}
 use Rattle.script.specs.Rows.{field_number, row_no, var_no, word, row, rows, parts, fields, sort_of, variables}
