@@ -1,5 +1,3 @@
--- tests of bytes
-mod Flags
 -- the runs and the numbers that they make
 mod Fronts
 mod Folds

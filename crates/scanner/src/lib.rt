@@ -48,6 +48,7 @@ fn no_token(at: usize) -> Token
 }
 
 // A numeral.
+#[tactic(auto, using(grammar::specs::Fronts::length_run), unfolding(crate::specs::Lexed::lexed, grammar::specs::Numbers::token_number, grammar::specs::Numbers::token_value))]
 fn numeral_at(text: &[u8], at: usize) -> Token
     ensures { result ≡ lexed at (numeral_of (run is_digit (drop at text.now))) }
 {
@@ -93,6 +94,7 @@ fn keyword_at(text: &[u8], at: usize) -> Token
 }
 
 // A symbol that begins with a colon, by the byte after it.
+#[tactic(auto, unfolding(crate::specs::Lexed::lexed, crate::specs::Lexed::symbol_at, grammar::specs::Numbers::token_number, grammar::specs::Numbers::token_value))]
 fn colon_at(next: u8, at: usize) -> Token
     requires { at + 2 < 2 ^ 64 }
     ensures { result ≡ lexed at (symbol_at (58 ∷ next ∷ [])) }
@@ -105,6 +107,7 @@ fn colon_at(next: u8, at: usize) -> Token
 }
 
 // A symbol that begins with <, by the byte after it.
+#[tactic(auto, unfolding(crate::specs::Lexed::lexed, crate::specs::Lexed::symbol_at, grammar::specs::Numbers::token_number, grammar::specs::Numbers::token_value))]
 fn less_at(next: u8, at: usize) -> Token
     requires { at + 2 < 2 ^ 64 }
     ensures { result ≡ lexed at (symbol_at (60 ∷ next ∷ [])) }
@@ -117,6 +120,7 @@ fn less_at(next: u8, at: usize) -> Token
 }
 
 // A symbol, by its first byte and the byte after it.
+#[tactic(auto, unfolding(crate::specs::Lexed::lexed, crate::specs::Lexed::symbol_at, grammar::specs::Numbers::token_number, grammar::specs::Numbers::token_value))]
 fn symbol_at(byte: u8, next: u8, at: usize) -> Token
     requires { at + 2 < 2 ^ 64 }
     ensures { result ≡ lexed at (symbol_at (byte ∷ next ∷ [])) }

@@ -51,6 +51,7 @@ pub const TRUE: u64 = 0x74_72_75_65;
 pub const FALSE: u64 = 0x66_61_6c_73_65;
 
 // The token of the keyword with this number, or none.
+#[tactic(auto, unfolding(crate::specs::Words::keyword_number, grammar::specs::Numbers::token_number))]
 pub fn keyword(number: u64) -> usize
     ensures { result ≡ keyword_number keywords number }
 {

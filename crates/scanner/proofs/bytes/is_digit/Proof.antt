@@ -1,8 +1,0 @@
--- `scanner::bytes::is_digit` meets its contract. Assumes nothing.
-use borrow.Author.Tests.{le-leb, lt-leb}
-use Rattle.scanner.proofs.bytes.is_digit.Statement.{statement}
-use Rattle.scanner.proofs.bytes.is_digit.Tie as tie
-
-pub is-digit-spec : {M : Type 1} → statement M
-is-digit-spec =
-    tie.close (tie.spec (λ c. rw (le-leb 48 _ c.if1.true)) (λ c. rw (lt-leb 48 _ c.if1.false)))
