@@ -83,23 +83,23 @@ nonzero : List ℤ
 nonzero = pos 25 ∷ pos 16 ∷ pos 21 ∷ pos 2 ∷ pos 0 ∷ pos 1 ∷ pos 0 ∷ []
 
 nonzero_text : Written
-nonzero_text = text "(set_logic QF_NIA)\n(declare_const v0 Int)\n(assert (not (=> true (distinct v0 0))))\n(check_sat)\n" 0
+nonzero_text = text "(set-logic QF_NIA)\n(declare-const v0 Int)\n(assert (not (=> true (distinct v0 0))))\n(check-sat)\n" 0
 
 -- ---- figures
 
 -- of the list of example A: 02, P9, "the reader, P1 and P6 take both forms", and the texts from either are the same
 of_example : List ℤ → List (Call × Written)
 of_example a =
-    ((a, pos 0, 120), text "(set_logic QF_NIA)\n(declare_const v0 Int)\n(assert (not (=> (and (<= 0 v0) (not (< 0 v0))) (= v0 0))))\n(check_sat)\n" 6)
-    ∷ ((a, pos 1, 109), text "(set_logic QF_NIA)\n(declare_const v0 Int)\n(assert (not (=> (and (<= 0 v0) (< 0 v0)) (<= 0 v0))))\n(check_sat)\n" 0)
+    ((a, pos 0, 120), text "(set-logic QF_NIA)\n(declare-const v0 Int)\n(assert (not (=> (and (<= 0 v0) (not (< 0 v0))) (= v0 0))))\n(check-sat)\n" 6)
+    ∷ ((a, pos 1, 109), text "(set-logic QF_NIA)\n(declare-const v0 Int)\n(assert (not (=> (and (<= 0 v0) (< 0 v0)) (<= 0 v0))))\n(check-sat)\n" 0)
     ∷ ((a, pos 1, 108), refuse 30 108)
     ∷ (
       (a, pos 2, 180),
       text
-          "(set_logic QF_NIA)\n(declare_const v0 Int)\n(declare_const m15 Int)\n(assert (not (=> (and (and (<= 0 v0) (< 0 v0)) (= v0 m15)) (and (<= 0 (- v0 1)) (< (- v0 1) m15)))))\n(check_sat)\n"
+          "(set-logic QF_NIA)\n(declare-const v0 Int)\n(declare-const m15 Int)\n(assert (not (=> (and (and (<= 0 v0) (< 0 v0)) (= v0 m15)) (and (<= 0 (- v0 1)) (< (- v0 1) m15)))))\n(check-sat)\n"
           1,
     )
-    ∷ ((a, pos 3, 95), text "(set_logic QF_NIA)\n(declare_const v0 Int)\n(assert (not (=> (<= 0 v0) (<= 0 v0))))\n(check_sat)\n" 1)
+    ∷ ((a, pos 3, 95), text "(set-logic QF_NIA)\n(declare-const v0 Int)\n(assert (not (=> (<= 0 v0) (<= 0 v0))))\n(check-sat)\n" 1)
     ∷ ((a, pos 3, 0), refuse 30 0)
     ∷ ((a, pos 4, 500), refuse 21 500)
     ∷ ((a, negsuc 0, 0), refuse 21 0)
@@ -108,28 +108,28 @@ of_example a =
 
 others : List (Call × Written)
 others =
-    ((constants, pos 0, 99), text "(set_logic QF_NIA)\n(assert (not (and (< (- 1) (- 5)) (<= (- 2147483648) 2147483647))))\n(check_sat)\n" 0)
+    ((constants, pos 0, 99), text "(set-logic QF_NIA)\n(assert (not (and (< (- 1) (- 5)) (<= (- 2147483648) 2147483647))))\n(check-sat)\n" 0)
     ∷ (
       (divisions, pos 0, 191),
       text
-          "(set_logic QF_NIA)\n(declare_const v7 Int)\n(declare_const f128 Int)\n(declare_const m3 Int)\n(assert (not (distinct (ite (= m3 0) 0 (div v7 m3)) (ite (= v7 0) f128 (mod f128 v7)))))\n(check_sat)\n"
+          "(set-logic QF_NIA)\n(declare-const v7 Int)\n(declare-const f128 Int)\n(declare-const m3 Int)\n(assert (not (distinct (ite (= m3 0) 0 (div v7 m3)) (ite (= v7 0) f128 (mod f128 v7)))))\n(check-sat)\n"
           0,
     )
     ∷ (
       (choice, pos 0, 144),
       text
-          "(set_logic QF_NIA)\n(declare_const v127 Int)\n(declare_const f255 Int)\n(assert (not (not (=> true (= (ite false v127 f255) (- 5))))))\n(check_sat)\n"
+          "(set-logic QF_NIA)\n(declare-const v127 Int)\n(declare-const f255 Int)\n(assert (not (not (=> true (= (ite false v127 f255) (- 5))))))\n(check-sat)\n"
           0,
     )
     ∷ (
       (sums, pos 0, 133),
       text
-          "(set_logic QF_NIA)\n(declare_const v0 Int)\n(declare_const m2047 Int)\n(assert (not (or (< (+ v0 v0) (* v0 m2047)) false)))\n(check_sat)\n" 0,
+          "(set-logic QF_NIA)\n(declare-const v0 Int)\n(declare-const m2047 Int)\n(assert (not (or (< (+ v0 v0) (* v0 m2047)) false)))\n(check-sat)\n" 0,
     )
     ∷ (
       (ends, pos 0, 214),
       text
-          "(set_logic QF_NIA)\n(declare_const v127 Int)\n(declare_const f128 Int)\n(declare_const f255 Int)\n(declare_const v256 Int)\n(declare_const v1023 Int)\n(assert (not (= (+ v1023 v256) (+ f255 (+ f128 v127)))))\n(check_sat)\n"
+          "(set-logic QF_NIA)\n(declare-const v127 Int)\n(declare-const f128 Int)\n(declare-const f255 Int)\n(declare-const v256 Int)\n(declare-const v1023 Int)\n(assert (not (= (+ v1023 v256) (+ f255 (+ f128 v127)))))\n(check-sat)\n"
           0,
     )
     ∷ ((past_ends, pos 0, 9), refuse 20 9)
@@ -137,7 +137,7 @@ others =
     ∷ (
       (division_in_divisor, pos 0, 175),
       text
-          "(set_logic QF_NIA)\n(declare_const v0 Int)\n(assert (not (= (ite (= (ite (= (- 2) 0) 0 (div v0 (- 2))) 0) (- 7) (mod (- 7) (ite (= (- 2) 0) 0 (div v0 (- 2))))) 0)))\n(check_sat)\n"
+          "(set-logic QF_NIA)\n(declare-const v0 Int)\n(assert (not (= (ite (= (ite (= (- 2) 0) 0 (div v0 (- 2))) 0) (- 7) (mod (- 7) (ite (= (- 2) 0) 0 (div v0 (- 2))))) 0)))\n(check-sat)\n"
           0,
     )
     ∷ ((of_kind 5 nonzero, pos 0, 95), nonzero_text)

@@ -38,7 +38,7 @@ module _ (limit : ℕ) where
     unfolding references
 
     expr_ranged : (e : Expr) → InRangeWithin limit e → AllRangedWithin (expr_references e)
-    expr_ranged (const z) h = λ r m. absurd (Memᴰ.not_nil m)
+    expr_ranged (const z) h = λ r m. absurd (Memᴰ.not-nil m)
     expr_ranged (var v) h = ranged_one (variable v) h
     expr_ranged (Syntax.mark m) h = ranged_one (mark m) h
     expr_ranged (arith o a b) h = ranged_append (expr_references a) (expr_references b) (expr_ranged a h.0) (expr_ranged b h.1)
@@ -48,7 +48,7 @@ module _ (limit : ℕ) where
         (ranged_append (expr_references a) (expr_references b) (expr_ranged a h.1) (expr_ranged b h.2))
 
     pub ranged_within : (f : Formula) → InRangeᶠWithin limit f → AllRangedWithin (references f)
-    ranged_within (truth b) h = λ r m. absurd (Memᴰ.not_nil m)
+    ranged_within (truth b) h = λ r m. absurd (Memᴰ.not-nil m)
     ranged_within (cmp r a b) h = ranged_append (expr_references a) (expr_references b) (expr_ranged a h.0) (expr_ranged b h.1)
     ranged_within (Syntax.not f) h = ranged_within f h
     ranged_within (join c f g) h = ranged_append (references f) (references g) (ranged_within f h.0) (ranged_within g h.1)

@@ -42,12 +42,12 @@ abbrev pub reserved : List (List ℕ)
 reserved =
     bytes "!" ∷ bytes "_" ∷ bytes "as" ∷ bytes "exists" ∷ bytes "forall" ∷ bytes "let" ∷ bytes "match" ∷ bytes "par"
     ∷ bytes "BINARY" ∷ bytes "DECIMAL" ∷ bytes "HEXADECIMAL" ∷ bytes "NUMERAL" ∷ bytes "STRING"
-    ∷ bytes "assert" ∷ bytes "check_sat" ∷ bytes "check-sat-assuming" ∷ bytes "declare_const" ∷ bytes "declare-datatype"
+    ∷ bytes "assert" ∷ bytes "check-sat" ∷ bytes "check-sat-assuming" ∷ bytes "declare-const" ∷ bytes "declare-datatype"
     ∷ bytes "declare-datatypes" ∷ bytes "declare-fun" ∷ bytes "declare-sort" ∷ bytes "define-fun" ∷ bytes "define-fun-rec"
     ∷ bytes "define-funs-rec" ∷ bytes "define-sort" ∷ bytes "echo" ∷ bytes "exit" ∷ bytes "get-assertions"
     ∷ bytes "get-assignment" ∷ bytes "get-info" ∷ bytes "get-model" ∷ bytes "get-option" ∷ bytes "get-proof"
     ∷ bytes "get-unsat-assumptions" ∷ bytes "get-unsat-core" ∷ bytes "get-value" ∷ bytes "pop" ∷ bytes "push" ∷ bytes "reset"
-    ∷ bytes "reset-assertions" ∷ bytes "set-info" ∷ bytes "set_logic" ∷ bytes "set-option"
+    ∷ bytes "reset-assertions" ∷ bytes "set-info" ∷ bytes "set-logic" ∷ bytes "set-option"
     ∷ bytes "true" ∷ bytes "false" ∷ bytes "not" ∷ bytes "=>" ∷ bytes "and" ∷ bytes "or" ∷ bytes "xor" ∷ bytes "="
     ∷ bytes "distinct" ∷ bytes "ite" ∷ bytes "-" ∷ bytes "+" ∷ bytes "*" ∷ bytes "div" ∷ bytes "mod" ∷ bytes "abs"
     ∷ bytes "<=" ∷ bytes "<" ∷ bytes ">=" ∷ bytes ">" ∷ []

@@ -36,7 +36,7 @@ refers_in r (q ∷ qs) e = of_test (same_reference r q) refl e (refers_in r qs)
     of_test false p h g = Memᴰ.tail (g h)
 
 pub in_refers : (r : Reference) (rs : List Reference) → Memᴰ r rs → refers r rs ≡ true
-in_refers r [] m = absurd (Memᴰ.not_nil m)
+in_refers r [] m = absurd (Memᴰ.not-nil m)
 in_refers r (q ∷ qs) m =
     either (Memᴰ.cases_cons m) (λ e. rw (same_self r q e)) (λ l. or_true (same_reference r q) (in_refers r qs l))
   where
@@ -51,11 +51,11 @@ module _ (kind : ℕ → Reference) (rs : List Reference) where
 
   last_in : (n k : ℕ) (b : Bool) → refers (kind n) rs ≡ b → Memᴰ k (last n b) → (k ≡ n) × (refers (kind k) rs ≡ true)
   last_in n k true e m = let p = Memᴰ.eq_of_singleton m in (p, rw p e)
-  last_in n k false e m = absurd (Memᴰ.not_nil m)
+  last_in n k false e m = absurd (Memᴰ.not-nil m)
 
   pub occurring_in : (n k : ℕ) → Memᴰ k (occurring kind n rs) → (k < n) × (refers (kind k) rs ≡ true)
   unfolding occurring
-  occurring_in zero k m = absurd (Memᴰ.not_nil m)
+  occurring_in zero k m = absurd (Memᴰ.not-nil m)
   occurring_in (suc n) k m =
       either (Memᴰ.append_cases (occurring kind n rs) m) (λ l. let h = occurring_in n k l in (omega linear, h.1))
       (λ l. let h = last_in n k (refers (kind n) rs) refl l in (omega linear, h.1))

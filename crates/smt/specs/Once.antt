@@ -22,12 +22,12 @@ module _ {A : Type 0} where
 
 module _ {A B : Type 0} (f : A → B) where
   pub in_map : (xs : List A) (x : A) → Memᴰ x xs → Memᴰ (f x) (map f xs)
-  in_map [] x m = absurd (Memᴰ.not_nil m)
+  in_map [] x m = absurd (Memᴰ.not-nil m)
   in_map (y ∷ ys) x m = either (Memᴰ.cases_cons m) (λ e. Memᴰ.head (ap f e)) (λ l. Memᴰ.tail (in_map ys x l))
 
   -- an element of the image, and what it is the image of
   pub map_in : (xs : List A) (y : B) → Memᴰ y (map f xs) → (x : A) × Memᴰ x xs × (y ≡ f x)
-  map_in [] y m = absurd (Memᴰ.not_nil m)
+  map_in [] y m = absurd (Memᴰ.not-nil m)
   map_in (x ∷ xs) y m =
       either (Memᴰ.cases_cons m) (λ e. (x, Memᴰ.head refl, e))
       (λ l. let r = map_in xs y l in (r.0, Memᴰ.tail r.1, r.2))
@@ -44,7 +44,7 @@ Rising [] = Unit {0}
 Rising (x ∷ xs) = ((y : ℕ) → Memᴰ y xs → x < y) × Rising xs
 
 pub rising_last : (xs : List ℕ) (n : ℕ) → Rising xs → ((y : ℕ) → Memᴰ y xs → y < n) → Rising (xs ++ (n ∷ []))
-rising_last [] n h low = (λ y m. absurd (Memᴰ.not_nil m), tt)
+rising_last [] n h low = (λ y m. absurd (Memᴰ.not-nil m), tt)
 rising_last (x ∷ xs) n h low = (
   λ y m. either (Memᴰ.append_cases xs m) (h.0 y) (λ l. rw (Memᴰ.eq_of_singleton l) (low x (Memᴰ.head refl))),
   rising_last xs n h.1 (λ y m. low y (Memᴰ.tail m)),

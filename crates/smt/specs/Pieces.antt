@@ -110,7 +110,7 @@ join_text Implies f g = refl
 -- ---- the script
 
 abbrev pub declaration_text : Reference → List ℕ
-declaration_text r = bytes "(declare_const " ++ (name r ++ bytes " Int)\n")
+declaration_text r = bytes "(declare-const " ++ (name r ++ bytes " Int)\n")
 
 abbrev pub declarations_text : List Reference → List ℕ
 declarations_text [] = []
@@ -118,11 +118,11 @@ declarations_text (r ∷ rs) = declaration_text r ++ declarations_text rs
 
 -- the line feed after a command
 declaration_line : (w rest : List ℕ)
-    → (bytes "(declare_const " ++ (w ++ bytes " Int)")) ++ (10 ∷ rest) ≡ (bytes "(declare_const " ++ (w ++ bytes " Int)\n")) ++ rest
-declaration_line w rest = ap (λ (l : List ℕ). bytes "(declare_const " ++ l) (append_assoc w _ _ ∙ sym (append_assoc w _ _))
+    → (bytes "(declare-const " ++ (w ++ bytes " Int)")) ++ (10 ∷ rest) ≡ (bytes "(declare-const " ++ (w ++ bytes " Int)\n")) ++ rest
+declaration_line w rest = ap (λ (l : List ℕ). bytes "(declare-const " ++ l) (append_assoc w _ _ ∙ sym (append_assoc w _ _))
 
 assertion_lines : (w : List ℕ)
-    → (bytes "(assert (not " ++ ((w ++ bytes ")") ++ bytes ")")) ++ bytes "\n(check_sat)\n" ≡ bytes "(assert (not " ++ (w ++ bytes "))\n(check_sat)\n")
+    → (bytes "(assert (not " ++ ((w ++ bytes ")") ++ bytes ")")) ++ bytes "\n(check-sat)\n" ≡ bytes "(assert (not " ++ (w ++ bytes "))\n(check-sat)\n")
 assertion_lines w = ap (λ (l : List ℕ). bytes "(assert (not " ++ l) (append_assoc (w ++ bytes ")") _ _ ∙ append_assoc w _ _)
 
 declarations_pieces : (rs : List Reference) (cs : Script) → script_text (declarations rs ++ cs) ≡ declarations_text rs ++ script_text cs
@@ -134,11 +134,11 @@ declarations_pieces (r ∷ rs) cs =
     ∙ sym (append_assoc (declaration_text r) (declarations_text rs) (script_text cs))
 
 pub script_pieces : (f : Formula) → script_text (script f)
-    ≡ bytes "(set_logic QF_NIA)\n" ++ (declarations_text (declared_references (references f))
-    ++ (bytes "(assert (not " ++ (formula_text f ++ bytes "))\n(check_sat)\n")))
+    ≡ bytes "(set-logic QF_NIA)\n" ++ (declarations_text (declared_references (references f))
+    ++ (bytes "(assert (not " ++ (formula_text f ++ bytes "))\n(check-sat)\n")))
 unfolding script_within script_text command_sexp sexp_text formula_text term_sexp
 script_pieces f =
-    ap (λ (l : List ℕ). bytes "(set_logic QF_NIA)\n" ++ l)
+    ap (λ (l : List ℕ). bytes "(set-logic QF_NIA)\n" ++ l)
     (declarations_pieces (declared_references (references f)) (assert (assertion f) ∷ check_sat ∷ [])
     ∙ ap (λ (l : List ℕ). declarations_text (declared_references (references f)) ++ l) (assertion_lines (formula_text f)))
 

@@ -2,7 +2,7 @@
 -- (`Lexicon`). Syntax and sorts only: what is declared is `Declared`'s, the place of set-logic `Translate.script`'s. A part of
 -- the language: numerals, names of the sort Int, the operators of `Smt` with as many arguments as they have there, and the four
 -- commands; no comment, quoted symbol, string, let, quantifier or other sort. Assumes nothing.
-use Rattle.std.specs.Prelude.{ℕ, List, [], ◌∷◌, true, false, cond, not, ◌&&◌}
+use Rattle.std.specs.Prelude.{ℕ, List, [], ◌∷◌, cond, ◌&&◌}
 use Rattle.std.proofs.Math.Option.{Option, none, some}
 use Rattle.script.specs.Listing.{◌>>=◌, guarded}
 use Rattle.text.specs.Ascii.{bytes}
@@ -177,10 +177,10 @@ read_check (s ∷ ss) = none
 
 abbrev pub read_named : List ℕ → List Sexp → Option Command
 read_named w ss =
-    cond (same w (bytes "set_logic")) (read_logic ss)
-    (cond (same w (bytes "declare_const")) (read_declaration ss)
+    cond (same w (bytes "set-logic")) (read_logic ss)
+    (cond (same w (bytes "declare-const")) (read_declaration ss)
     (cond (same w (bytes "assert")) (read_assertion ss)
-    (cond (same w (bytes "check_sat")) (read_check ss) none)))
+    (cond (same w (bytes "check-sat")) (read_check ss) none)))
 
 abbrev pub read_command : Sexp → Option Command
 read_command (atom w) = none

@@ -28,7 +28,7 @@ either (inl a) f g = f a
 either (inr b) f g = g b
 
 none_within : {ys : List Symbol} → Within [] ys
-none_within = record { each = λ w m. absurd (Memᴰ.not_nil m) }
+none_within = record { each = λ w m. absurd (Memᴰ.not-nil m) }
 
 both_within : {xs ys zs : List Symbol} → Within xs zs → Within ys zs → Within (xs ++ ys) zs
 both_within {xs} f g = record { each = λ w m. either (Memᴰ.append_cases xs m) (f.each w) (g.each w) }
@@ -40,7 +40,7 @@ right_named : (rs : List Reference) {qs : List Reference} {zs : List Symbol} →
 right_named rs h = record { each = λ r m. h.each r (Memᴰ.append_right rs m) }
 
 none_named : {xs : List Symbol} → NamedIn [] xs
-none_named = record { each = λ r m. absurd (Memᴰ.not_nil m) }
+none_named = record { each = λ r m. absurd (Memᴰ.not-nil m) }
 
 both_named : {rs qs : List Reference} {xs ys : List Symbol} → NamedIn rs xs → NamedIn qs ys → NamedIn (rs ++ qs) (xs ++ ys)
 both_named {rs} {qs} {xs} {ys} f g = record {
@@ -53,13 +53,13 @@ after_named xs f = record { each = λ r m. Memᴰ.append_right xs (f.each r m) }
 
 one_named : (r : Reference) → NamedIn (r ∷ []) (name r ∷ [])
 one_named r = record {
-  each = λ q m. either (Memᴰ.cases_cons m) (λ e. Memᴰ.head (ap name e)) (λ l. absurd (Memᴰ.not_nil l));
+  each = λ q m. either (Memᴰ.cases_cons m) (λ e. Memᴰ.head (ap name e)) (λ l. absurd (Memᴰ.not-nil l));
 }
 
 one_within : (r : Reference) {zs : List Symbol} → NamedIn (r ∷ []) zs → Within (name r ∷ []) zs
 one_within r h = record {
   each = λ w m.
-      either (Memᴰ.cases_cons m) (λ e. Memᴰ.cast e (h.each r (Memᴰ.head refl))) (λ l. absurd (Memᴰ.not_nil l));
+      either (Memᴰ.cases_cons m) (λ e. Memᴰ.cast e (h.each r (Memᴰ.head refl))) (λ l. absurd (Memᴰ.not-nil l));
 }
 
 -- ---- nodes

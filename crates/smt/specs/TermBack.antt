@@ -1,7 +1,7 @@
 -- The S-expression of a term whose symbols are names has words for atoms, and is read back as that term (`term_back`,
 -- `claim_back`). An operator with its arguments is read where these are (`with_one_back` to `with_three_back`); the rest is
 -- induction on the term. Assumes nothing.
-use Rattle.std.specs.Prelude.{ℕ, ◌≡◌, refl, true, false, not, T}
+use Rattle.std.specs.Prelude.{ℕ, ◌≡◌, refl, T}
 use Rattle.std.proofs.Common.{ap, ◌∙◌}
 use Rattle.std.proofs.Math.Option.{some}
 use mathlib.Core.List.Memᴰ

@@ -56,10 +56,10 @@ unfoldable mutual
   claim_sexp (Smt.implies f g) = with_two (bytes "=>") (claim_sexp f) (claim_sexp g)
 
 unfoldable pub command_sexp : Command → Sexp
-command_sexp (set_logic l) = with_one (bytes "set_logic") (atom l)
-command_sexp (declare_const c) = with_two (bytes "declare_const") (atom c) (atom (bytes "Int"))
+command_sexp (set_logic l) = with_one (bytes "set-logic") (atom l)
+command_sexp (declare_const c) = with_two (bytes "declare-const") (atom c) (atom (bytes "Int"))
 command_sexp (assert f) = with_one (bytes "assert") (claim_sexp f)
-command_sexp check_sat = form (then (atom (bytes "check_sat")) end)
+command_sexp check_sat = form (then (atom (bytes "check-sat")) end)
 
 -- "each command ended by a line feed"
 unfoldable pub script_text : Script → List ℕ

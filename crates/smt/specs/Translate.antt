@@ -1,6 +1,5 @@
 -- 02, P1: the script of a condition. In this order: names, terms, what a formula refers to, the script. Assumes nothing.
 use Rattle.std.specs.Prelude.{ℕ, zero, suc, List, [], ◌∷◌, ◌++◌, map, Bool, cond, ◌||◌, ℤ, pos, negsuc, eqb}
-use Rattle.std.proofs.Math.Bool as Bool
 use Rattle.script.specs.declared.Operator.{Operator}
 use Rattle.script.specs.declared.Operator.TheVariants.{Plus, Minus, Times, Div, Mod}
 use Rattle.script.specs.declared.Relation.{Relation}
@@ -127,8 +126,8 @@ declarations (r ∷ rs) = declare_const (name r) ∷ declarations rs
 abbrev pub assertion : Formula → Claim
 assertion f = not (claim f)
 
--- "`(set_logic QF_NIA)`, `(declare_const v0 Int)` for each variable, then each mark, that occurs, in rising number, the
--- negated condition asserted, `(check_sat)`"
+-- "`(set-logic QF_NIA)`, `(declare-const v0 Int)` for each variable, then each mark, that occurs, in rising number, the
+-- negated condition asserted, `(check-sat)`"
 unfoldable pub script_within : ℕ → Formula → Script
 script_within limit f =
     set_logic (bytes "QF_NIA")

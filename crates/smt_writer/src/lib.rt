@@ -32,11 +32,11 @@ fn write_script(formula: &[i32], text: &mut [u8]) -> usize
     requires { Spelled formula.now }
     ensures { (f : Formula) → Spells formula.now f → Wrote text.old 0 (script_text (script f)) result text.new }
 {
-    let logic = push_text(text, 0, b"(set_logic QF_NIA)\n");
+    let logic = push_text(text, 0, b"(set-logic QF_NIA)\n");
     let declared = write_declarations(formula, text, logic);
     let opened = push_text(text, declared, b"(assert (not ");
     let reached = write_node(formula, 0, text, opened);
-    push_text(text, reached.place, b"))\n(check_sat)\n")
+    push_text(text, reached.place, b"))\n(check-sat)\n")
 }
 
 // Writes the script of the formula that the words spell into a run that is cleared, or leaves zeros where it has no room.

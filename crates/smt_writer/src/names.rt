@@ -95,7 +95,7 @@ fn write_name(text: &mut [u8], at: usize, k: usize) -> usize
 fn write_declaration(text: &mut [u8], at: usize, k: usize) -> usize
     ensures { Wrote text.old at (declaration_text (reference_at k)) result text.new }
 {
-    let opened = push_text(text, at, b"(declare_const ");
+    let opened = push_text(text, at, b"(declare-const ");
     let named = write_name(text, opened, k);
     push_text(text, named, b" Int)\n")
 }
