@@ -34,10 +34,10 @@ module _ (𝔸 : Arithmetic) (s : State) where
   join_each And f g = (
     λ h k. rw (truth_of f true (true_is f h)),
     (
-      λ h k. rw (truth_of g true (true_is g k)) (sym (Bool.and_true (holds 𝔸 s f))),
+      λ h k. rw (truth_of g true (true_is g k)) (sym (Bool.and-true (holds 𝔸 s f))),
       (
         λ h k. rw (truth_of f false (false_is f h)),
-        (λ h k. rw (truth_of g false (false_is g k)) (sym (Bool.and_false (holds 𝔸 s f))), tt),
+        (λ h k. rw (truth_of g false (false_is g k)) (sym (Bool.and-false (holds 𝔸 s f))), tt),
       ),
     ),
   )
@@ -46,7 +46,7 @@ module _ (𝔸 : Arithmetic) (s : State) where
     λ h k. rw (truth_of f true (true_is f h)),
     (
       λ h k. rw (truth_of f false (false_is f h)),
-      (λ h k. rw (truth_of g true (true_is g k)) (sym (Bool.or_true (Bool.not (holds 𝔸 s f)))), tt),
+      (λ h k. rw (truth_of g true (true_is g k)) (sym (Bool.or-true (Bool.not (holds 𝔸 s f)))), tt),
     ),
   )
 

@@ -7,15 +7,13 @@
 -- as many words as the generator's answer tells is long enough for all this (`long_enough`). Assumes nothing.
 use Rattle.std.specs.Prelude.{ℕ, ◌≤◌, ◌<◌, ◌≡◌, ◌↔◌, List, ℤ, T, length, take}
 use Rattle.std.proofs.Common.{sym, ap, ◌∙◌, subst, arith as linear, length-take}
-use Rattle.std.proofs.Math.Option.{some}
 use Rattle.script.specs.declared.Answer.{Answer}
 use Rattle.script.specs.Meaning.{State, Arithmetic, whole, holds}
 use Rattle.script.specs.Run.{TotalCorrectness}
-use Rattle.script.specs.Conditions.{Condition, conditions}
+use Rattle.script.specs.Conditions.{conditions}
 use Rattle.script.specs.Trees.{tree}
-use Rattle.script.specs.Listing.{read_list}
 use Rattle.script.specs.Generated.{Outcome, outcome}
-use Rattle.script.specs.Promise.{AllValid, ListValid, Demand3}
+use Rattle.script.specs.Promise.{ListValid, Demand3}
 use Rattle.theorems.specs.Options.{some_inj}
 use Rattle.theorems.specs.ReadBack.{read_written, written_read}
 use Rattle.theorems.specs.Demand.{keeps, planned_list}

@@ -7,7 +7,6 @@ use Rattle.std.proofs.Math.Path.{refl, sym}
 use Rattle.std.proofs.Common.{ap}
 use Rattle.std.proofs.Math.Option.{Option, none, some}
 use mathlib.Core.List.{List, [], ◌∷◌, ◌++◌}
-use Rattle.std.proofs.Math.Bool as Bool
 use Rattle.std.proofs.Math.IntN.{ℤ}
 use Rattle.script.specs.declared.Operator.{Operator}
 use Rattle.script.specs.declared.Connective.{Connective}

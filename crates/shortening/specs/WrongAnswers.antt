@@ -6,7 +6,7 @@ use Rattle.script.specs.Computed.{numbers, counted_down}
 use Rattle.script.specs.Rows.{row_of}
 use Rattle.script.specs.Words.{rule_number, Form, without_depth, with_depth, depth_words, expr_words, formula_words, line_words, all_lines, list_words}
 use Rattle.script.specs.Listing.{read_list, read_expr_within, read_formula_within, spelled_within, found_within, line_before_within, lines_before_within, lines_within}
-use Rattle.shortening.specs.Simplify.{rule, arith_node, join_node, not_node, shorten}
+use Rattle.shortening.specs.Simplify.{arith_node, join_node, not_node, shorten}
 use Rattle.shortening.specs.Shortened.{refuse, filled, written}
 use Rattle.shortening.specs.Variants.{Trailed, Formed, Answering, shorten_by, lines_by, pass_by, right_rules, right_seen, right_trailed, right_formed, right_answer, Pass, Wrong, OtherAnswers, all_told}
 use Rattle.shortening.specs.ListFigures.{padded, three, deep}
