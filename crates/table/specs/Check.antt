@@ -10,7 +10,6 @@ use Rattle.script.specs.Trees.{tree, nesting}
 use Rattle.theorems.specs.Accepted.{SoundRow, sound_row, sound_length, both}
 use Rattle.script.specs.declared.RowNumber.{RowNumber}
 use Rattle.table.specs.declared.Verdict.{Verdict as Answer}
-use Rattle.table.specs.declared.Verdict.TheVariants as Answer
 use Rattle.table.specs.Verdicts.{verdict_of}
 use Rattle.rows.specs.States.{Sized}
 use Rattle.table.specs.Misread.{Sound}

@@ -9,7 +9,6 @@ use Rattle.script.specs.Rows.{field_number, fields, rows, row, word}
 use Rattle.script.specs.Refusals.{bad_length, Verdict, accepted, refused, lowest, assigns_frozen, linked, unlinked_fault, target_fault, row_fault, row_test, row_test_within, script_test, unlinked_test, target_test}
 use Rattle.theorems.specs.Accepted.{clash}
 use Rattle.table.specs.declared.Verdict.{Verdict as Answer}
-use Rattle.table.specs.declared.Verdict.TheVariants as Answer
 use Rattle.table.specs.Verdicts.{verdict_of}
 use Rattle.rows.specs.States.{Sized, States, Tested, states_none, small_letter, capital_letter}
 use Rattle.table.specs.Kinds.{kind_assigns, kind_named, named, assigns_at, named_at, script_at}

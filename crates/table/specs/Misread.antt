@@ -11,7 +11,6 @@ use Rattle.script.specs.declared.Row.{Row}
 use Rattle.script.specs.Rows.{fields, parts, row, rows}
 use Rattle.script.specs.Refusals.{frozen, all_below, well_sorted, in_range, misread}
 use Rattle.table.specs.declared.Reads.{Reads}
-use Rattle.table.specs.declared.Reads.TheVariants as Reads
 use Rattle.table.specs.Seen.{Shows, shows_more}
 use Rattle.rows.specs.States.{Sized}
 use Rattle.table.specs.Reads.{reads_of, reads_node, node_is, Lower, reads_lower}

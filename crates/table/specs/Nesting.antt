@@ -10,7 +10,6 @@ use Rattle.std.specs.Int.{w16, w64}
 use Rattle.script.specs.declared.RowNumber.{RowNumber}
 use Rattle.script.specs.declared.StatementRow.TheVariants.{Skip, Assign, Sequence, If, While, Assert}
 use Rattle.script.specs.declared.Row.{Row}
-use Rattle.script.specs.declared.Row.TheVariants as Row
 use Rattle.script.specs.declared.Sort.TheVariants.{Formula, Statement, Note, Script}
 use Rattle.script.specs.Laws.{row_is}
 use Rattle.script.specs.Syntax.{Expr, Formula as Test, Stmt}

@@ -8,12 +8,10 @@ use Rattle.script.specs.declared.FormulaRow.TheVariants.{True, False, Comparison
 use Rattle.script.specs.declared.StatementRow.{StatementRow}
 use Rattle.script.specs.declared.StatementRow.TheVariants.{Skip, Assign, Sequence, If, While, Assert}
 use Rattle.script.specs.declared.Row.{Row}
-use Rattle.script.specs.declared.Row.TheVariants as Row
 use Rattle.script.specs.Rows.{fields, parts, rows}
 use Rattle.script.specs.Refusals.{member, frozen, all_below, in_range, misread_node}
 use Rattle.theorems.specs.RowTrees.{lower₁, lower₂, lower₃}
 use Rattle.table.specs.declared.Reads.{Reads}
-use Rattle.table.specs.declared.Reads.TheVariants as Reads
 
 abbrev pub expression_reads : Bool → ExpressionRow → Reads
 expression_reads code (Constant z) = Reads.Nothing

@@ -5,7 +5,6 @@ use Rattle.std.proofs.Common.{sym, ap, ◌∙◌}
 use Rattle.script.specs.declared.RowNumber.{RowNumber}
 use Rattle.script.specs.Refusals.{Verdict, accepted, refused}
 use Rattle.table.specs.declared.Verdict.{Verdict as Answer}
-use Rattle.table.specs.declared.Verdict.TheVariants as Answer
 
 abbrev pub verdict_of : Answer → Verdict
 verdict_of Answer.Accepted = accepted

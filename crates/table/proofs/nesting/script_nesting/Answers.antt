@@ -1,0 +1,8 @@
+use Rattle.table.specs.Nesting.{body_in, script_nesting_of}
+use Rattle.table.proofs.nesting.script_nesting.Goals as goal
+
+pub nesting_at-requires : goal.nesting_at-requires
+nesting_at-requires c = body_in c.requires.0 c.requires.1 c.field-body.ensures
+
+pub returns : goal.returns
+returns c = script_nesting_of c.requires.0 c.requires.1 c.field-body.ensures c.loop-r.invariant.1 c.loop-r-test.false c.nesting_at.ensures
