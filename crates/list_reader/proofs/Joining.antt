@@ -10,7 +10,6 @@ use lib.ListN.{length, drop, length-drop, drop_of_length-le}
 use lib.Seq.{drop-drop}
 use Rattle.script.specs.Listing.{◌>>=◌}
 use Rattle.script.specs.declared.Row.{Row}
-use Rattle.script.specs.declared.Row.TheVariants as Row
 use Rattle.list_reader.specs.declared.formulas.ExpressionNode.{ExpressionNode}
 use Rattle.list_reader.specs.declared.formulas.FormulaNode.{FormulaNode}
 use Rattle.list_reader.specs.Nodes.{expression_node, formula_node, first_row, Opens}

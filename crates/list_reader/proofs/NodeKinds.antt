@@ -8,7 +8,6 @@ use lib.IntN.{ℤ, pos}
 use lib.Dec.{eqb, ltb, leb}
 use borrow.Author.Tests.{eqb-true, eqb-false, leb-true, le-ltb}
 use Rattle.script.specs.declared.Row.{Row}
-use Rattle.script.specs.declared.Row.TheVariants as Row
 use Rattle.script.specs.Rows.{Kind, listed, kinds, row_of}
 use Rattle.list_reader.specs.declared.formulas.ExpressionNode.{ExpressionNode}
 use Rattle.list_reader.specs.declared.formulas.ExpressionNode.TheVariants as E

@@ -9,7 +9,6 @@ use mathlib.Core.List.{List}
 use lib.ListN.{length, drop, get_or, drop_of_length-le}
 use lib.Seq.{drop-cons, get_or-drop}
 use Rattle.script.specs.declared.Row.{Row}
-use Rattle.script.specs.declared.Row.TheVariants as Row
 use Rattle.script.specs.Rows.{field_number, row_of}
 use Rattle.list_reader.specs.Nodes.{first_row, Opens}
 use Rattle.list_reader.specs.Ends.{nowhere, here, NumberEnds}

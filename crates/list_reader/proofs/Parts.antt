@@ -10,8 +10,7 @@ use lib.ListN.{get_or, drop}
 use Rattle.script.specs.declared.ExpressionRow.TheVariants.{Constant, Variable, Arithmetic, Negate, Mark, Choose}
 use Rattle.script.specs.declared.FormulaRow.TheVariants.{True, False, Comparison, Not, Junction}
 use Rattle.script.specs.declared.Row.{Row}
-use Rattle.script.specs.declared.Row.TheVariants as Row
-use Rattle.script.specs.Syntax.{var, mark, arith, neg, choose, const, Formula, cmp, not, join}
+use Rattle.script.specs.Syntax.{var, mark, arith, neg, choose, const, cmp, not, join}
 use Rattle.script.specs.Rows.{field_number, row_of, variables}
 use Rattle.script.specs.Listing.{◌>>=◌, guarded, Read, read, next, past_number, row_limit, read_expr, read_expr_within, read_formula}
 use Rattle.list_reader.specs.declared.formulas.ExpressionNode.{ExpressionNode}

@@ -1,0 +1,12 @@
+-- `list_reader::formulas::formula_node_at` meets its contract.
+use Rattle.std.proofs.Common.{pos, get_or, ◌+◌, rules}
+use Rattle.script.specs.Laws.{back}
+use Rattle.list_reader.proofs.Opening.{opened}
+use Rattle.list_reader.proofs.formulas.formula_node_at.Goals as goal
+
+pub returns-then-at-words : goal.returns-then-at-words
+returns-then-at-words c =
+    let w = get_or c.args.words.now c.args.at (pos 0) in
+    let q = back {z = w} (search rules) in
+    opened c.args.words.now c.args.at c.if-at-words.true q
+    (c.formula_node_of.ensures (get_or c.args.words.now (c.args.at + 1) (pos 0)))
