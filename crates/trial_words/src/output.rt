@@ -1,34 +1,37 @@
 // Numbers and words of lists and tables, each after a space.
 
-pub fn number(n: usize) {
-    io::write_all(1, b" ");
-    io::print_decimal(1, n as u64);
+use std::io;
+
+pub fn number(rt: &impl Print, n: usize) -> io::Result<()> {
+    rt.write_all(b" ")?;
+    rt.print(n)
 }
 
 // A minus sign stands before a negative word.
-pub fn word(word: i32) {
+pub fn word(rt: &impl Print, word: i32) -> io::Result<()> {
     if word < 0 {
-        io::write_all(1, b" -");
+        rt.write_all(b" -")?;
     } else {
-        io::write_all(1, b" ");
+        rt.write_all(b" ")?;
     }
-    io::print_decimal(1, text::magnitude(word) as u64);
+    rt.print(text::magnitude(word))
 }
 
-pub fn words(list: &[i32]) {
+pub fn words(rt: &impl Print, list: &[i32]) -> io::Result<()> {
     let mut i: usize = 0;
     while i < list.len() {
-        word(list[i]);
+        word(rt, list[i])?;
         i += 1;
     }
+    Ok(())
 }
 
 // The first n words of a list, after its name.
-pub fn list(name: &[u8], list: &[i32], n: usize) {
-    io::write_all(1, name);
-    io::write_all(1, b", list:");
+pub fn list(rt: &impl Print, name: &[u8], list: &[i32], n: usize) -> io::Result<()> {
+    rt.write_all(name)?;
+    rt.write_all(b", list:")?;
     if n <= list.len() {
-        words(&list[..n]);
+        words(rt, &list[..n])?;
     }
-    io::write_all(1, b"\n");
+    rt.write_all(b"\n")
 }
