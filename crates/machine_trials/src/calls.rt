@@ -1,9 +1,10 @@
 // One call: what is lent is made of the numbers, and what is left is written.
 
-ghost use Rattle.std.specs.Prelude.{◌<◌};
+ghost use Rattle.std.specs.Prelude.{◌<◌, IfOk};
 
 use crate::numbers;
 use machine::RunAnswer;
+use std::io;
 
 fn number_at(found: &[i64; 8192], i: usize) -> i64 {
     if i < 8192 { found[i] } else { 0 }
@@ -72,89 +73,112 @@ fn set_table(found: &[i64; 8192], from: usize, n: usize, table: &mut [i32; 512])
     }
 }
 
-fn write_number(name: &[u8], n: u64) {
-    io::write_all(1, name);
-    io::print_decimal(1, n);
+fn write_number(rt: &impl Print, name: &[u8], n: u64) -> io::Result<()> {
+    rt.write_all(name)?;
+    rt.print(n)
 }
 
-fn write_answer(answer: RunAnswer) {
-    write_number(b"number ", answer.number as u64);
-    write_number(b", row ", answer.row as u64);
-    write_number(b", steps ", answer.steps);
-    write_number(b", height ", answer.height as u64);
+fn write_answer(rt: &impl Print, answer: RunAnswer) -> io::Result<()> {
+    write_number(rt, b"number ", answer.number as u64)?;
+    write_number(rt, b", row ", answer.row as u64)?;
+    write_number(rt, b", steps ", answer.steps)?;
+    write_number(rt, b", height ", answer.height as u64)
 }
 
-fn write_row(row: u32) {
-    write_number(b" ", row as u64);
+fn write_row(rt: &impl Print, row: u32) -> io::Result<()> {
+    write_number(rt, b" ", row as u64)
 }
 
-fn write_stack(stack: &[u32]) {
-    io::write_all(1, b"; stack");
+fn write_stack(rt: &impl Print, stack: &[u32]) -> io::Result<()> {
+    rt.write_all(b"; stack")?;
     let mut i: usize = 0;
     while i < stack.len() {
-        write_row(stack[i]);
+        write_row(rt, stack[i])?;
         i += 1;
     }
+    Ok(())
 }
 
 // A value that is not 0, after its number.
-fn write_value(i: usize, z: i64) {
+fn write_value(rt: &impl Print, i: usize, z: i64) -> io::Result<()> {
     if z != 0 {
-        write_number(b" ", i as u64);
-        io::write_all(1, b":");
-        numbers::write(z);
+        write_number(rt, b" ", i as u64)?;
+        rt.write_all(b":")?;
+        numbers::write(rt, z)?;
     }
+    Ok(())
 }
 
-fn write_values(name: &[u8], values: &[i64]) {
-    io::write_all(1, name);
+fn write_values(rt: &impl Print, name: &[u8], values: &[i64]) -> io::Result<()> {
+    rt.write_all(name)?;
     let mut i: usize = 0;
     while i < values.len() {
-        write_value(i, values[i]);
+        write_value(rt, i, values[i])?;
         i += 1;
     }
+    Ok(())
 }
 
 fn run_slices(
+    rt: &impl Print,
     table: &[i32],
     stack: &mut [u32],
     variables: &mut [i64],
     marks: &mut [i64],
     limit: usize,
-) {
-    write_answer(machine::run(table, stack, variables, marks, limit as u64));
-    write_stack(stack);
-    write_values(b"; variables", variables);
-    write_values(b"; marks", marks);
-    io::write_all(1, b"\n");
+) -> io::Result<()> {
+    write_answer(
+        rt,
+        machine::run(table, stack, variables, marks, limit as u64),
+    )?;
+    write_stack(rt, stack)?;
+    write_values(rt, b"; variables", variables)?;
+    write_values(rt, b"; marks", marks)?;
+    rt.write_all(b"\n")
 }
 
 // The first words of a table, with so many words of stack, which were 9 before: at most 64.
-fn run_part(table: &[i32], words: usize, room: usize, variables: &mut [i64], limit: usize) {
+fn run_part(
+    rt: &impl Print,
+    table: &[i32],
+    words: usize,
+    room: usize,
+    variables: &mut [i64],
+    limit: usize,
+) -> io::Result<()> {
     let mut stack = [9; 64];
     let mut marks = [0; 2048];
     if words <= table.len() {
         if room <= 64 {
             run_slices(
+                rt,
                 &table[..words],
                 &mut stack[..room],
                 variables,
                 &mut marks,
                 limit,
-            );
+            )?;
         }
     }
+    Ok(())
 }
 
 // The same of a table in an array.
-fn run(table: &[i32; 512], words: usize, room: usize, variables: &mut [i64; 1024], limit: usize) {
-    run_part(table, words, room, variables, limit);
+fn run(
+    rt: &impl Print,
+    table: &[i32; 512],
+    words: usize,
+    room: usize,
+    variables: &mut [i64; 1024],
+    limit: usize,
+) -> io::Result<()> {
+    run_part(rt, table, words, room, variables, limit)
 }
 
 // The call that stands from a place on; where the next one stands.
-fn call(found: &[i64; 8192], at: usize) -> usize
+fn call(rt: &impl Print, found: &[i64; 8192], at: usize) -> io::Result<usize>
     requires { at < 8192 }
-    ensures { at < result }
+    ensures { IfOk result (λ next. at < next) }
 {
     let mut variables = [0; 1024];
     let mut table = [0; 512];
@@ -165,13 +189,14 @@ fn call(found: &[i64; 8192], at: usize) -> usize
     let from = at + 3 + 2 * pairs;
     let words = count_at(found, from);
     set_table(found, from + 1, words, &mut table);
-    run(&table, words, room, &mut variables, limit);
-    from + 1 + words
+    run(rt, &table, words, room, &mut variables, limit)?;
+    Ok(from + 1 + words)
 }
 
-pub fn all(found: &[i64; 8192], count: usize) {
+pub fn all(rt: &impl Print, found: &[i64; 8192], count: usize) -> io::Result<()> {
     let mut at: usize = 0;
     while at < 8192 && at < count {
-        at = call(found, at);
+        at = call(rt, found, at)?;
     }
+    Ok(())
 }

@@ -4,13 +4,15 @@
 
 #![tactic(auto)]
 
+use std::io;
+
 mod numbers; // numbers read from text, and written
 mod calls; // one call
 
-fn main() {
-    let mut text = io::large_buffer();
-    let n = io::read_full(0, &mut text);
+fn main(rt: HostRuntime) -> io::Result<()> {
+    let mut text = [0; 65536];
+    let n = input_reader::read_full(&mut rt.reader(), &mut text)?;
     let mut found: [i64; 8192] = [0; 8192];
     let count = numbers::read(&text[..n], &mut found);
-    calls::all(&found, count);
+    calls::all(&rt, &found, count)
 }

@@ -3,6 +3,8 @@
 ghost use Rattle.std.specs.Prelude.{◌≡◌, ◌<◌};
 ghost use Rattle.std.specs.Int.Signed.{mag};
 
+use std::io;
+
 fn is_digit(byte: u8) -> bool {
     48 <= byte && byte <= 57
 }
@@ -97,13 +99,14 @@ pub fn magnitude(z: i64) -> u64
 }
 
 // A number, after a space.
-pub fn write(z: i64) {
+pub fn write(rt: &impl Print, z: i64) -> io::Result<()> {
     let m = magnitude(z);
     if z < 0 {
-        io::write_all(1, b" -");
-        io::print_decimal(1, m + 1);
+        rt.write_all(b" -")?;
+        rt.print(m + 1)?;
     } else {
-        io::write_all(1, b" ");
-        io::print_decimal(1, m);
+        rt.write_all(b" ")?;
+        rt.print(m)?;
     }
+    Ok(())
 }

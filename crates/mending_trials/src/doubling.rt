@@ -2,6 +2,7 @@
 // expected, up to the first that is not. The words were 7 before.
 
 use crate::mending;
+use std::io;
 use trial_words::output;
 
 // The next word, and how many there are then.
@@ -134,29 +135,36 @@ fn alike(words: &[i32], expected: &[i32]) -> usize {
     i
 }
 
-fn say_alike(name: &[u8], words: &[i32], expected: &[i32; 9000]) {
-    io::write_all(1, name);
-    output::number(alike(words, expected));
-    io::write_all(1, b" of");
-    output::number(words.len());
-    io::write_all(1, b" words as expected\n");
+fn say_alike(
+    rt: &impl Print,
+    name: &[u8],
+    words: &[i32],
+    expected: &[i32; 9000],
+) -> io::Result<()> {
+    rt.write_all(name)?;
+    output::number(rt, alike(words, expected))?;
+    rt.write_all(b" of")?;
+    output::number(rt, words.len())?;
+    rt.write_all(b" words as expected\n")
 }
 
 fn mend_slice(
+    rt: &impl Print,
     name: &[u8],
     table: &[i32],
     new: &mut [i32],
     origins: &mut [i32],
     expected_new: &[i32; 9000],
     expected_origins: &[i32; 9000],
-) {
-    mending::say_answer(name, mender::mend(table, new, origins));
-    say_alike(b"new:", new, expected_new);
-    say_alike(b"from:", origins, expected_origins);
+) -> io::Result<()> {
+    mending::say_answer(rt, name, mender::mend(table, new, origins))?;
+    say_alike(rt, b"new:", new, expected_new)?;
+    say_alike(rt, b"from:", origins, expected_origins)
 }
 
 // The first n words of a table, with so many words for the new one, and for the old rows: at most 9,000.
 fn mend_part(
+    rt: &impl Print,
     name: &[u8],
     table: &[i32],
     n: usize,
@@ -164,27 +172,30 @@ fn mend_part(
     places: usize,
     expected_new: &[i32; 9000],
     expected_origins: &[i32; 9000],
-) {
+) -> io::Result<()> {
     let mut new = [7; 9000];
     let mut origins = [7; 9000];
     if n <= table.len() {
         if room <= 9000 {
             if places <= 9000 {
                 mend_slice(
+                    rt,
                     name,
                     &table[..n],
                     &mut new[..room],
                     &mut origins[..places],
                     expected_new,
                     expected_origins,
-                );
+                )?;
             }
         }
     }
+    Ok(())
 }
 
 // The same of a table in an array.
 fn mend(
+    rt: &impl Print,
     name: &[u8],
     table: &[i32; 9000],
     n: usize,
@@ -192,23 +203,40 @@ fn mend(
     places: usize,
     expected_new: &[i32; 9000],
     expected_origins: &[i32; 9000],
-) {
-    mend_part(name, table, n, room, places, expected_new, expected_origins);
+) -> io::Result<()> {
+    mend_part(
+        rt,
+        name,
+        table,
+        n,
+        room,
+        places,
+        expected_new,
+        expected_origins,
+    )
 }
 
-fn refuse(name: &[u8], table: &[i32; 9000], n: usize, room: usize, places: usize) {
+fn refuse(
+    rt: &impl Print,
+    name: &[u8],
+    table: &[i32; 9000],
+    n: usize,
+    room: usize,
+    places: usize,
+) -> io::Result<()> {
     let zeros = [0; 9000];
-    mend(name, table, n, room, places, &zeros, &zeros);
+    mend(rt, name, table, n, room, places, &zeros, &zeros)
 }
 
-fn most() {
+fn most(rt: &impl Print) -> io::Result<()> {
     let mut table = [0; 9000];
     let mut new = [0; 9000];
     let mut origins = [0; 9000];
     let n = doubled(&mut table, 8);
     most_rows(&mut new, &mut origins);
-    mend(b"2048 rows", &table, n, 8192, 2048, &new, &origins);
+    mend(rt, b"2048 rows", &table, n, 8192, 2048, &new, &origins)?;
     mend(
+        rt,
         b"2048 rows, more room",
         &table,
         n,
@@ -216,28 +244,28 @@ fn most() {
         9000,
         &new,
         &origins,
-    );
-    refuse(b"2048 rows, one word short", &table, n, 8191, 2048);
-    refuse(b"2048 rows, one old row short", &table, n, 8192, 2047);
+    )?;
+    refuse(rt, b"2048 rows, one word short", &table, n, 8191, 2048)?;
+    refuse(rt, b"2048 rows, one old row short", &table, n, 8192, 2047)
 }
 
-fn one_more() {
+fn one_more(rt: &impl Print) -> io::Result<()> {
     let mut table = [0; 9000];
     let n = doubled_more(&mut table, 8);
-    refuse(b"2049 rows", &table, n, 8192, 2048);
-    refuse(b"2049 rows, more room", &table, n, 9000, 9000);
+    refuse(rt, b"2049 rows", &table, n, 8192, 2048)?;
+    refuse(rt, b"2049 rows, more room", &table, n, 9000, 9000)
 }
 
-fn many(name: &[u8], times: usize) {
+fn many(rt: &impl Print, name: &[u8], times: usize) -> io::Result<()> {
     let mut table = [0; 9000];
     let n = doubled(&mut table, times);
-    refuse(name, &table, n, 9000, 9000);
+    refuse(rt, name, &table, n, 9000, 9000)
 }
 
-pub fn all() {
-    most();
-    one_more();
-    many(b"doubled 9 times", 9);
-    many(b"doubled 50 times", 50);
-    many(b"doubled 1000 times", 1000);
+pub fn all(rt: &impl Print) -> io::Result<()> {
+    most(rt)?;
+    one_more(rt)?;
+    many(rt, b"doubled 9 times", 9)?;
+    many(rt, b"doubled 50 times", 50)?;
+    many(rt, b"doubled 1000 times", 1000)
 }

@@ -2,10 +2,12 @@
 
 #![tactic(auto)]
 
+use std::io;
+
 mod mending; // tables of up to 124 words
 mod doubling; // tables that grow to 2,048 rows and beyond
 
-fn main() {
-    mending::all();
-    doubling::all();
+fn main(rt: HostRuntime) -> io::Result<()> {
+    mending::all(&rt)?;
+    doubling::all(&rt)
 }

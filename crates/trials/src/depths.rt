@@ -2,36 +2,37 @@
 
 use crate::run;
 use script::Line;
+use std::io;
 use trial_words::output;
 
-fn say_line(name: &[u8], line: Line) {
-    io::write_all(1, name);
+fn say_line(rt: &impl Print, name: &[u8], line: Line) -> io::Result<()> {
+    rt.write_all(name)?;
     if line.number == 0 {
-        io::write_all(1, b": kind");
-        output::number(line.kind);
-        io::write_all(1, b", row");
-        output::number(line.row);
-        io::write_all(1, b", depth");
-        output::number(line.depth);
-        io::write_all(1, b", from");
-        output::number(line.start);
-        io::write_all(1, b" to");
-        output::number(line.end);
+        rt.write_all(b": kind")?;
+        output::number(rt, line.kind)?;
+        rt.write_all(b", row")?;
+        output::number(rt, line.row)?;
+        rt.write_all(b", depth")?;
+        output::number(rt, line.depth)?;
+        rt.write_all(b", from")?;
+        output::number(rt, line.start)?;
+        rt.write_all(b" to")?;
+        output::number(rt, line.end)?;
     } else {
-        io::write_all(1, b": refused");
-        output::number(line.number);
+        rt.write_all(b": refused")?;
+        output::number(rt, line.number)?;
     }
-    io::write_all(1, b"\n");
+    rt.write_all(b"\n")
 }
 
-fn read(name: &[u8], list: &[i32], index: i32) {
-    say_line(name, list_reader::line_at(list, index));
+fn read(rt: &impl Print, name: &[u8], list: &[i32], index: i32) -> io::Result<()> {
+    say_line(rt, name, list_reader::line_at(list, index))
 }
 
 // One condition, true, with this fourth word of its trailer and this last word of the list.
-fn ends_in(name: &[u8], fourth: i32, last: i32) {
+fn ends_in(rt: &impl Print, name: &[u8], fourth: i32, last: i32) -> io::Result<()> {
     let list = [16, 4, 0, 1, fourth, last];
-    read(name, &list, 0);
+    read(rt, name, &list, 0)
 }
 
 const OLD: [i32; 7] = [25, 16, 16, 4, 3, 3, 1];
@@ -46,80 +47,85 @@ const OLD_NEGATED: [i32; 7] = [25, 16, 16, 4, 3, 3, -1];
 
 const NEW_NOT_NEGATED: [i32; 8] = [25, 16, 16, 4, 3, 3, 0, 1];
 
-pub fn words() {
-    ends_in(b"fourth word -1", -1, -1);
-    ends_in(b"fourth word 0", 0, -1);
-    ends_in(b"fourth word 7", 7, -1);
-    ends_in(b"fourth word 8", 8, -1);
-    ends_in(b"last word 0", 0, 0);
-    ends_in(b"last word -1", 0, -1);
-    ends_in(b"last word -2", 0, -2);
-    ends_in(b"last word -2147483648", 0, -2147483648);
-    read(b"old list", &OLD, 0);
-    read(b"old list, index 1", &OLD, 1);
-    read(b"old list of a guard", &OLD_GUARD, 0);
-    read(b"old list, count negated", &OLD_NEGATED, 0);
-    read(b"new list", &NEW, 0);
-    read(b"new list, index 1", &NEW, 1);
-    read(b"new list, index -1", &NEW, -1);
-    read(b"new list, count not negated", &NEW_NOT_NEGATED, 0);
+pub fn words(rt: &impl Print) -> io::Result<()> {
+    ends_in(rt, b"fourth word -1", -1, -1)?;
+    ends_in(rt, b"fourth word 0", 0, -1)?;
+    ends_in(rt, b"fourth word 7", 7, -1)?;
+    ends_in(rt, b"fourth word 8", 8, -1)?;
+    ends_in(rt, b"last word 0", 0, 0)?;
+    ends_in(rt, b"last word -1", 0, -1)?;
+    ends_in(rt, b"last word -2", 0, -2)?;
+    ends_in(rt, b"last word -2147483648", 0, -2147483648)?;
+    read(rt, b"old list", &OLD, 0)?;
+    read(rt, b"old list, index 1", &OLD, 1)?;
+    read(rt, b"old list of a guard", &OLD_GUARD, 0)?;
+    read(rt, b"old list, count negated", &OLD_NEGATED, 0)?;
+    read(rt, b"new list", &NEW, 0)?;
+    read(rt, b"new list, index 1", &NEW, 1)?;
+    read(rt, b"new list, index -1", &NEW, -1)?;
+    read(rt, b"new list, count not negated", &NEW_NOT_NEGATED, 0)
 }
 
 // Kind, row and depth of each condition, first one first.
-fn say_depths(list: &[i32], conditions: usize) {
+fn say_depths(rt: &impl Print, list: &[i32], conditions: usize) -> io::Result<()> {
     let mut i: usize = 0;
     while i < conditions {
         if i < 100 {
             let line = list_reader::line_at(list, i as i32);
-            output::number(line.kind);
-            output::number(line.row);
-            output::number(line.depth);
-            io::write_all(1, b";");
+            output::number(rt, line.kind)?;
+            output::number(rt, line.row)?;
+            output::number(rt, line.depth)?;
+            rt.write_all(b";")?;
         }
         i += 1;
     }
-    io::write_all(1, b"\n");
+    rt.write_all(b"\n")
 }
 
-fn generated(name: &[u8], table: &[i32], n: usize) {
+fn generated(rt: &impl Print, name: &[u8], table: &[i32], n: usize) -> io::Result<()> {
     let mut list = [7; 512];
     let mut scratch = [7; 5120];
     if n <= table.len() {
         let answer = generator::generate(&table[..n], &mut list, &mut scratch);
         let conditions = answer.conditions;
         let used = answer.words;
-        run::say(name, answer);
-        io::write_all(1, b"kinds, rows and depths:");
+        run::say(rt, name, answer)?;
+        rt.write_all(b"kinds, rows and depths:")?;
         if used <= 512 {
-            say_depths(&list[..used], conditions);
+            say_depths(rt, &list[..used], conditions)?;
         }
     }
+    Ok(())
 }
 
 // The script of a text.
-fn depths(name: &[u8], text: &[u8]) {
+fn depths(rt: &impl Print, name: &[u8], text: &[u8]) -> io::Result<()> {
     let mut table = [7; 512];
     let answer = script_reader::read_text(text, &mut table);
     if answer.number == 0 {
-        generated(name, &table, answer.used);
+        generated(rt, name, &table, answer.used)?;
     }
+    Ok(())
 }
 
-pub fn scripts() {
+pub fn scripts(rt: &impl Print) -> io::Result<()> {
     depths(
+        rt,
         b"a loop in a loop in a branch",
         b"pre true; if v0 < 1 then while true keep true fall 0 do if v1 < 1 then while true keep true fall 1 do skip end else skip end
         end else while true keep true fall 2 do skip end end; post true",
-    );
+    )?;
     depths(
+        rt,
         b"guards that divide",
         b"pre true; while 1 div v0 = 1 keep true fall 0 do while 1 mod v1 = 1 keep true fall 1 do skip end; while true keep true fall 2
         do skip end end; while 1 div v2 = 1 keep true fall 3 do skip end; post true",
-    );
+    )?;
     depths(
+        rt,
         b"eight loops in one another",
         b"pre true; while true keep true fall 0 do while true keep true fall 1 do while true keep true fall 2 do while true keep true
         fall 3 do while true keep true fall 4 do while true keep true fall 5 do while true keep true fall 6 do while true keep true
         fall 7 do skip end end end end end end end end; post true",
-    );
+    )
 }

@@ -1,6 +1,7 @@
 // The trial rows of div and mod: each line is written where the quotient and the remainder are those that it says.
 
 use division::Quotient;
+use std::io;
 
 fn divided(n: i64, d: i64, quotient: i64, remainder: i64) -> bool {
     let q = division::div(n, d);
@@ -10,15 +11,16 @@ fn divided(n: i64, d: i64, quotient: i64, remainder: i64) -> bool {
     }
 }
 
-fn say(line: &[u8], right: bool) {
+fn say(rt: &impl Print, line: &[u8], right: bool) -> io::Result<()> {
     if right {
-        io::write_all(1, line);
+        rt.write_all(line)?;
     }
+    Ok(())
 }
 
-pub fn all() {
-    say(b"-7 by 2: div -4, mod 1\n", divided(-7, 2, -4, 1));
-    say(b"7 by -2: div -3, mod 1\n", divided(7, -2, -3, 1));
-    say(b"-7 by -2: div 4, mod 1\n", divided(-7, -2, 4, 1));
-    say(b"5 by 0: div 0, mod 5\n", divided(5, 0, 0, 5));
+pub fn all(rt: &impl Print) -> io::Result<()> {
+    say(rt, b"-7 by 2: div -4, mod 1\n", divided(-7, 2, -4, 1))?;
+    say(rt, b"7 by -2: div -3, mod 1\n", divided(7, -2, -3, 1))?;
+    say(rt, b"-7 by -2: div 4, mod 1\n", divided(-7, -2, 4, 1))?;
+    say(rt, b"5 by 0: div 0, mod 5\n", divided(5, 0, 0, 5))
 }

@@ -5,6 +5,8 @@
 
 #![tactic(auto)]
 
+use std::io;
+
 mod run; // one trial
 mod example; // example A, by room and scratch, and with a row edited
 mod small; // the script of four rows, and tables by their number of words
@@ -16,20 +18,20 @@ mod texts; // scripts as text
 mod depths; // lists read, with depths and without
 mod shortening; // lists shortened
 
-fn main() {
-    example::rooms();
-    small::list();
-    small::rooms();
-    small::lengths();
-    example::edits();
-    nesting::eight();
-    nesting::nine();
-    divisions::all();
-    zero_divisors::rooms();
-    zero_divisors::shapes();
-    scripts::all();
-    texts::all();
-    depths::words();
-    depths::scripts();
-    shortening::all();
+fn main(rt: HostRuntime) -> io::Result<()> {
+    example::rooms(&rt)?;
+    small::list(&rt)?;
+    small::rooms(&rt)?;
+    small::lengths(&rt)?;
+    example::edits(&rt)?;
+    nesting::eight(&rt)?;
+    nesting::nine(&rt)?;
+    divisions::all(&rt)?;
+    zero_divisors::rooms(&rt)?;
+    zero_divisors::shapes(&rt)?;
+    scripts::all(&rt)?;
+    texts::all(&rt)?;
+    depths::words(&rt)?;
+    depths::scripts(&rt)?;
+    shortening::all(&rt)
 }

@@ -1,6 +1,7 @@
 // Conditions as scripts for solvers (02, P1): example A's, what is refused, and the last variable (02, P2) in lists of both forms
 // (02, P9).
 
+use std::io;
 use trial_words::{output, printed};
 
 // The list of the first n words of a table.
@@ -11,25 +12,27 @@ fn list_of(table: &[i32], n: usize, list: &mut [i32], scratch: &mut [i32]) {
 }
 
 // The condition at an index: its text, or the number of the refusal.
-fn script(list: &[i32], index: i32, text: &mut [u8]) {
+fn script(rt: &impl Print, list: &[i32], index: i32, text: &mut [u8]) -> io::Result<()> {
     let answer = smt_writer::write_condition(list, index, text);
     let used = answer.used;
     if answer.number == 0 {
         if used <= text.len() {
-            io::write_all(1, &text[..used]);
+            rt.write_all(&text[..used])?;
         }
     } else {
-        io::write_all(1, b"script refused");
-        output::number(answer.number);
-        io::write_all(1, b"\n");
+        rt.write_all(b"script refused")?;
+        output::number(rt, answer.number)?;
+        rt.write_all(b"\n")?;
     }
+    Ok(())
 }
 
 // A list that lacks its first word is none.
-fn torn(list: &[i32], text: &mut [u8]) {
+fn torn(rt: &impl Print, list: &[i32], text: &mut [u8]) -> io::Result<()> {
     if 1 <= list.len() {
-        script(&list[1..], 4, text);
+        script(rt, &list[1..], 4, text)?;
     }
+    Ok(())
 }
 
 const LAST_VARIABLE: [i32; 9] = [20, 2, 1023, 2, 255, 4, 0, 5, 1];
@@ -40,7 +43,7 @@ const LAST_DEPTH: [i32; 10] = [20, 2, 1023, 2, 255, 4, 0, 5, 7, -1];
 
 const NO_DEPTH: [i32; 10] = [20, 2, 1023, 2, 255, 4, 0, 5, 8, -1];
 
-pub fn all() {
+pub fn all(rt: &impl Print) -> io::Result<()> {
     let table = printed::example_a();
     let mut list = [7; 98];
     let mut scratch = [7; 40];
@@ -48,15 +51,15 @@ pub fn all() {
     let mut exact = [7; 179];
     let mut short = [7; 178];
     list_of(&table, 80, &mut list, &mut scratch);
-    script(&list, 0, &mut text);
-    script(&list, 1, &mut text);
-    script(&list, 2, &mut exact);
-    script(&list, 3, &mut text);
-    script(&list, 2, &mut short);
-    script(&list, 4, &mut short);
-    torn(&list, &mut short);
-    script(&LAST_VARIABLE, 0, &mut text);
-    script(&NO_VARIABLE, 0, &mut text);
-    script(&LAST_DEPTH, 0, &mut text);
-    script(&NO_DEPTH, 0, &mut text);
+    script(rt, &list, 0, &mut text)?;
+    script(rt, &list, 1, &mut text)?;
+    script(rt, &list, 2, &mut exact)?;
+    script(rt, &list, 3, &mut text)?;
+    script(rt, &list, 2, &mut short)?;
+    script(rt, &list, 4, &mut short)?;
+    torn(rt, &list, &mut short)?;
+    script(rt, &LAST_VARIABLE, 0, &mut text)?;
+    script(rt, &NO_VARIABLE, 0, &mut text)?;
+    script(rt, &LAST_DEPTH, 0, &mut text)?;
+    script(rt, &NO_DEPTH, 0, &mut text)
 }

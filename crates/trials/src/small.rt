@@ -1,6 +1,7 @@
 // The script of four rows, one of ten with as short a list, and tables by their number of words.
 
 use crate::run;
+use std::io;
 use trial_words::output;
 
 const FOUR_ROWS: [i32; 16] = [16, 0, 0, 0, 32, 0, 0, 0, 16, 0, 0, 0, 48, 0, 1, 2];
@@ -10,34 +11,49 @@ const FOUR_SKIPS: [i32; 40] = [
     5, 6, 0, 16, 0, 0, 0, 48, 0, 7, 8,
 ];
 
-pub fn rooms() {
-    run::part(b"four rows, room 7, scratch 12", &FOUR_ROWS, 16, 7, 12);
+pub fn rooms(rt: &impl Print) -> io::Result<()> {
+    run::part(rt, b"four rows, room 7, scratch 12", &FOUR_ROWS, 16, 7, 12)?;
     // 11 by document 01; planned since 02, P8.
-    run::part(b"four rows, room 8, scratch 13", &FOUR_ROWS, 16, 8, 13);
-    run::part(b"four rows, room 8, scratch 8", &FOUR_ROWS, 16, 8, 8);
-    run::part(b"four rows, room 8, scratch 7", &FOUR_ROWS, 16, 8, 7);
-    run::part(b"four rows, room 0, scratch 8", &FOUR_ROWS, 16, 0, 8);
-    run::part(b"four rows, room 0, scratch 7", &FOUR_ROWS, 16, 0, 7);
-    run::part(b"four rows, room 0, scratch 0", &FOUR_ROWS, 16, 0, 0);
+    run::part(rt, b"four rows, room 8, scratch 13", &FOUR_ROWS, 16, 8, 13)?;
+    run::part(rt, b"four rows, room 8, scratch 8", &FOUR_ROWS, 16, 8, 8)?;
+    run::part(rt, b"four rows, room 8, scratch 7", &FOUR_ROWS, 16, 8, 7)?;
+    run::part(rt, b"four rows, room 0, scratch 8", &FOUR_ROWS, 16, 0, 8)?;
+    run::part(rt, b"four rows, room 0, scratch 7", &FOUR_ROWS, 16, 0, 7)?;
+    run::part(rt, b"four rows, room 0, scratch 0", &FOUR_ROWS, 16, 0, 0)?;
     // planned by the rule of document 01; 11 since 02, P8.
-    run::part(b"four skips, room 8, scratch 19", &FOUR_SKIPS, 40, 8, 19);
-    run::part(b"four skips, room 8, scratch 20", &FOUR_SKIPS, 40, 8, 20);
+    run::part(
+        rt,
+        b"four skips, room 8, scratch 19",
+        &FOUR_SKIPS,
+        40,
+        8,
+        19,
+    )?;
+    run::part(
+        rt,
+        b"four skips, room 8, scratch 20",
+        &FOUR_SKIPS,
+        40,
+        8,
+        20,
+    )
 }
 
-pub fn list() {
+pub fn list(rt: &impl Print) -> io::Result<()> {
     let mut list = [7; 8];
     let mut scratch = [7; 8];
     run::say(
+        rt,
         b"four rows",
         generator::generate(&FOUR_ROWS, &mut list, &mut scratch),
-    );
-    output::list(b"four rows", &list, 8);
+    )?;
+    output::list(rt, b"four rows", &list, 8)
 }
 
 // All words are 0: where their number passes, row 0 has a kind that is not listed.
-pub fn lengths() {
+pub fn lengths(rt: &impl Print) -> io::Result<()> {
     let words = [0; 8196];
-    run::part(b"no words", &words, 0, 512, 5120);
-    run::part(b"8192 words", &words, 8192, 512, 5120);
-    run::part(b"8196 words", &words, 8196, 512, 5120);
+    run::part(rt, b"no words", &words, 0, 512, 5120)?;
+    run::part(rt, b"8192 words", &words, 8192, 512, 5120)?;
+    run::part(rt, b"8196 words", &words, 8196, 512, 5120)
 }

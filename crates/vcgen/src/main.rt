@@ -1,10 +1,12 @@
 // Reads a table from standard input and writes the conditions of its script: see `report`.
 #![tactic(auto)]
 
-fn main() {
+use std::io;
+
+fn main(rt: HostRuntime) -> io::Result<()> {
     let mut input = [0u8; 32772];
-    let n = io::read_full(0, &mut input);
+    let n = input_reader::read_full(&mut rt.reader(), &mut input)?;
     let mut out = [0u8; 6208];
     let k = program::report(&input[..n], &mut out);
-    io::write_all(1, &out[..k]);
+    rt.write_all(&out[..k])
 }
