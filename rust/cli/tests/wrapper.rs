@@ -20,7 +20,7 @@ use pretended::folder;
 use proving::{run, Run};
 
 /// The library is an empty file.
-const RT: &str = "echo library >> built; : > target/staticlib/libexports.a";
+const RT: &str = "echo library >> ../../built; mkdir -p out; : > out/libexports.a";
 
 /// The command prints its arguments.
 const CARGO: &str = "echo command >> ../built; mkdir -p target/release
@@ -37,7 +37,7 @@ impl Tree {
         let folder = folder(&[("rt", RT), ("cargo", CARGO)]);
         let sources = folder.join("rust/cli/src");
         fs::create_dir_all(&sources).unwrap();
-        fs::create_dir(folder.join("crates")).unwrap();
+        fs::create_dir_all(folder.join("crates/exports")).unwrap();
         fs::copy(top().join("vcgen"), folder.join("vcgen")).unwrap();
         fs::write(sources.join("help.txt"), cli::HELP).unwrap();
         for file in ["crates.txt", "a.script", "5"] {
@@ -347,7 +347,7 @@ fn what_is_edited_is_built_again() {
         ("rust/cli/src/lib.rs", (1, 2)),
         ("crates/lib.rattle", (2, 3)),
         ("crates.txt", (3, 4)),
-        ("target/staticlib/libexports.a", (3, 5)),
+        ("crates/exports/out/libexports.a", (3, 5)),
         ("target/vcgen.built", (3, 6)),
     ] {
         tree.vcgen("a.script");

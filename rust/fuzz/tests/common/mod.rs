@@ -8,7 +8,7 @@ use leqwarti::entries;
 use leqwarti::Record;
 use reference::{Line, ShorterPart, Side, Verdict};
 
-pub const PROGRAM: &str = concat!(env!("CARGO_MANIFEST_DIR"), "/../../target/bin/vcgen");
+pub const PROGRAM: &str = concat!(env!("CARGO_MANIFEST_DIR"), "/../../crates/vcgen/out/vcgen");
 
 pub struct Proved;
 
