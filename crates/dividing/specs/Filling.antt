@@ -5,9 +5,7 @@ use Rattle.std.proofs.Common.{sym, ◌∙◌, ⊎_elim, arith as linear, length-
 use Rattle.std.specs.Int.{w32}
 use Rattle.script.specs.declared.StatementRow.TheVariants.{Skip, Assign, Sequence, If, While, Assert}
 use Rattle.script.specs.declared.Row.{Row}
-use Rattle.script.specs.declared.Row.TheVariants as Row
 use Rattle.script.specs.declared.Sort.{Sort}
-use Rattle.script.specs.declared.Sort.TheVariants as Sort
 use Rattle.script.specs.Rows.{row, rows, parts, sort_of}
 use Rattle.script.specs.Refusals.{verdict, accepted, same_sort}
 use Rattle.theorems.specs.Accepted.{Accepted, passed}

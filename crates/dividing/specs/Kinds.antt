@@ -4,10 +4,7 @@ use Rattle.std.specs.Prelude.{ℕ, ◌≤◌, ◌<◌, ◌≡◌, refl, Bool, tr
 use Rattle.std.proofs.Common.{sym, subst, arith as linear, eqb-true, lit<, lit≤}
 use Rattle.std.proofs.lemmas.Bool.{false≢true}
 use Rattle.script.specs.declared.Row.{Row}
-use Rattle.script.specs.declared.Row.TheVariants as Row
 use Rattle.script.specs.declared.Sort.{Sort}
-use Rattle.script.specs.declared.Sort.TheVariants as Sort
-use Rattle.script.specs.Syntax.{Formula}
 use Rattle.script.specs.Rows.{Kind, listed, kinds, field_number, row_of, row, rows, word, sort_of}
 use Rattle.script.specs.Laws.{row_is}
 use Rattle.script.specs.Refusals.{verdict, accepted, same_sort, row_fault, row_fault_within, row_test_within}

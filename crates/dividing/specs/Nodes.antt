@@ -7,9 +7,7 @@ use Rattle.std.proofs.Math.Option.{Option, none}
 use Rattle.script.specs.declared.ExpressionRow.TheVariants.{Constant, Variable, Arithmetic, Negate, Mark, Choose}
 use Rattle.script.specs.declared.FormulaRow.TheVariants.{True, False, Comparison, Not, Junction}
 use Rattle.script.specs.declared.Row.{Row}
-use Rattle.script.specs.declared.Row.TheVariants as Row
 use Rattle.script.specs.declared.Sort.{Sort}
-use Rattle.script.specs.declared.Sort.TheVariants as Sort
 use Rattle.script.specs.Syntax.{Expr, Formula, not}
 use Rattle.script.specs.Conditions.{◌joined◌, behind, divisor, divisors, divisorsᶠ}
 use Rattle.script.specs.Rows.{row, rows, parts, sort_of}

@@ -6,7 +6,6 @@ use Rattle.std.proofs.Common.{sym, ap, ◌∙◌, ltb-true, ltb-false}
 use Rattle.std.proofs.lemmas.Bool.{false≢true}
 use Rattle.std.proofs.Math.Option.{Option, none}
 use Rattle.script.specs.declared.Sort.{Sort}
-use Rattle.script.specs.declared.Sort.TheVariants as Sort
 use Rattle.script.specs.Syntax.{Formula, not}
 use Rattle.script.specs.Conditions.{◌joined◌, behind}
 use Rattle.script.specs.Rows.{field_number, row_of, row, rows, word, sort_of}

@@ -6,7 +6,6 @@ use Rattle.std.proofs.Math.Option.{none}
 use Rattle.script.specs.declared.ExpressionRow.TheVariants.{Constant, Variable, Arithmetic, Negate, Mark, Choose}
 use Rattle.script.specs.declared.FormulaRow.TheVariants.{True, False, Comparison, Not, Junction}
 use Rattle.script.specs.declared.Row.{Row}
-use Rattle.script.specs.declared.Row.TheVariants as Row
 use Rattle.script.specs.Rows.{field_number, row, rows, parts, word}
 use Rattle.script.specs.Trees.{expr_at, formula_at}
 use Rattle.script.specs.Refusals.{verdict, accepted}
