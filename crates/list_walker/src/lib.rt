@@ -1,9 +1,8 @@
 // A reader over a finished list, 01, "Reading a finished list": a struct that keeps the words and the place where the
 // conditions not yet read end, and walks back one condition at a time. `new` reads the whole list once, and so knows
 // whether it is torn; a step then reads the words of one condition, so that all steps together cost time linear in the
-// words of the list. A function over the struct is thin and proved by hand: it takes the struct apart and leaves the
-// work to a covered function. Callers with a plain slice use `start`
-// and `step_from`.
+// words of the list. A function over the struct is thin: it takes the struct apart and leaves the work to a function of
+// plain words and places. Callers with a plain slice use `start` and `step_from`.
 
 #![tactic(auto)]
 
