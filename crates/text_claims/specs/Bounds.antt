@@ -107,7 +107,7 @@ all_within (t ∷ ls) s r e l h =
 
 -- ---- tokens of a text
 
-few : {q p : ℕ} {cs bs : List ℕ} {ls : List Lexeme} → Covers q cs p bs ls → length ls + length cs ≤ length bs
+few : {q : ℕ} {cs : List ℕ} {p : ℕ} {bs : List ℕ} {ls : List Lexeme} → Covers q cs p bs ls → length ls + length cs ≤ length bs
 few nothing = omega linear
 few (blank e h) = omega (linear, few h)
 few (token {n = n} {bs = bs} b h) = omega (linear, few h, begins_some b, b.longest.within, length-drop n bs)

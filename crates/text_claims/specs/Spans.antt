@@ -141,7 +141,7 @@ module _ (ws : List ℤ) where
   no_front b h = record { tiles = no_parts; faultless = λ k l m. absurd (omega linear); before = λ k l. refl; above = h }
 
   -- seen from a later row
-  tiles_later : {a z : ℕ} {ps : List Part} (r q : ℕ) → r ≤ q → ((k : ℕ) → k < r → linked_to q k ≡ linked_to r k)
+  tiles_later : (r : ℕ) {a z : ℕ} {ps : List Part} (q : ℕ) → r ≤ q → ((k : ℕ) → k < r → linked_to q k ≡ linked_to r k)
       → Tiles r a z ps → Tiles q a z ps
   tiles_later r q l same no_parts = no_parts
   tiles_later r q l same (beside {e = e} h t) =
