@@ -1,0 +1,15 @@
+-- The measure of the writer of D, and what holds at each turn: whatever writes D of the node at hand writes the whole. Links fall.
+use Rattle.divisor_writer.specs.Words.{divisor_words}
+use Rattle.divisor_writer.specs.Turns.{Turn}
+use Rattle.divisor_writer.proofs.+write_divisors.Given as goal
+
+abbrev pub decreases-write_divisors : goal.decreases-write_divisors
+decreases-write_divisors l = l.r.0
+
+abbrev pub invariant-loop-p : goal.invariant-loop-p
+invariant-loop-p l =
+    Turn l.table l.follow l.path l.j l.initial.row (divisor_words l.table l.path l.j l.initial.row) l.initial.list l.initial.p
+    l.row l.p l.list
+
+abbrev pub decreases-loop-p : goal.decreases-loop-p
+decreases-loop-p l = l.row
