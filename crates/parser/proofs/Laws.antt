@@ -1,94 +1,15 @@
--- What a test in the code tells of the machine's definitions: a frame that is put, a row that has room. Assumes nothing.
-use Prim.Native.Nat.{ℕ, zero, suc, ◌+◌, ◌*◌, ◌-◌, ◌%◌, ◌≤◌, ◌<◌}
+-- What a test in the code tells of the machine's definitions: a numeral's stack, operators that take a part, a table's default. Assumes nothing.
+use Prim.Native.Nat.{ℕ, zero, suc, ◌+◌, ◌-◌, ◌%◌, ◌≤◌, ◌<◌}
 use mathlib.Core.Path.{◌≡◌, refl, sym, ap, ◌∙◌}
 use mathlib.Core.Bool.{Bool, true, false, cond, ◌&&◌, ◌||◌}
 use mathlib.Core.List.{List, [], ◌∷◌}
 use native.Mathlib.Omega.{arith as linear}
-use borrow.Author.Tests.{lt-ltb, le-ltb, le-leb, lt-leb, eq-eqb, ne_eqb, eqb-true}
+use borrow.Author.Tests.{lt-ltb, le-ltb, eq-eqb, ne_eqb, eqb-true}
 use Rattle.grammar.specs.Tests.{both, false_is_not}
 use lib.Dec.{eqb}
-use lib.IntN.{ℤ, pos, negsuc, ◌-ℤ◌}
-use lib.Signed.{mag}
-use mir.Facts.{to_z-of_z}
-use mir.Val.{to_z, of_z}
-use mir.Syntax.{w32}
-use lib.ListN.{length, get_or, set}
-use lib.Seq.{sets}
-use Rattle.grammar.specs.Counts.{minus}
-use Rattle.grammar.specs.Ranges.{limit}
-use Rattle.parser.specs.Machine.{Config, config, refused, Reduced, reduce, reduced_to, hold, maker, operator_row, begin_numeral, begin_count, begin_constant, hole, begins, constant_word, top_frame, row_fits, rows_after, with_words}
-
--- ---- frames
-
-pub beyond : (st : List ℕ) (n : ℕ) → length st ≤ n → get_or st n 0 ≡ 0
-beyond [] n h = refl
-beyond (f ∷ st) zero h = absurd (omega linear)
-beyond (f ∷ st) (suc n) h = beyond st n (omega linear)
-
-pub top_beyond : (st : List ℕ) (n : ℕ) → length st < n → top_frame st n ≡ 0
-top_beyond st zero h = refl
-top_beyond st (suc n) h = beyond st n (omega linear)
-
-pub top_within : (st : List ℕ) (n : ℕ) → (n ≡ 0 → ⊥) → top_frame st n ≡ get_or st (n - 1) 0
-top_within st zero h = absurd (h refl)
-top_within st (suc n) h = ap (λ (k : ℕ). get_or st k 0) (omega linear)
-
-or_false : (a b : Bool) → a ≡ false → (a || b) ≡ true → b ≡ true
-or_false true b e h = false_is_not (sym e)
-or_false false b e h = h
-
--- ---- rows
-
-pub no_row : (n rows : ℕ) → 2048 ≤ rows → row_fits n rows ≡ false
-no_row n rows h = rw (le-ltb rows 2048 h)
-
-pub no_room : (n rows : ℕ) → rows < 2048 → n < 4 * rows + 4 → row_fits n rows ≡ false
-no_room n rows h k = rw (lt-ltb rows 2048 h, lt-leb (4 * rows + 4) n k)
-
-pub room : (n rows : ℕ) → rows < 2048 → 4 * rows + 4 ≤ n → row_fits n rows ≡ true
-room n rows h k = rw (lt-ltb rows 2048 h, le-leb (4 * rows + 4) n k)
-
-four : (ws : List ℤ) (i : ℕ) (k a b c : ℤ) → set (set (set (set ws i k) (i + 1) a) (i + 2) b) (i + 3) c ≡ sets ws i (k ∷ a ∷ b ∷ c ∷ [])
-four ws i k a b c =
-    let one : i + 1 ≡ suc i = omega linear in
-    let two : i + 2 ≡ suc (suc i) = omega linear in
-    let three : i + 3 ≡ suc (suc (suc i)) = omega linear in
-    rw (one, two, three)
-
-pub written : (ws : List ℤ) (rows : ℕ) (k a b c : ℤ) → row_fits (length ws) rows ≡ true
-    → (rows + 1 ≡ rows_after ws rows)
-    × (set (set (set (set ws (4 * rows) k) (4 * rows + 1) a) (4 * rows + 2) b) (4 * rows + 3) c ≡ with_words ws rows (k ∷ a ∷ b ∷ c ∷ []))
-written ws rows k a b c e = (rw e, rw e (four ws (4 * rows) k a b c))
-
--- ---- constants
-
-pub none_written : (m : Bool) (n : ℕ) → n ≡ 0 → pos 0 ≡ constant_word m n
-none_written true n e = rw e
-none_written false n e = rw e
-
-pub out_written : (m : Bool) (n : ℕ) → limit m < n → pos 0 ≡ constant_word m n
-out_written m n h = rw (lt-leb n (limit m) h)
-
-pub minus_one : (m : ℕ) → negsuc 0 -ℤ pos m ≡ negsuc m
-minus_one zero = refl
-minus_one (suc k) = ap negsuc (omega linear)
-
-minus_is : (n : ℕ) → (n ≡ 0 → ⊥) → negsuc (n - 1) ≡ minus n
-minus_is zero h = absurd (h refl)
-minus_is (suc k) h = ap negsuc (omega linear)
-
-pub minus_written : (m : Bool) (n : ℕ) → (n ≡ 0 → ⊥) → n ≤ limit m → m ≡ true → negsuc (n - 1) ≡ constant_word m n
-minus_written m n h k e = rw (le-leb n (limit m) k, e) (minus_is n h)
-
-pub plain_written : (m : Bool) (n : ℕ) → n ≤ limit m → m ≡ false → pos n ≡ constant_word m n
-plain_written m n k e = rw (le-leb n (limit m) k, e)
-
-pub within : (m : Bool) (n : ℕ) → n ≤ limit m → n ≤ 2147483648
-within true n h = h
-within false n h = omega linear
-
-pub within_plain : (m : Bool) (n : ℕ) → n ≤ limit m → m ≡ false → n ≤ 2147483647
-within_plain m n h e = rw e at h
+use lib.IntN.{ℤ}
+use lib.ListN.{length, get_or}
+use Rattle.parser.specs.Machine.{Config, config, refused, reduce, reduced_to, hold, maker, operator_row, begin_numeral, begin_count, begin_constant, hole, begins, top_frame, rows_after}
 
 -- ---- a numeral pushes no frame
 
@@ -104,11 +25,6 @@ numeral_stack c v p = at_test (eqb (hole f) 78) (begins (hole f) 69)
     at_test true b = refl
     at_test false true = refl
     at_test false false = refl
-
--- ---- a signed word that a call gave
-
-pub back : {z : ℤ} → mag z < 2147483648 → to_z w32 (of_z w32 z) ≡ z
-back h = to_z-of_z (record { sfits = h })
 
 -- ---- operators that take a part, one after the other
 
@@ -137,11 +53,13 @@ module _ (st : List ℕ) (b : ℕ) where
       let one : suc n - 1 ≡ n = omega linear in
       rw (le-ltb (hold (get_or st n 0)) b h, eq-eqb t (hole (get_or st n 0)) e, one)
 
--- what is left, field by field
-pub left_fields : (x y : Reduced) → x ≡ y → (x.sort ≡ y.sort) × ((x.rows ≡ y.rows) × ((x.top ≡ y.top) × (x.words ≡ y.words)))
-left_fields x y e = (ap (λ (z : Reduced). z.sort) e, (ap (λ (z : Reduced). z.rows) e, (ap (λ (z : Reduced). z.top) e, ap (λ (z : Reduced). z.words) e)))
+pub ruleset reducing = (reduce_none, reduce_stops, reduce_misfits, reduce_more)
 
 -- ---- a table that is a default but at some numbers: a test that is computed
+
+or_false : (a b : Bool) → a ≡ false → (a || b) ≡ true → b ≡ true
+or_false true b e h = false_is_not (sym e)
+or_false false b e h = h
 
 abbrev member : ℕ → List ℕ → Bool
 member n [] = false
@@ -152,7 +70,7 @@ abbrev others : List ℕ → ℕ → ℕ → List ℕ → Bool
 others [] d i ks = true
 others (l ∷ ls) d i ks = (member i ks || eqb l d) && others ls d (suc i) ks
 
-abbrev NotIn : ℕ → List ℕ → Type 0
+abbrev pub NotIn : ℕ → List ℕ → Type 0
 NotIn n [] = Unit {0}
 NotIn n (k ∷ ks) = NotIn n ks × (n ≡ k → ⊥)
 

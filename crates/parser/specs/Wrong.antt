@@ -1,5 +1,5 @@
 -- What the machine does not leave of a text: wrong answers, each refuted at one text. Assumes nothing.
-use Rattle.std.specs.Prelude.{ℕ, ◌≡◌, refl, pos, get_or, replicate}
+use Rattle.std.specs.Prelude.{◌≡◌, refl, pos, get_or, replicate}
 use Prim.Native.String.{String}
 use Rattle.grammar.specs.Scanning.{Scanned, no_token, lexemes, bytes, token_at, scan_from, scan}
 use Rattle.grammar.specs.Numbers.{token_number, token_value}

@@ -21,6 +21,7 @@ pub struct Reduction {
 }
 
 // Operators that hold the part at least so tight take it, and their rows are written. The sort 0 says that one did not fit.
+#[tactic(auto, using(crate::proofs::Laws::reducing), unfolding(crate::specs::Machine::reduce))]
 fn reduce(stack: &[u32], words: &mut [i32], tight: usize, start: Reduction) -> Reduction
     ensures sort { result.sort ≡ (Machine·reduce stack.now tight start.top start.sort start.rows words.old).sort }
     ensures rows { result.rows ≡ (Machine·reduce stack.now tight start.top start.sort start.rows words.old).rows }
@@ -90,6 +91,7 @@ fn bodies_after(place: usize, bodies: usize) -> usize
     }
 }
 
+#[tactic(auto, unfolding(crate::specs::Machine::close_form))]
 fn close_form(words: &mut [i32], s: State, f: usize) -> State
     ensures state { result ≡ (close_form (config s [] words.old) f).state }
     ensures words { words.new ≡ (close_form (config s [] words.old) f).words }
@@ -108,6 +110,7 @@ fn close_form(words: &mut [i32], s: State, f: usize) -> State
     complete(next, maker(f), written, below(s.top))
 }
 
+#[tactic(auto, unfolding(crate::specs::Machine::close_mark))]
 fn close_mark(words: &mut [i32], s: State) -> State
     ensures state { result ≡ (close_mark (config s [] words.old)).state }
     ensures words { words.new ≡ (close_mark (config s [] words.old)).words }
@@ -117,6 +120,7 @@ fn close_mark(words: &mut [i32], s: State) -> State
 }
 
 // The note is written, and the body begins.
+#[tactic(auto, unfolding(crate::specs::Machine::open_body))]
 fn open_body(stack: &mut [u32], words: &mut [i32], s: State, f: usize) -> State
     ensures state { result ≡ (open_body (config s stack.old words.old) f).state }
     ensures stack { stack.new ≡ (open_body (config s stack.old words.old) f).stack }
@@ -132,6 +136,7 @@ fn open_body(stack: &mut [u32], words: &mut [i32], s: State, f: usize) -> State
     due(with_rows(next, rows), PART, top)
 }
 
+#[tactic(auto, unfolding(crate::specs::Machine::next_place))]
 fn next_place(stack: &mut [u32], s: State, f: usize) -> State
     ensures state { result ≡ (next_place (config s stack.old []) f).state }
     ensures stack { stack.new ≡ (next_place (config s stack.old []) f).stack }
@@ -145,6 +150,7 @@ fn next_place(stack: &mut [u32], s: State, f: usize) -> State
 }
 
 // The part at a place is complete.
+#[tactic(auto, unfolding(crate::specs::Machine::close, crate::specs::Machine::close_mark, crate::specs::Machine::close_form, crate::specs::Machine::open_body, crate::specs::Machine::next_place))]
 fn close(stack: &mut [u32], words: &mut [i32], s: State, f: usize) -> State
     ensures state { result ≡ (Machine·close (config s stack.old words.old) f).state }
     ensures stack { stack.new ≡ (Machine·close (config s stack.old words.old) f).stack }
@@ -167,6 +173,7 @@ fn close(stack: &mut [u32], words: &mut [i32], s: State, f: usize) -> State
     }
 }
 
+#[tactic(auto, unfolding(crate::specs::Machine::push_infix))]
 fn push_infix(stack: &mut [u32], s: State, token: usize) -> State
     ensures state { result ≡ (push_infix (config s stack.old []) token).state }
     ensures stack { stack.new ≡ (push_infix (config s stack.old []) token).stack }
@@ -176,6 +183,7 @@ fn push_infix(stack: &mut [u32], s: State, token: usize) -> State
 }
 
 // What the token does to the part that operators have left.
+#[tactic(auto, unfolding(crate::specs::Machine::go_on, crate::specs::Machine::push_infix))]
 fn go_on(stack: &mut [u32], words: &mut [i32], s: State, token: usize, place: usize) -> State
     ensures state { result ≡ (go_on (config s stack.old words.old) token place).state }
     ensures stack { stack.new ≡ (go_on (config s stack.old words.old) token place).stack }
@@ -198,6 +206,7 @@ fn go_on(stack: &mut [u32], words: &mut [i32], s: State, token: usize, place: us
     }
 }
 
+#[tactic(auto, unfolding(crate::specs::Machine::after))]
 pub fn after(stack: &mut [u32], words: &mut [i32], s: State, token: usize, place: usize) -> State
     ensures state { result ≡ (Machine·after (config s stack.old words.old) token place).state }
     ensures stack { stack.new ≡ (Machine·after (config s stack.old words.old) token place).stack }

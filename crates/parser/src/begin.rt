@@ -22,6 +22,7 @@ fn mark_fits(bodies: usize, k: usize) -> bool
 }
 
 // The k of a mark.
+#[tactic(auto, unfolding(crate::specs::Machine::begin_count))]
 fn begin_count(s: State, k: usize, place: usize) -> State
     ensures { result ≡ begin_count s k place }
 {
@@ -50,6 +51,7 @@ fn constant_word(minus: bool, n: usize) -> i32
 }
 
 // A constant; right after a unary minus, whose frame goes.
+#[tactic(auto, unfolding(crate::specs::Machine::begin_constant))]
 fn begin_constant(words: &mut [i32], s: State, minus: bool, n: usize, place: usize) -> State
     ensures state { result ≡ (begin_constant (config s [] words.old) minus n place).state }
     ensures words { words.new ≡ (begin_constant (config s [] words.old) minus n place).words }
@@ -64,6 +66,7 @@ fn begin_constant(words: &mut [i32], s: State, minus: bool, n: usize, place: usi
     }
 }
 
+#[tactic(auto, unfolding(crate::specs::Machine::begin_numeral, crate::specs::Machine::begin_constant))]
 fn begin_numeral(stack: &[u32], words: &mut [i32], s: State, n: usize, place: usize) -> State
     ensures state { result ≡ (begin_numeral (config s stack.now words.old) n place).state }
     ensures words { words.new ≡ (begin_numeral (config s stack.now words.old) n place).words }
@@ -80,6 +83,7 @@ fn begin_numeral(stack: &[u32], words: &mut [i32], s: State, n: usize, place: us
     }
 }
 
+#[tactic(auto, unfolding(crate::specs::Machine::begin_variable))]
 fn begin_variable(words: &mut [i32], s: State, v: usize, place: usize) -> State
     ensures state { result ≡ (begin_variable (config s [] words.old) v place).state }
     ensures words { words.new ≡ (begin_variable (config s [] words.old) v place).words }
@@ -90,6 +94,7 @@ fn begin_variable(words: &mut [i32], s: State, v: usize, place: usize) -> State
     complete(noted(s, in_range, place), symbols::EXPRESSION, rows, top)
 }
 
+#[tactic(auto, unfolding(crate::specs::Machine::begin_assignment))]
 fn begin_assignment(stack: &mut [u32], s: State, v: usize, place: usize) -> State
     ensures state { result ≡ (begin_assignment (config s stack.old []) v place).state }
     ensures stack { stack.new ≡ (begin_assignment (config s stack.old []) v place).stack }
@@ -99,6 +104,7 @@ fn begin_assignment(stack: &mut [u32], s: State, v: usize, place: usize) -> Stat
     due(noted(s, in_range, place), BECOMES, top)
 }
 
+#[tactic(auto, unfolding(crate::specs::Machine::begin_name, crate::specs::Machine::begin_assignment, crate::specs::Machine::begin_variable))]
 fn begin_name(stack: &mut [u32], words: &mut [i32], s: State, v: usize, place: usize) -> State
     ensures state { result ≡ (begin_name (config s stack.old words.old) v place).state }
     ensures stack { stack.new ≡ (begin_name (config s stack.old words.old) v place).stack }
@@ -159,6 +165,7 @@ fn due_after(token: usize) -> usize
     }
 }
 
+#[tactic(auto, unfolding(crate::specs::Machine::begin_leaf))]
 fn begin_leaf(words: &mut [i32], s: State, token: usize) -> State
     ensures state { result ≡ (begin_leaf (config s [] words.old) token).state }
     ensures words { words.new ≡ (begin_leaf (config s [] words.old) token).words }
@@ -168,6 +175,7 @@ fn begin_leaf(words: &mut [i32], s: State, token: usize) -> State
     complete(s, beginning(token), rows, top)
 }
 
+#[tactic(auto, unfolding(crate::specs::Machine::begin_form))]
 fn begin_form(stack: &mut [u32], s: State, token: usize) -> State
     ensures state { result ≡ (begin_form (config s stack.old []) token).state }
     ensures stack { stack.new ≡ (begin_form (config s stack.old []) token).stack }
@@ -177,6 +185,7 @@ fn begin_form(stack: &mut [u32], s: State, token: usize) -> State
     due(s, due_after(token), top)
 }
 
+#[tactic(auto, unfolding(crate::specs::Machine::begin_word, crate::specs::Machine::begin_leaf, crate::specs::Machine::begin_form))]
 fn begin_word(stack: &mut [u32], words: &mut [i32], s: State, token: usize, place: usize) -> State
     ensures state { result ≡ (begin_word (config s stack.old words.old) token place).state }
     ensures stack { stack.new ≡ (begin_word (config s stack.old words.old) token place).stack }
@@ -192,6 +201,7 @@ fn begin_word(stack: &mut [u32], words: &mut [i32], s: State, token: usize, plac
     refused(s, place)
 }
 
+#[tactic(auto, using(crate::proofs::Laws::numeral_stack), unfolding(crate::specs::Machine::begin))]
 pub fn begin(
     stack: &mut [u32],
     words: &mut [i32],

@@ -53,6 +53,7 @@ pub struct State {
 }
 
 // Post, where the operator that waits is a semicolon: that is given up.
+#[tactic(auto, unfolding(crate::specs::Machine::at_post))]
 fn at_post(stack: &mut [u32], words: &mut [i32], s: State, place: usize) -> State
     ensures state { result ≡ (at_post (config s stack.old words.old) place).state }
     ensures stack { stack.new ≡ (at_post (config s stack.old words.old) place).stack }
@@ -67,6 +68,7 @@ fn at_post(stack: &mut [u32], words: &mut [i32], s: State, place: usize) -> Stat
 }
 
 // A token of which only one is due.
+#[tactic(auto, unfolding(crate::specs::Machine::expect))]
 fn expect(s: State, token: usize, due: usize, place: usize) -> State
     ensures { result ≡ (Machine·expect (config s [] []) token due place).state }
 {
@@ -77,6 +79,7 @@ fn expect(s: State, token: usize, due: usize, place: usize) -> State
     }
 }
 
+#[tactic(auto, unfolding(crate::specs::Machine::take_part))]
 fn take_part(
     stack: &mut [u32],
     words: &mut [i32],
@@ -96,6 +99,7 @@ fn take_part(
     }
 }
 
+#[tactic(auto, unfolding(crate::specs::Machine::take_after))]
 fn take_after(stack: &mut [u32], words: &mut [i32], s: State, token: usize, place: usize) -> State
     ensures state { result ≡ (take_after (config s stack.old words.old) token place).state }
     ensures stack { stack.new ≡ (take_after (config s stack.old words.old) token place).stack }
@@ -109,6 +113,7 @@ fn take_after(stack: &mut [u32], words: &mut [i32], s: State, token: usize, plac
 }
 
 // Takes a token with its value, at a place; once one was refused, nothing changes.
+#[tactic(auto, unfolding(crate::specs::Machine::take, crate::specs::Machine::expect))]
 pub fn take(
     stack: &mut [u32],
     words: &mut [i32],

@@ -68,6 +68,7 @@ pub const GROUP: usize = 62;
 pub const EXPRESSION_GROUP: usize = 63; // a group that takes an expression only
 
 // How tight an operator holds the part left of the next token: from 98, a semicolon, to 107, a unary minus; 97 holds nothing.
+#[tactic(auto, unfolding(crate::specs::Symbols::holds))]
 pub fn hold(frame: usize) -> usize
     ensures { result ≡ get_or holds (frame % 64) 0 }
 {
@@ -95,6 +96,7 @@ pub fn hold(frame: usize) -> usize
 }
 
 // What sort the part has that a frame waits for.
+#[tactic(auto, unfolding(crate::specs::Symbols::holes))]
 pub fn hole(frame: usize) -> usize
     ensures { result ≡ get_or holes (frame % 64) 0 }
 {
@@ -139,6 +141,7 @@ pub fn hole(frame: usize) -> usize
 }
 
 // What sort a frame makes.
+#[tactic(auto, unfolding(crate::specs::Symbols::makes))]
 pub fn maker(frame: usize) -> usize
     ensures { result ≡ get_or makes (frame % 64) 0 }
 {
@@ -180,6 +183,7 @@ pub fn maker(frame: usize) -> usize
 }
 
 // What ends a place.
+#[tactic(auto, unfolding(crate::specs::Symbols::ends))]
 pub fn end_of(frame: usize) -> usize
     ensures { result ≡ get_or ends (frame % 64) 0 }
 {
@@ -206,6 +210,7 @@ pub fn end_of(frame: usize) -> usize
 }
 
 // From which letter on operators take the part before the token.
+#[tactic(auto, unfolding(crate::specs::Symbols::binds))]
 pub fn binding(token: usize) -> usize
     ensures { result ≡ get_or binds (token % 64) 0 }
 {
@@ -229,6 +234,7 @@ pub fn binding(token: usize) -> usize
 }
 
 // What sort an infix operator has on both sides.
+#[tactic(auto, unfolding(crate::specs::Symbols::takes))]
 pub fn operand_sort(token: usize) -> usize
     ensures { result ≡ get_or takes (token % 64) 0 }
 {
@@ -252,6 +258,7 @@ pub fn operand_sort(token: usize) -> usize
 }
 
 // What sort a token begins; numerals and variables are apart.
+#[tactic(auto, unfolding(crate::specs::Symbols::begins))]
 pub fn beginning(token: usize) -> usize
     ensures { result ≡ get_or begins (token % 64) 0 }
 {
@@ -274,6 +281,7 @@ pub fn beginning(token: usize) -> usize
 }
 
 // The end that a token is.
+#[tactic(auto, unfolding(crate::specs::Symbols::closes))]
 pub fn closing(token: usize) -> usize
     ensures { result ≡ get_or closes (token % 64) 0 }
 {
