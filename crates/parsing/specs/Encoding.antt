@@ -2,7 +2,7 @@
 -- the machine, read from its top down, has a number for each frame (`framed`), and the parts that stand before a frame
 -- are told by the rows where they end (`frame_words`). `Control` holds in every state; `Data` where the rows have room
 -- and the numbers are in range so far. Assumes nothing.
-use Rattle.std.specs.Prelude.{ℕ, zero, suc, ◌+◌, ◌*◌, ◌-◌, ◌%◌, ◌≡◌, cond, List, [], ◌∷◌, ◌++◌, map, pos, length, get_or, replicate}
+use Rattle.std.specs.Prelude.{ℕ, zero, suc, ◌*◌, ◌-◌, ◌%◌, ◌≡◌, cond, List, [], ◌∷◌, ◌++◌, map, pos, length, get_or, replicate}
 use Rattle.grammar.specs.Sorts.{Sort, number, expression, formula, statement, script, Hole, only, either}
 use Rattle.grammar.specs.Operators.{Prefix, not_prefix, minus_prefix, assert_prefix, assign_prefix}
 use Rattle.grammar.specs.Forms.{Place, in_group, in-mark, when-first, when-second, when-third, if_guard, if-then, if-else, while_guard, while-keep, while-fall, while-body, script-pre, script-body, script-post}

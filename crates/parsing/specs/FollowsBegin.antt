@@ -12,7 +12,7 @@ use Rattle.grammar.specs.Sorts.{number, expression, formula, statement, script, 
 use Rattle.grammar.specs.Operators.{semicolon, connective, relation, operator, not_prefix, minus_prefix, assert_prefix}
 use Rattle.grammar.specs.Forms.{group-form, mark-form, when-form, if-form, while-form, script-form}
 use Rattle.grammar.specs.Tokens.{bracket-closer, comma-closer, then-closer, else-closer, end-closer, keep-closer, fall-closer, do-closer, post_closer, end_of_text, Token, numeral, variable, truth_word, skip-word, not-word, assert-word, becomes, infix_word, form_word, closer_word, Leaf, truth_leaf, skip_leaf, leaf_makes, Opening, prefix_opening, form_opening, opening_makes, opening_due, opening_beginning, beginning as beginning-of}
-use Rattle.grammar.specs.Grammar.{leaf, place}
+use Rattle.grammar.specs.Grammar.{leaf}
 use Rattle.grammar.specs.Rows.{Quad}
 use Rattle.grammar.specs.States.{Frame, operand, after, at, hole as hole-of}
 use Rattle.grammar.specs.Automaton.{opening_frame, begin as begin-at}

@@ -7,7 +7,6 @@ use Rattle.script.specs.Listing.{◌>>=◌}
 use Rattle.theorems.specs.Options.{none_is_not, some_inj}
 use Rattle.grammar.specs.Tokens.{Token}
 use Rattle.grammar.specs.Scanning.{Lexeme, tokens_of}
-use Rattle.grammar.specs.Grammar.{words}
 use Rattle.grammar.specs.States.{State}
 use Rattle.grammar.specs.Reader.{take as take-token, read}
 use Rattle.grammar.specs.Ranges.{flag, All, all_of}

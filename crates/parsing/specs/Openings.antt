@@ -7,7 +7,6 @@ use Rattle.grammar.specs.Sorts.{Hole}
 use Rattle.grammar.specs.Operators.{assign_prefix}
 use Rattle.grammar.specs.Forms.{group-form, mark-form, when-form, if-form, while-form, script-form}
 use Rattle.grammar.specs.Tokens.{Due, bracket-due, becomes-due, Opening, prefix_opening, form_opening, opening_due}
-use Rattle.grammar.specs.Grammar.{sort}
 use Rattle.grammar.specs.States.{prefix, Frame, pending, operand, due, at, hole as hole-of}
 use Rattle.grammar.specs.Automaton.{opening_frame, pushed}
 use Rattle.grammar.specs.Ranges.{variable_fits, depth}
