@@ -3,7 +3,6 @@
 use Rattle.std.specs.Prelude.{ℕ, ◌<◌, ◌≡◌, cond, List, [], ◌∷◌, eqb, ℤ, pos}
 use Rattle.std.proofs.Common.{sym, ◌∙◌, arith as linear, eq-eqb, ne_eqb}
 use Rattle.script.specs.declared.Sort.{Sort}
-use Rattle.script.specs.declared.Sort.TheVariants as Sort
 use Rattle.script.specs.Syntax.{Formula}
 use Rattle.script.specs.Conditions.{decreased}
 use Rattle.script.specs.Words.{formula_words}

@@ -4,9 +4,7 @@ use Rattle.std.specs.Prelude.{ℕ, ◌+◌, ◌*◌, ◌<◌, ◌≡◌, refl, L
 use Rattle.std.proofs.Common.{ap, ◌∙◌, arith as linear}
 use Rattle.script.specs.declared.StatementRow.TheVariants.{While}
 use Rattle.script.specs.declared.Row.{Row}
-use Rattle.script.specs.declared.Row.TheVariants as Row
 use Rattle.script.specs.declared.Sort.{Sort}
-use Rattle.script.specs.declared.Sort.TheVariants as Sort
 use Rattle.script.specs.Syntax.{Expr, Formula, Stmt, loop}
 use Rattle.script.specs.Rows.{field_number, row, rows, word}
 use Rattle.script.specs.Trees.{loop_node, expr_at, formula_at, stmt_at}

@@ -6,9 +6,7 @@ use Rattle.std.proofs.Math.Path.{ap}
 use Rattle.script.specs.declared.RowNumber.{RowNumber}
 use Rattle.script.specs.declared.StatementRow.TheVariants.{Skip, Sequence, Assert}
 use Rattle.script.specs.declared.Row.{Row}
-use Rattle.script.specs.declared.Row.TheVariants as Row
 use Rattle.script.specs.declared.Sort.{Sort}
-use Rattle.script.specs.declared.Sort.TheVariants as Sort
 use Rattle.script.specs.Syntax.{Stmt, Formula}
 use Rattle.script.specs.Conditions.{wp}
 use Rattle.script.specs.Words.{formula_words}
