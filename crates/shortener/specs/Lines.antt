@@ -7,7 +7,7 @@ use Rattle.script.specs.Conditions.{Condition}
 use Rattle.script.specs.Words.{Form, without_depth, with_depth, all_lines, count_word, list_words}
 use Rattle.script.specs.Listing.{trailer_length, form_of}
 use Rattle.theorems.specs.Writing.{Wrote, Left, wrote_as}
-use Rattle.theorems.specs.WordsAt.{Stands, stands_as, whole_words, inside, past}
+use Rattle.theorems.specs.WordsAt.{Stands, stands_as, whole_words, past}
 use Rattle.shortening.specs.Simplify.{order, shorten_all}
 use Rattle.shortening.specs.Lists.{count_same}
 use Rattle.list_reader.specs.Lines.{Tail}

@@ -32,6 +32,7 @@ pub struct ShortAnswer {
 }
 
 // Writes the list, which has so many conditions, shortened; gives the place past it.
+#[tactic(auto, using(crate::specs::Whole::ready))]
 fn write_long(list: &[i32], count: usize, short: &mut [i32]) -> usize
     requires { Counted list.now count }
     ensures { WrittenShort list.now short.old result short.new }
@@ -44,6 +45,7 @@ fn write_long(list: &[i32], count: usize, short: &mut [i32]) -> usize
 }
 
 // The same for a list that fits the shorter runs.
+#[tactic(auto, using(crate::specs::Whole::ready))]
 fn write_brief(list: &[i32], count: usize, short: &mut [i32]) -> usize
     requires { Counted list.now count × (length list.now ≤ 512) }
     ensures { WrittenShort list.now short.old result short.new }

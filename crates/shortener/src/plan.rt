@@ -58,6 +58,7 @@ fn number_shape(words: &[i32], at: usize) -> u8
 }
 
 // The entry of a not at a place.
+#[tactic(auto, unfolding(crate::specs::Entries::not_entry))]
 fn not_entry(at: usize, ends: &[u16], shapes: &[u8]) -> Entry
     requires { at < 16384 }
     ensures { result ≡ not_entry ends.now shapes.now at }
@@ -70,6 +71,7 @@ fn not_entry(at: usize, ends: &[u16], shapes: &[u8]) -> Entry
 }
 
 // The entry of a node with two parts at a place.
+#[tactic(auto, unfolding(crate::specs::Entries::pair_entry))]
 fn pair_entry(kind: usize, at: usize, ends: &[u16], shapes: &[u8]) -> Entry
     requires { at < 16384 }
     ensures { result ≡ pair_entry kind ends.now shapes.now at }
@@ -119,6 +121,7 @@ fn kept_entry(end: u16) -> Entry
 }
 
 // The entry of the word at a place, with those of all words after it.
+#[tactic(auto, unfolding(crate::specs::Entries::entry_of))]
 fn entry_at(words: &[i32], at: usize, ends: &[u16], shapes: &[u8]) -> Entry
     requires { (at < length words.now) × (at < 16384) }
     ensures { result ≡ entry_at words.now ends.now shapes.now at }

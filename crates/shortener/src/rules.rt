@@ -121,6 +121,7 @@ fn implies_change(x: u8, y: u8) -> u8
 }
 
 // "not true and not false are exchanged for their values"
+#[tactic(auto, using(crate::specs::Codes::not_kept), unfolding(crate::specs::Codes::not_code))]
 pub fn not_change(x: u8) -> u8
     ensures { result ≡ not_code x }
 {
@@ -134,6 +135,7 @@ pub fn not_change(x: u8) -> u8
 }
 
 // What becomes of a node with two parts.
+#[tactic(auto, unfolding(crate::specs::Codes::pair_code))]
 pub fn pair_change(kind: usize, x: u8, y: u8) -> u8
     ensures { result ≡ pair_code kind x y }
 {
@@ -148,6 +150,7 @@ pub fn pair_change(kind: usize, x: u8, y: u8) -> u8
 }
 
 // The shape of what a node becomes.
+#[tactic(auto, unfolding(crate::specs::Codes::changed_shape_code))]
 pub fn changed_shape(change: u8, x: u8, y: u8) -> u8
     ensures { result ≡ changed_shape_code change x y }
 {
