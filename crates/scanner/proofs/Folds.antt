@@ -51,9 +51,6 @@ pub record Partly (p : ℕ → Bool) (fold : ℕ → List ℕ → ℕ) (top : �
 
 module _ {fold : ℕ → List ℕ → ℕ} {step : ℕ → ℕ → ℕ} {top : ℕ} (f : Folds fold step top) (p : ℕ → Bool) (text : List ℕ)
     {at : ℕ} where
-  pub at_first : Partly p fold top text at at 0
-  at_first = record { place = refl; number = refl; small = omega arith }
-
   -- a turn
   pub one_more : {end value next : ℕ} → end < length text → p (get_or text end 0) ≡ true
       → next ≡ min (step value (get_or text end 0)) top
@@ -68,12 +65,3 @@ module _ {fold : ℕ → List ℕ → ℕ} {step : ℕ → ℕ → ℕ} {top : �
         ∙ t.number);
     small = omega (arith, n);
   }
-
-  -- the loop is left
-  pub last : {end value : ℕ} → front p (drop end text) ≡ 0 → Partly p fold top text at end value
-      → (end ≡ at + front p (drop at text)) × (value ≡ min (fold 0 (run p (drop at text))) top)
-  last {end} {value} stop t = (omega (arith, t.place), whole (rw stop at t.number))
-    where
-      whole : min (fold value []) top ≡ min (fold 0 (run p (drop at text))) top
-          → value ≡ min (fold 0 (run p (drop at text))) top
-      whole h = omega (arith, f.none value, t.small)

@@ -1,7 +1,6 @@
 -- the runs and the numbers that they make
 mod Fronts
 mod Folds
-mod Numerals
 -- the tokens
 mod Packing
 mod Keywords
