@@ -13,7 +13,6 @@ use Rattle.script.specs.declared.Connective.TheVariants.{And, Or, Implies}
 use Rattle.script.specs.declared.ExpressionRow.TheVariants.{Constant, Variable, Arithmetic, Negate, Mark, Choose}
 use Rattle.script.specs.declared.FormulaRow.TheVariants.{True, False, Comparison, Not, Junction}
 use Rattle.script.specs.declared.Row.{Row}
-use Rattle.script.specs.declared.Row.TheVariants as Row
 use Rattle.script.specs.Syntax.{Expr, Formula}
 use Rattle.script.specs.Words.{op_word, rel_word, conn_word}
 use Rattle.script.specs.Rows.{field_number, row_no, row_of, row, word}

@@ -1,15 +1,9 @@
 -- Two parts worked out one after the other: either stops, or both have values. And what a stopped answer says. Assumes nothing.
 use mathlib.Core.Path.{◌≡◌, refl, sym, ap, ◌∙◌}
-use mathlib.Core.List.{[], ◌∷◌}
-use types.Run.{OneOf, miss}
-use denote.Enum.Declared.{tag_of}
+use Rattle.std.specs.Prelude.{Bool, ℤ}
 use Rattle.stepping.specs.Values.{Worked, got, stop, ◌then◌, Fault, overflow, by_zero}
 use Rattle.evaluation.specs.declared.Value.{Value}
-use Rattle.evaluation.specs.contracts.Value as Value-type
-use Rattle.evaluation.specs.declared.Value.TheVariants as Value
 use Rattle.evaluation.specs.declared.Truth.{Truth}
-use Rattle.evaluation.specs.contracts.Truth as Truth-type
-use Rattle.evaluation.specs.declared.Truth.TheVariants as Truth
 use Rattle.evaluation.specs.Worked.{worked_value, worked_truth}
 
 -- ---- one part
@@ -40,12 +34,12 @@ module _ {A B C : Type 0} {a : Worked A} {b : Worked B} {f : A → B → Worked 
 -- ---- answers
 
 -- what a value says that is one of the other two variants
-pub stopped_value : (x : Value) → OneOf (1 ∷ 2 ∷ []) (tag_of Value-type.the_type x) → (z : Fault) × (worked_value x ≡ stop z)
-stopped_value (Value.Is a) h = absurd (miss (1 ∷ 2 ∷ []) 0 tt h)
+pub stopped_value : (x : Value) → ((a : ℤ) → x ≡ Value.Is a → ⊥) → (z : Fault) × (worked_value x ≡ stop z)
+stopped_value (Value.Is a) h = absurd (h a refl)
 stopped_value Value.Overflow h = (overflow, refl)
 stopped_value Value.ByZero h = (by_zero, refl)
 
-pub stopped_truth : (x : Truth) → OneOf (1 ∷ 2 ∷ []) (tag_of Truth-type.the_type x) → (z : Fault) × (worked_truth x ≡ stop z)
-stopped_truth (Truth.Is a) h = absurd (miss (1 ∷ 2 ∷ []) 0 tt h)
+pub stopped_truth : (x : Truth) → ((a : Bool) → x ≡ Truth.Is a → ⊥) → (z : Fault) × (worked_truth x ≡ stop z)
+stopped_truth (Truth.Is a) h = absurd (h a refl)
 stopped_truth Truth.Overflow h = (overflow, refl)
 stopped_truth Truth.ByZero h = (by_zero, refl)

@@ -5,13 +5,10 @@ use Rattle.std.proofs.Math.Bool as Bool
 use Rattle.script.specs.Rows.{rows, variables}
 use Rattle.script.specs.Refusals.{verdict, accepted}
 use Rattle.arithmetic.specs.declared.Checked.{Checked}
-use Rattle.arithmetic.specs.declared.Checked.TheVariants as Checked
 use Rattle.stepping.specs.Values.{Worked, got, stop, ◌then◌, overflow, by_zero, mode_64, tested}
 use Rattle.stepping.specs.Machine.{state_of, mark_values}
 use Rattle.evaluation.specs.declared.Value.{Value}
-use Rattle.evaluation.specs.declared.Value.TheVariants as Value
 use Rattle.evaluation.specs.declared.Truth.{Truth}
-use Rattle.evaluation.specs.declared.Truth.TheVariants as Truth
 
 -- ---- the answers
 
