@@ -1,4 +1,4 @@
--- One field of a new row, written (`Field-written`), where there is room for it (`FieldRoom`). S gives the sizes that the array has,
+-- One field of a new row, written (`FieldWritten`), where there is room for it (`FieldRoom`). S gives the sizes that the array has,
 -- ρ the latest copies. Assumes nothing.
 use Rattle.std.specs.Prelude.{ℕ, zero, suc, ◌+◌, ◌-◌, ◌≤◌, ◌<◌, ◌≡◌, refl, ◌≢◌, List, [], ◌∷◌, map, ℤ, pos, length, set}
 use Rattle.std.proofs.Common.{ap, subst}
@@ -23,7 +23,7 @@ pub record FieldRoom (s l : List ℕ) (lo : ℕ) (f : Field) (to table_room orig
   pub linked : f.letter < 95 → LinkedRoom s lo (number f) origins_room
   pub marked : f.letter ≡ 108 → (number f < 2048) × (get_or l (number f) 0 < 2048)
 
-pub record Field-written (s l : List ℕ) (lo : ℕ) (f : Field) (to : ℕ) (new os : List ℤ) (end : ℕ) (new' os' : List ℤ)
+pub record FieldWritten (s l : List ℕ) (lo : ℕ) (f : Field) (to : ℕ) (new os : List ℤ) (end : ℕ) (new' os' : List ℤ)
     : Type 0 where
   pub ends : end ≡ end_by (at_of s) lo f
   pub words : new' ≡ set new to (word_by (at_of l) (at_of s) lo f)
@@ -38,7 +38,7 @@ set_map (x ∷ xs) (suc i) n = ap (λ (zs : List ℤ). pos x ∷ zs) (set_map xs
 
 module _ (s l : List ℕ) (lo : ℕ) (f : Field) (to : ℕ) (new os : List ℤ) where
   pub link_written : f.letter < 95
-      → Field-written s l lo f to new os (lo + get_or s (number f) 0) (set new to (pos (lo + get_or s (number f) 0 - 1))) (set os (lo + get_or s (number f) 0 - 1) (pos (number f)))
+      → FieldWritten s l lo f to new os (lo + get_or s (number f) 0) (set new to (pos (lo + get_or s (number f) 0 - 1))) (set os (lo + get_or s (number f) 0 - 1) (pos (number f)))
   unfolding end_by word_by put_by
   link_written h = record {
     ends = rw (lt-ltb f.letter 95 h);
@@ -48,7 +48,7 @@ module _ (s l : List ℕ) (lo : ℕ) (f : Field) (to : ℕ) (new os : List ℤ) 
     origins_long = length-set os (lo + get_or s (number f) 0 - 1) (pos (number f));
   }
 
-  pub mark_written : 95 ≤ f.letter → f.letter ≡ 108 → Field-written s l lo f to new os lo (set new to (pos (get_or l (number f) 0))) os
+  pub mark_written : 95 ≤ f.letter → f.letter ≡ 108 → FieldWritten s l lo f to new os lo (set new to (pos (get_or l (number f) 0))) os
   unfolding end_by word_by put_by
   mark_written h e = record {
     ends = rw (le-ltb f.letter 95 h);
@@ -58,7 +58,7 @@ module _ (s l : List ℕ) (lo : ℕ) (f : Field) (to : ℕ) (new os : List ℤ) 
     origins_long = refl;
   }
 
-  pub word_written : 95 ≤ f.letter → f.letter ≢ 108 → Field-written s l lo f to new os lo (set new to f.word) os
+  pub word_written : 95 ≤ f.letter → f.letter ≢ 108 → FieldWritten s l lo f to new os lo (set new to f.word) os
   unfolding end_by word_by put_by
   word_written h n = record {
     ends = rw (le-ltb f.letter 95 h);
@@ -78,10 +78,10 @@ room_as {s} {l} {lo} {lo'} {to} {a} {a'} {b} {b'} {f} {f'} ef el ea eb r =
     (subst (λ (q : ℕ). FieldRoom s l lo f to q b') ea (subst (λ (q : ℕ). FieldRoom s l lo f to a q) eb r)))
 
 pub written_as : {s l : List ℕ} {lo to end : ℕ} {f f' : Field} {new new₀ os new' os' : List ℤ} → f ≡ f' → new ≡ new₀
-    → Field-written s l lo f to new os end new' os' → Field-written s l lo f' to new₀ os end new' os'
+    → FieldWritten s l lo f to new os end new' os' → FieldWritten s l lo f' to new₀ os end new' os'
 written_as {s} {l} {lo} {to} {end} {f} {f'} {new} {new₀} {os} {new'} {os'} ef en w =
-    subst (λ (g : Field). Field-written s l lo g to new₀ os end new' os') ef
-    (subst (λ (ws : List ℤ). Field-written s l lo f to ws os end new' os') en w)
+    subst (λ (g : Field). FieldWritten s l lo g to new₀ os end new' os') ef
+    (subst (λ (ws : List ℤ). FieldWritten s l lo f to ws os end new' os') en w)
 
 pub field_as : {x x' : ℕ} {w w' : ℤ} → x ≡ x' → w ≡ w' → field x w ≡ field x' w'
 field_as ex ew = rw (ex, ew)

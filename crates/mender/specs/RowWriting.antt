@@ -19,7 +19,7 @@ use Rattle.mending.specs.Sizes.{size_step}
 use Rattle.mender.specs.Checked.{Checked, links_low, listed_kind, loops_in}
 use Rattle.mender.specs.Letters.{Field, number, field₁, field₂, field₃, end_by, word_by, put_by, words_by, puts_by, sum_by, Shape, by_letters}
 use Rattle.mender.specs.Sizing.{Sizings}
-use Rattle.mender.specs.FieldWriting.{LinkedRoom, FieldRoom, Field-written, at_of}
+use Rattle.mender.specs.FieldWriting.{LinkedRoom, FieldRoom, FieldWritten, at_of}
 use Rattle.mender.specs.RowWords.{WordsAt, four_words, word_with}
 
 -- ---- sizes of the parts
@@ -207,9 +207,9 @@ module _ {t : List ℤ} {s l : List ℕ} {k r n table_room origins_room : ℕ}
       (by_letters (λ m. m) (at_of s) (start₁ t s k r n) xs t r n e known))
 
   module _ (new : List ℤ) {os new₁ os₁ new₂ os₂ new₃ os₃ : List ℤ} {b c d : ℕ} (wide : table_room ≡ length new)
-      (x : Field-written s l (start₁ t s k r n) (field₁ t r n) (4 * k + 1) (set new (4 * k) (word t r 0)) os b new₁ os₁)
-      (y : Field-written s l b (field₂ t r n) (4 * k + 2) new₁ os₁ c new₂ os₂)
-      (z : Field-written s l c (field₃ t r n) (4 * k + 3) new₂ os₂ d new₃ os₃) where
+      (x : FieldWritten s l (start₁ t s k r n) (field₁ t r n) (4 * k + 1) (set new (4 * k) (word t r 0)) os b new₁ os₁)
+      (y : FieldWritten s l b (field₂ t r n) (4 * k + 2) new₁ os₁ c new₂ os₂)
+      (z : FieldWritten s l c (field₃ t r n) (4 * k + 3) new₂ os₂ d new₃ os₃) where
     third_is : c ≡ start₃ t s k r n
     third_is = y.ends ∙ ap (λ (q : ℕ). end_by (at_of s) q (field₂ t r n)) x.ends
 

@@ -6,7 +6,7 @@ ghost use Rattle.script.specs.Generated.{zeros};
 ghost use Rattle.rows.specs.Patterns.{patterns};
 ghost use Rattle.mending.specs.Copies.{origins as Copies·origins};
 ghost use Rattle.mending.specs.NewTable.{new_table};
-ghost use Rattle.mender.specs.FieldWriting.{FieldRoom, Field-written, field};
+ghost use Rattle.mender.specs.FieldWriting.{FieldRoom, FieldWritten, field};
 ghost use Rattle.mender.specs.RowWriting.{RowReady, RowWritten};
 ghost use Rattle.mender.specs.TableWritten.{TableReady};
 
@@ -22,7 +22,7 @@ fn write_field(
     origins: &mut [i32],
 ) -> usize
     requires { FieldRoom sizes.now latest.now lo (field letter word) to (length new.old) (length origins.old) }
-    ensures { Field-written sizes.now latest.now lo (field letter word) to new.old origins.old result new.new origins.new }
+    ensures { FieldWritten sizes.now latest.now lo (field letter word) to new.old origins.old result new.new origins.new }
 {
     let n = script::field_number(word);
     if letter < b'_' {
