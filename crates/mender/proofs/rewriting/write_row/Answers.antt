@@ -1,5 +1,5 @@
 -- Its first word, then its three fields one after the other.
-use Rattle.std.proofs.Common.{arith, rules, ◌≡◌, refl, sym, ap, ◌∙◌, ◌+◌, ◌-◌, ◌*◌, ℕ, ℤ, pos, List, get_or, length, set, length-set, add-zero}
+use Rattle.std.proofs.Common.{arith, rules, ◌≡◌, refl, sym, ap, ◌∙◌, ◌+◌, ◌-◌, ◌*◌, ℕ, ℤ, pos, List, get_or, set, length-set, add-zero}
 use Rattle.script.specs.Laws.{back}
 use Rattle.script.specs.Rows.{word}
 use Rattle.rows.specs.Patterns.{pattern, patterns}

@@ -1,4 +1,4 @@
-use Rattle.std.proofs.Common.{arith, rules, ◌≡◌, ◌+◌, ◌*◌, ◌-◌, ◌≤◌, ◌<◌, ℕ, ℤ, pos, List, length, length-set, get_or, to_z, of_z, w32, refl, ◌∙◌}
+use Rattle.std.proofs.Common.{arith, rules, ◌≡◌, ◌-◌, ℕ, ℤ, pos, List, length-set, get_or, to_z, of_z, w32, refl, ◌∙◌}
 use Rattle.std.proofs.lemmas.List.{length-replicate}
 use Rattle.script.specs.Laws.{back}
 use Rattle.script.specs.Rows.{rows}
@@ -27,7 +27,7 @@ pub write_row-requires : goal.write_row-requires
 write_row-requires c =
     let i = c.loop-k.invariant in (
       turn_ready c.requires _ (script_row c.requires.checked) i.1.1.1 c.loop-k-test.true
-      (rw (back {z = get_or c.loop-k.origins (c.loop-k.k - 1) (pos 0)} (search rules)) at c.field_number-r.ensures),
+          (rw (back {z = get_or c.loop-k.origins (c.loop-k.k - 1) (pos 0)} (search rules)) at c.field_number-r.ensures),
       i.0,
     )
 

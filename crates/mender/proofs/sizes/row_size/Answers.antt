@@ -9,40 +9,40 @@ overflow_mul-of c = record { fits = omega (arith, listed_kind c.requires.0 c.req
 
 pub part_size-a-requires : goal.part_size-a-requires
 part_size-a-requires c = (
-      field_at c.requires.0 c.requires.1.0 c.field-of.ensures 1 c.requires.1.1.1 (omega arith),
-      first_sized c.requires.0 c.requires.1.1.0 c.requires.1.0 c.field-of.ensures,
-    )
+  field_at c.requires.0 c.requires.1.0 c.field-of.ensures 1 c.requires.1.1.1 (omega arith),
+  first_sized c.requires.0 c.requires.1.1.0 c.requires.1.0 c.field-of.ensures,
+)
 
 pub part_size-b-requires : goal.part_size-b-requires
 part_size-b-requires c = (
-      field_at c.requires.0 c.requires.1.0 c.field-of.ensures 2 c.requires.1.1.1 (omega arith),
-      second_sized c.requires.0 c.requires.1.1.0 c.requires.1.0 c.field-of.ensures,
-    )
+  field_at c.requires.0 c.requires.1.0 c.field-of.ensures 2 c.requires.1.1.1 (omega arith),
+  second_sized c.requires.0 c.requires.1.1.0 c.requires.1.0 c.field-of.ensures,
+)
 
 pub part_size-c-requires : goal.part_size-c-requires
 part_size-c-requires c = (
-      field_at c.requires.0 c.requires.1.0 c.field-of.ensures 3 c.requires.1.1.1 (omega arith),
-      third_sized c.requires.0 c.requires.1.1.0 c.requires.1.0 c.field-of.ensures,
-    )
+  field_at c.requires.0 c.requires.1.0 c.field-of.ensures 3 c.requires.1.1.1 (omega arith),
+  third_sized c.requires.0 c.requires.1.1.0 c.requires.1.0 c.field-of.ensures,
+)
 
 pub overflow_add-size : goal.overflow_add-size
-overflow_add-size c = 
+overflow_add-size c =
     record { fits = omega (arith, sum_small c.requires.0 c.requires.1.1.0 c.requires.1.0 c.field-of.ensures c.part_size-a.ensures c.part_size-b.ensures c.part_size-c.ensures) }
 
 pub overflow_add-size-2 : goal.overflow_add-size-2
-overflow_add-size-2 c = 
+overflow_add-size-2 c =
     record { fits = omega (arith, sum_small c.requires.0 c.requires.1.1.0 c.requires.1.0 c.field-of.ensures c.part_size-a.ensures c.part_size-b.ensures c.part_size-c.ensures) }
 
 pub overflow_add-size-3 : goal.overflow_add-size-3
-overflow_add-size-3 c = 
+overflow_add-size-3 c =
     record { fits = omega (arith, sum_small c.requires.0 c.requires.1.1.0 c.requires.1.0 c.field-of.ensures c.part_size-a.ensures c.part_size-b.ensures c.part_size-c.ensures) }
 
 pub returns-then-size-lt2049 : goal.returns-then-size-lt2049
-returns-then-size-lt2049 c = 
+returns-then-size-lt2049 c =
     sized_under c.requires.0 c.requires.1.1.0 c.requires.1.0 c.field-of.ensures
     c.part_size-a.ensures c.part_size-b.ensures c.part_size-c.ensures c.if-size-lt2049.true
 
 pub returns-else-size-lt2049 : goal.returns-else-size-lt2049
-returns-else-size-lt2049 c = 
+returns-else-size-lt2049 c =
     sized_over c.requires.0 c.requires.1.1.0 c.requires.1.0 c.field-of.ensures
     c.part_size-a.ensures c.part_size-b.ensures c.part_size-c.ensures c.if-size-lt2049.false
