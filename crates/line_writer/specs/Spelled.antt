@@ -1,6 +1,6 @@
 -- A line is a formula and its trailer of four words; the whole list is the lines and minus their number. Assumes nothing.
-use Rattle.std.specs.Prelude.{ℕ, zero, suc, ◌+◌, ◌-◌, ◌≤◌, ◌<◌, ◌≡◌, refl, List, [], ◌∷◌, ◌++◌, ℤ, pos, neg_ℤ, length}
-use Rattle.std.proofs.Common.{sym, ap, ◌∙◌, append-nil, arith as linear, length-append, SFits}
+use Rattle.std.specs.Prelude.{ℕ, zero, suc, ◌+◌, ◌-◌, ◌≤◌, ◌<◌, ◌≡◌, List, [], ◌∷◌, ◌++◌, ℤ, pos, neg_ℤ, length}
+use Rattle.std.proofs.Common.{ap, ◌∙◌, append-nil, arith as linear, length-append, SFits}
 use Rattle.std.proofs.lemmas.List.Edits.{sets}
 use Rattle.std.proofs.Math.Seq.{length-sets}
 use Rattle.std.specs.Int.{w32}
