@@ -102,6 +102,7 @@ fn read_long(text: &[u8], words: &mut [i32]) -> TextAnswer
 
 // Reads a script text: the words of its table, zeros behind, or a refusal: 44 for a text over 32,768 bytes, 40 for a byte that
 // begins no token, 41 for a token that no text has there, 42 for a number out of range, 43 where the rows have no room.
+#[tactic(auto, using(crate::specs::Reads::fields, crate::specs::Reads::too_long, crate::specs::Reads::stays_clear))]
 pub fn read_text(text: &[u8], words: &mut [i32]) -> TextAnswer
     ensures number { result.number ≡ (answer text.now (length words.old)).number }
     ensures place { result.place ≡ (answer text.now (length words.old)).place }

@@ -31,6 +31,7 @@ fn first_state() -> State
     }
 }
 
+#[tactic(auto, using(scanner::specs::Progress::told_end))]
 pub fn take_tokens(text: &[u8], stack: &mut [u32], words: &mut [i32]) -> Passage
     ensures { Takes (scan text.now) (start stack.old words.old) result words.new }
 {
