@@ -39,13 +39,16 @@ offset_bounds-new-start c =
     let p = new_part c.args.old.now c.args.new.now c.ranges.index c.shorter_part-part.ensures c.if-part.true in omega (arith, p.0, p.1)
 
 pub slice_bounds-result-count : goal.slice_bounds-result-count
-slice_bounds-result-count c = (new_part c.args.old.now c.args.new.now c.ranges.index c.shorter_part-part.ensures c.if-part.true).0
+slice_bounds-result-count c =
+    let p = new_part c.args.old.now c.args.new.now c.ranges.index c.shorter_part-part.ensures c.if-part.true in omega (arith, p.0, p.1)
 
 pub slice_bounds-result-start : goal.slice_bounds-result-start
-slice_bounds-result-start c = (new_part c.args.old.now c.args.new.now c.ranges.index c.shorter_part-part.ensures c.if-part.true).0
+slice_bounds-result-start c =
+    let p = new_part c.args.old.now c.args.new.now c.ranges.index c.shorter_part-part.ensures c.if-part.true in omega (arith, p.0, p.1)
 
 pub slice_bounds-result-end : goal.slice_bounds-result-end
-slice_bounds-result-end c = (new_part c.args.old.now c.args.new.now c.ranges.index c.shorter_part-part.ensures c.if-part.true).1
+slice_bounds-result-end c =
+    let p = new_part c.args.old.now c.args.new.now c.ranges.index c.shorter_part-part.ensures c.if-part.true in omega (arith, p.0, p.1)
 
 pub returns-then-part-clause-words : goal.returns-then-part-clause-words
 returns-then-part-clause-words c =
@@ -61,13 +64,16 @@ offset_bounds-old-start c =
     let p = old_part c.args.old.now c.args.new.now c.ranges.index c.shorter_part-part.ensures c.if-part.false in omega (arith, p.0, p.1)
 
 pub slice_bounds-result-count-2 : goal.slice_bounds-result-count-2
-slice_bounds-result-count-2 c = (old_part c.args.old.now c.args.new.now c.ranges.index c.shorter_part-part.ensures c.if-part.false).0
+slice_bounds-result-count-2 c =
+    let p = old_part c.args.old.now c.args.new.now c.ranges.index c.shorter_part-part.ensures c.if-part.false in omega (arith, p.0, p.1)
 
 pub slice_bounds-result-start-2 : goal.slice_bounds-result-start-2
-slice_bounds-result-start-2 c = (old_part c.args.old.now c.args.new.now c.ranges.index c.shorter_part-part.ensures c.if-part.false).0
+slice_bounds-result-start-2 c =
+    let p = old_part c.args.old.now c.args.new.now c.ranges.index c.shorter_part-part.ensures c.if-part.false in omega (arith, p.0, p.1)
 
 pub slice_bounds-result-end-2 : goal.slice_bounds-result-end-2
-slice_bounds-result-end-2 c = (old_part c.args.old.now c.args.new.now c.ranges.index c.shorter_part-part.ensures c.if-part.false).1
+slice_bounds-result-end-2 c =
+    let p = old_part c.args.old.now c.args.new.now c.ranges.index c.shorter_part-part.ensures c.if-part.false in omega (arith, p.0, p.1)
 
 pub returns-clause-words : goal.returns-clause-words
 returns-clause-words c =
