@@ -7,7 +7,6 @@ use Rattle.std.proofs.Common.{ap, ◌∙◌, arith as linear}
 use Rattle.script.specs.declared.RowNumber.{RowNumber}
 use Rattle.script.specs.declared.StatementRow.TheVariants.{Sequence, If}
 use Rattle.script.specs.declared.Row.{Row}
-use Rattle.script.specs.declared.Row.TheVariants as Row
 use Rattle.script.specs.Syntax.{Stmt, Formula}
 use Rattle.script.specs.Conditions.{Condition, walk}
 use Rattle.script.specs.Rows.{field_number, row, rows, word, parts}
