@@ -174,7 +174,7 @@ module _ (place : Reference → Option ℕ) where
 
   top_above : (rs : List Reference) (top : ℕ) (r : Reference) (k : ℕ) → Memᴰ r rs → place r ≡ some k → k < top_of place rs top
   unfolding top_of
-  top_above [] top r k m e = absurd (Memᴰ.not_nil m)
+  top_above [] top r k m e = absurd (Memᴰ.not-nil m)
   top_above (q ∷ rs) top r k m e =
       either (Memᴰ.cases_cons m) (λ d. first (place q) (ap place (sym d) ∙ e)) (λ l. top_above rs (past_place (place q) top) r k l e)
     where

@@ -183,6 +183,7 @@ module _ {ws : List ℤ} {rs : List Reference} {flags₀ flags : List ℕ} {i v 
           → top_of mark_place l m ≡ top_of mark_place rs 0
           → (flags ≡ noted rs flags₀) × (v ≡ top_of variable_place rs 0) × (m ≡ top_of mark_place rs 0)
       at_end [] done e n o = (e, n, o)
+      at_end (r ∷ l) s e n o = elim s [ ]
 
   module _ (inside : i < length ws) {k : ℕ} (read : k ≡ field_number (get_or ws i (pos 0))) where
     here : Next ws i g.left k

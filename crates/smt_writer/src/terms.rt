@@ -39,6 +39,7 @@ pub enum Shape {
     Choice,
 }
 
+#[tactic(auto, unfolding(crate::specs::Shapes::shape_of))]
 fn shape_of(kind: usize) -> Shape
     ensures { result ≡ shape_of kind }
 {
@@ -58,6 +59,7 @@ fn shape_of(kind: usize) -> Shape
 }
 
 // Writes what stands before the parts of a node.
+#[tactic(auto, unfolding(crate::specs::Openings::opening))]
 fn write_opening(text: &mut [u8], at: usize, kind: usize) -> usize
     ensures { Wrote text.old at (opening kind) result text.new }
 {
@@ -93,6 +95,7 @@ fn write_constant(text: &mut [u8], at: usize, value: i32) -> usize
 }
 
 // Writes a constant, a variable or a mark, from its two words.
+#[tactic(auto, unfolding(crate::specs::Openings::leaf_text))]
 fn write_leaf(text: &mut [u8], at: usize, kind: usize, number: i32) -> usize
     ensures { Wrote text.old at (leaf_text kind number) result text.new }
 {
@@ -104,6 +107,7 @@ fn write_leaf(text: &mut [u8], at: usize, kind: usize, number: i32) -> usize
 }
 
 // Writes true or false.
+#[tactic(auto, unfolding(crate::specs::Openings::truth_name))]
 fn write_truth(text: &mut [u8], at: usize, kind: usize) -> usize
     ensures { Wrote text.old at (truth_name kind) result text.new }
 {
