@@ -124,18 +124,18 @@ pub write_formula-write_expression-p-requires : goal.write_formula-write_express
 write_formula-write_expression-p-requires t c =
     let g = c.loop-p.invariant in
     part_ready g c.decreases
-    (compared g c.field-kind.ensures (search rules) c.field.ensures c.field-row-in_default.ensures c.if-kind-lt-NOT.true).0
+    (compared g c.field-kind.ensures (search rules) c.field.ensures c.field-row-in_default.ensures (search rules)).0
 
 pub write_formula-write_expression-requires : goal.write_formula-write_expression-requires
 write_formula-write_expression-requires t c =
     let g = c.loop-p.invariant in
     part_ready g c.decreases
-    (compared g c.field-kind.ensures (search rules) c.field.ensures c.field-row-in_default.ensures c.if-kind-lt-NOT.true).1
+    (compared g c.field-kind.ensures (search rules) c.field.ensures c.field-row-in_default.ensures (search rules)).1
 
 pub write_formula-returns-then-kind-lt-NOT : goal.write_formula-returns-then-kind-lt-NOT
 write_formula-returns-then-kind-lt-NOT t c =
     relation_written c.loop-p.invariant c.field-kind.ensures (search rules) c.field.ensures c.field-row-in_default.ensures
-    c.if-kind-lt-NOT.true c.push_kind-p-in_default.ensures c.write_expression-p.ensures c.write_expression.ensures
+    (search rules) c.push_kind-p-in_default.ensures c.write_expression-p.ensures c.write_expression.ensures
 
 -- ---- a connective
 
