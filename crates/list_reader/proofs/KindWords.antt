@@ -2,18 +2,14 @@
 -- nothing.
 use Prim.Native.Nat.{ℕ, suc, ◌≤◌, ◌<◌}
 use native.Mathlib.Omega.{arith as linear}
-use mathlib.Core.Path.{◌≡◌, sym, ap, ◌∙◌}
+use mathlib.Core.Path.{◌≡◌}
 use mathlib.Core.Bool.{true, false}
 use lib.IntN.{ℤ, pos, negsuc}
 use lib.Signed.{lt_z}
 use borrow.Author.Tests.{ltb-true, ltb-false}
 use mir.Syntax.{w32}
-use mir.Val.{SFits, of_z, to_z}
-use mir.Facts.{to_z-of_z}
+use mir.Val.{of_z}
 use Rattle.script.specs.Rows.{field_number}
-
-pub word_is : {z : ℤ} {n : ℕ} → SFits w32 z → of_z w32 z ≡ n → z ≡ to_z w32 n
-word_is f q = sym (to_z-of_z f) ∙ ap (to_z w32) q
 
 pub at_least : (z : ℤ) (a : ℕ) → lt_z z (pos a) ≡ false → a ≤ field_number z
 at_least (pos n) a h = ltb-false n a h

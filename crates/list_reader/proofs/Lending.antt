@@ -96,9 +96,3 @@ module _ {ws : List ℤ} {at room e m : ℕ} {k : FormulaNode} (o : Opens formul
       go : (b : Bool) → leb e room ≡ b → m ≡ cond b e (length ws + 1) → at < m
       go true t j = omega (linear, expression_farther (omega linear) (first_lent (leb-true e room t)))
       go false t j = omega linear
-
--- the words left fall
-pub falls_within : {vs ws : List ℤ} {room begin at t : ℕ} → vs ≡ ws → room ≡ length vs - 2 → length ws - begin ≡ t
-    → begin ≤ at → at < length ws → length (take (room - 0) vs) - (at + 1) < t
-falls_within {vs} {ws} {room} q r h l i =
-    rw (sub-zero room) (omega (linear, ap length q, length-take-le room vs (omega linear)))

@@ -6,10 +6,9 @@ use mathlib.Core.Option.{Option, none, some}
 use mathlib.Core.List.{List, [], ◌∷◌}
 use mathlib.Core.Bool.{Bool, true, false}
 use lib.IntN.{ℤ, pos, negsuc}
-use lib.Signed.{lt_z}
 use lib.Dec.{eqb, ltb}
 use lib.ListN.{length, drop, length-drop}
-use borrow.Author.Tests.{ltb-true, le-ltb, eq-eqb, ne_eqb}
+use borrow.Author.Tests.{ltb-true, eq-eqb, ne_eqb}
 use Rattle.script.specs.declared.Rule.{Rule}
 use Rattle.script.specs.declared.Rule.TheVariants.{Exit, Floor, Step, Main, Guard}
 use Rattle.script.specs.Syntax.{Formula}
@@ -24,21 +23,6 @@ use Rattle.list_reader.specs.Lines.{is_some}
 no_rule : (n : ℕ) → 6 ≤ n → rule_of n ≡ none
 no_rule n h =
     rw (ne_eqb n 1 (omega linear), ne_eqb n 2 (omega linear), ne_eqb n 3 (omega linear), ne_eqb n 4 (omega linear), ne_eqb n 5 (omega linear))
-
-pub rule_test : (n : ℕ) → 0 < n → ltb n 6 ≡ is_some (rule_of n)
-rule_test zero h = absurd (omega linear)
-rule_test (suc zero) h = refl
-rule_test (suc (suc zero)) h = refl
-rule_test (suc (suc (suc zero))) h = refl
-rule_test (suc (suc (suc (suc zero)))) h = refl
-rule_test (suc (suc (suc (suc (suc zero))))) h = refl
-rule_test (suc (suc (suc (suc (suc (suc n)))))) h =
-    let m = suc (suc (suc (suc (suc (suc n))))) in
-    le-ltb m 6 (omega linear) ∙ sym (ap is_some (no_rule m (omega linear)))
-
-pub rule_zero : (n : ℕ) → n ≤ 0 → ltb 0 n ≡ is_some (rule_of n)
-rule_zero zero h = refl
-rule_zero (suc n) h = absurd (omega linear)
 
 pub rule_is : (n : ℕ) (r : Rule) → rule_of n ≡ some r → rule_number r ≡ n
 rule_is zero r q = let z : ◌≡◌ {A = ℕ} 0 1 = cc in absurd (omega linear)
@@ -57,14 +41,6 @@ rule_is (suc (suc (suc (suc (suc (suc n)))))) r q =
 when_some : (b : Bool) (n : ℕ) → b ≡ is_some (guarded b (some n))
 when_some true n = refl
 when_some false n = refl
-
-pub below_test : (limit : ℕ) (w : ℤ) → lt_z w (pos 0) ≡ false → ltb (field_number w) limit ≡ is_some (below limit w)
-below_test limit (pos n) h = when_some (ltb n limit) n
-below_test limit (negsuc n) h = let z : ◌≡◌ {A = ℕ} 0 1 = cc in absurd (omega linear)
-
-pub not_below : (limit : ℕ) (w : ℤ) → lt_z w (pos 0) ≡ true → false ≡ is_some (below limit w)
-not_below limit (pos n) h = absurd (let l : n < 0 = ltb-true n 0 h in omega linear)
-not_below limit (negsuc n) h = refl
 
 when_is : (b : Bool) (n : ℕ) {m : ℕ} → guarded b (some n) ≡ some m → m ≡ n
 when_is true n q = cc
