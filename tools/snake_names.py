@@ -14,6 +14,9 @@ import sys
 
 WORD = re.compile(r'[^\s(){}.;,@"«»\x60]+')
 DECLARED = re.compile(r"^\s*(?:(?:pub|unfoldable|abbrev|pattern|private|record|data|mutual|where)\s+)*(?:\{)?(\S+)(?:\s+[{(][^{}()]*[)}])*\s*:(?=\s|$)")
+# Several constructors or fields of one type, as in `bracket-due becomes-due : Due`.
+TOGETHER = re.compile(r"^\s*(?:pub\s+)?([^\s(){}:]+(?:\s+[^\s(){}:]+)+)\s+:\s")
+TEXT = re.compile(r'"[^"\n]*"')
 COMMENT = re.compile(r"(?<![^\s(){}.;,])--[^\n]*")
 SPAN = re.compile(r"\x60[^\x60\n]+\x60")
 LIBRARY = re.compile(r"\buse\s+(?:Rattle\.(?:std|core|std_alloc|std_collections|std_heap|std_io|libc|io|os)|Prim|[a-z]\w*)\b[^\n{;]*\{([^}]*)\}")
@@ -55,10 +58,13 @@ def code(text):
 
 def declarations(text):
     found = set()
-    for line in code(text).splitlines():
+    for line in TEXT.sub(" ", code(text)).splitlines():
         m = DECLARED.match(line)
         if m:
             found.add(m[1])
+        m = TOGETHER.match(line)
+        if m:
+            found.update(m[1].split())
     return found
 
 
@@ -75,7 +81,7 @@ def main():
     for path, text in texts.items():
         if path.endswith(".antt") and not is_of_a_function(path):
             for name in declarations(text):
-                if "-" in name and not name.startswith("-") and re.search(r"\w-\w|\w-$|[ᶠᵉˢ'·₁₂₃]-\w", name):
+                if "-" in name and name not in LOCAL and not name.startswith("-") and re.search(r"\w-\w|\w-$|[ᶠᵉˢ'·₁₂₃]-\w", name):
                     table[name] = SPECIAL.get(name, spelled(name))
     for name in [n for n in table if "◌" in n]:
         table[name.strip("◌")] = table[name].strip("◌")
@@ -112,14 +118,24 @@ def main():
 
 def turn_code(text, table, stays, is_rust):
     one = lambda m: m[0] if m[0] in stays else table.get(m[0], m[0])
+    plain = lambda t: outside_texts(t, lambda part: WORD.sub(one, part))
     spans = lambda t: SPAN.sub(lambda m: WORD.sub(one, m[0]), t)
     comment = re.compile(r"//[^\n]*") if is_rust else COMMENT
     out, at = [], 0
     for m in comment.finditer(text):
-        out += [WORD.sub(one, text[at : m.start()]), spans(m[0])]
+        out += [plain(text[at : m.start()]), spans(m[0])]
         at = m.end()
-    out.append(WORD.sub(one, text[at:]))
+    out.append(plain(text[at:]))
     return "".join(out)
+
+
+def outside_texts(text, turn):
+    """The text with what stands outside quotation marks turned."""
+    out, at = [], 0
+    for m in TEXT.finditer(text):
+        out += [turn(text[at : m.start()]), m[0]]
+        at = m.end()
+    return "".join(out) + turn(text[at:])
 
 
 def write(path, old, new):
@@ -127,6 +143,9 @@ def write(path, old, new):
         with open(path, "w", encoding="utf-8") as f:
             f.write(new)
 
+
+# Local names that look like declarations.
+LOCAL = {"here-now", "by-assertion", "at-while", "at-if", "at-assignment", "at-second-test"}
 
 # Where the plain spelling would meet another name.
 SPECIAL = {

@@ -5,8 +5,8 @@ use Rattle.std.proofs.Math.Option.{Option, none, some}
 use Rattle.script.specs.Listing.{◌>>=◌, guarded}
 use Rattle.grammar.specs.Sorts.{Sort, same_sort, Hole, takes, wide, begins}
 use Rattle.grammar.specs.Operators.{Infix, not_prefix, minus_prefix, assert_prefix, assign_prefix, infix_takes, infix_makes, infix_binds}
-use Rattle.grammar.specs.Forms.{Form, group-form, mark-form, when-form, if-form, while-form, script-form, Place, first_place, next_place, place_takes}
-use Rattle.grammar.specs.Tokens.{Token, numeral, variable, truth_word, skip-word, not-word, assert-word, becomes, infix_word, form_word, closer_word, Due, bracket-due, becomes-due, Ending, same_ending, ends, ending, Leaf, constant_leaf, number_leaf, variable_leaf, truth_leaf, skip_leaf, leaf_makes, Opening, prefix_opening, form_opening, opening_makes, opening_due, Beginning, leaf_beginning, opening_beginning, no_beginning, beginning}
+use Rattle.grammar.specs.Forms.{Form, group_form, mark_form, when_form, if_form, while_form, script_form, Place, first_place, next_place, place_takes}
+use Rattle.grammar.specs.Tokens.{Token, numeral, variable, truth_word, skip_word, not_word, assert_word, becomes, infix_word, form_word, closer_word, Due, bracket_due, becomes_due, Ending, same_ending, ends, ending, Leaf, constant_leaf, number_leaf, variable_leaf, truth_leaf, skip_leaf, leaf_makes, Opening, prefix_opening, form_opening, opening_makes, opening_due, Beginning, leaf_beginning, opening_beginning, no_beginning, beginning}
 use Rattle.grammar.specs.Grammar.{Phrase, leaf, before, closed, Chain, begun, more, place, sort}
 use Rattle.grammar.specs.States.{prefix, infix_after, Frame, pending, open_at, wants, holds, apply, hole, Mode, operand, after, due, State, at}
 
@@ -28,12 +28,12 @@ reduce n x (pending f ∷ fs) =
 -- ---- a token where a part begins
 
 abbrev pub form_takes : Hole → Form → Hole
-form_takes h group-form = wide h
-form_takes h mark-form = place_takes (first_place mark-form)
-form_takes h when-form = place_takes (first_place when-form)
-form_takes h if-form = place_takes (first_place if-form)
-form_takes h while-form = place_takes (first_place while-form)
-form_takes h script-form = place_takes (first_place script-form)
+form_takes h group_form = wide h
+form_takes h mark_form = place_takes (first_place mark_form)
+form_takes h when_form = place_takes (first_place when_form)
+form_takes h if_form = place_takes (first_place if_form)
+form_takes h while_form = place_takes (first_place while_form)
+form_takes h script_form = place_takes (first_place script_form)
 
 abbrev pub opening_frame : Hole → Opening → Frame
 opening_frame h (prefix_opening p) = pending (prefix p)
@@ -72,9 +72,9 @@ abbrev pub token_binds : Token → ℕ
 token_binds (numeral n) = 0
 token_binds (variable v) = 0
 token_binds (truth_word b) = 0
-token_binds skip-word = 0
-token_binds not-word = 0
-token_binds assert-word = 0
+token_binds skip_word = 0
+token_binds not_word = 0
+token_binds assert_word = 0
 token_binds becomes = 0
 token_binds (infix_word o) = infix_binds o
 token_binds (form_word f) = 0
@@ -85,9 +85,9 @@ abbrev pub infix_at : Token → Sort → Option Infix
 infix_at (numeral n) s = none
 infix_at (variable v) s = none
 infix_at (truth_word b) s = none
-infix_at skip-word s = none
-infix_at not-word s = none
-infix_at assert-word s = none
+infix_at skip_word s = none
+infix_at not_word s = none
+infix_at assert_word s = none
 infix_at becomes s = none
 infix_at (infix_word o) s = guarded (same_sort s (infix_takes o)) (some o)
 infix_at (form_word f) s = none
@@ -113,25 +113,25 @@ go_on t r = shift t (infix_at t (sort r.got)) r.got r.rest
 -- ---- a token that is due
 
 abbrev pub form_due : Due → Form → Bool
-form_due bracket-due group-form = true
-form_due bracket-due mark-form = false
-form_due bracket-due when-form = false
-form_due bracket-due if-form = false
-form_due bracket-due while-form = false
-form_due bracket-due script-form = false
-form_due becomes-due f = false
+form_due bracket_due group_form = true
+form_due bracket_due mark_form = false
+form_due bracket_due when_form = false
+form_due bracket_due if_form = false
+form_due bracket_due while_form = false
+form_due bracket_due script_form = false
+form_due becomes_due f = false
 
 abbrev pub becomes_is : Due → Bool
-becomes_is bracket-due = false
-becomes_is becomes-due = true
+becomes_is bracket_due = false
+becomes_is becomes_due = true
 
 abbrev pub is_due : Due → Token → Bool
 is_due d (numeral n) = false
 is_due d (variable v) = false
 is_due d (truth_word b) = false
-is_due d skip-word = false
-is_due d not-word = false
-is_due d assert-word = false
+is_due d skip_word = false
+is_due d not_word = false
+is_due d assert_word = false
 is_due d becomes = becomes_is d
 is_due d (infix_word o) = false
 is_due d (form_word f) = form_due d f

@@ -3,7 +3,7 @@
 use Rattle.std.specs.Prelude.{ℕ, zero, suc, ◌+◌, ◌-◌, List, [], ◌∷◌, Bool, true, false, cond, ℤ, pos, negsuc}
 use Rattle.std.proofs.Math.Option.{Option, none, some}
 use Rattle.grammar.specs.Operators.{Prefix, not_prefix, minus_prefix, assert_prefix, assign_prefix}
-use Rattle.grammar.specs.Forms.{Place, in_group, in-mark, when-first, when-second, when-third, if_guard, if-then, if-else, while_guard, while-keep, while-fall, while-body, script-pre, script-body, script-post}
+use Rattle.grammar.specs.Forms.{Place, in_group, in_mark, when_first, when_second, when_third, if_guard, if_then, if_else, while_guard, while_keep, while_fall, while_body, script_pre, script_body, script_post}
 use Rattle.grammar.specs.Tokens.{Leaf, constant_leaf, number_leaf, variable_leaf, truth_leaf, skip_leaf}
 use Rattle.grammar.specs.Grammar.{Phrase, leaf, before, between, closed, Chain, begun, more, place}
 
@@ -49,38 +49,38 @@ prefix_size (some z) n = 1
 -- a group makes no row
 abbrev pub form_size : Place → ℕ
 form_size in_group = 0
-form_size in-mark = 1
-form_size when-first = 1
-form_size when-second = 1
-form_size when-third = 1
+form_size in_mark = 1
+form_size when_first = 1
+form_size when_second = 1
+form_size when_third = 1
 form_size if_guard = 1
-form_size if-then = 1
-form_size if-else = 1
+form_size if_then = 1
+form_size if_else = 1
 form_size while_guard = 1
-form_size while-keep = 1
-form_size while-fall = 1
-form_size while-body = 1
-form_size script-pre = 1
-form_size script-body = 1
-form_size script-post = 1
+form_size while_keep = 1
+form_size while_fall = 1
+form_size while_body = 1
+form_size script_pre = 1
+form_size script_body = 1
+form_size script_post = 1
 
 -- where a body begins, the note is written
 abbrev pub begins_body : Place → Bool
 begins_body in_group = false
-begins_body in-mark = false
-begins_body when-first = false
-begins_body when-second = false
-begins_body when-third = false
+begins_body in_mark = false
+begins_body when_first = false
+begins_body when_second = false
+begins_body when_third = false
 begins_body if_guard = false
-begins_body if-then = false
-begins_body if-else = false
+begins_body if_then = false
+begins_body if_else = false
 begins_body while_guard = false
-begins_body while-keep = false
-begins_body while-fall = false
-begins_body while-body = true
-begins_body script-pre = false
-begins_body script-body = false
-begins_body script-post = false
+begins_body while_keep = false
+begins_body while_fall = false
+begins_body while_body = true
+begins_body script_pre = false
+begins_body script_body = false
+begins_body script_post = false
 
 abbrev pub note_size : Place → ℕ
 note_size q = cond (begins_body q) 1 0

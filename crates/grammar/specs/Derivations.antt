@@ -10,9 +10,9 @@ use Rattle.std.proofs.Math.Option.{none}
 use mathlib.Core.List.{List, [], ◌∷◌, ◌++◌}
 use Rattle.theorems.specs.Options.{none_is_not}
 use Rattle.grammar.specs.Sorts.{Sort, expression, formula, statement as statement-sort, takes}
-use Rattle.grammar.specs.Forms.{Place, in_group, in-mark, when-first, when-second, when-third, if_guard, if-then, if-else, while_guard, while-keep, while-fall, while-body, script-pre, script-body, script-post, when-form, if-form, while-form, script-form, next_place, place_takes, place_makes}
+use Rattle.grammar.specs.Forms.{Place, in_group, in_mark, when_first, when_second, when_third, if_guard, if_then, if_else, while_guard, while_keep, while_fall, while_body, script_pre, script_body, script_post, when_form, if_form, while_form, script_form, next_place, place_takes, place_makes}
 use Rattle.grammar.specs.Operators.{semicolon}
-use Rattle.grammar.specs.Tokens.{comma-closer, then-closer, else-closer, end-closer, keep-closer, fall-closer, do-closer, post_closer, end_of_text, Token, infix_word, form_word, closer_word, prefix_opening}
+use Rattle.grammar.specs.Tokens.{comma_closer, then_closer, else_closer, end_closer, keep_closer, fall_closer, do_closer, post_closer, end_of_text, Token, infix_word, form_word, closer_word, prefix_opening}
 use Rattle.grammar.specs.Productions.{script, statement, operand, bracket, closing, Derives, whole, chooses, loops, a_when}
 use Rattle.grammar.specs.Grammar.{Phrase, leaf, before, between, closed, Chain, begun, more, place, opening_words, words, chain_words, sort, level, Good, GoodChain}
 use Rattle.grammar.specs.Text.{text, Spells}
@@ -38,52 +38,52 @@ module _ (c : Chain) (x : Phrase) (good : GoodChain c) (front : ChainDerived c) 
   FormDerived p =
       place c ≡ p → takes (place_takes p) (sort x) ≡ true → Derives (at (place_makes p (sort x)) 10) (text (words (closed c x)))
 
-  when_derives : FormDerived when-third
+  when_derives : FormDerived when_third
   unfolding words chain_words text
   when_derives e t =
-      let w = at_third c when-first when-second when-third good e refl refl refl in
+      let w = at_third c when_first when_second when_third good e refl refl refl in
       let a = w.first in
       let b = w.second in
       let h = subst ChainDerived w.is front in
-      let comma = closer_word comma-closer ∷ [] in
-      let spelt = three_text (form_word when-form ∷ bracket ∷ []) (words a) (words b) (words x) comma comma (closing ∷ []) refl refl refl in
+      let comma = closer_word comma_closer ∷ [] in
+      let spelt = three_text (form_word when_form ∷ bracket ∷ []) (words a) (words b) (words x) comma comma (closing ∷ []) refl refl refl in
       subst (λ (k : Chain). Derives operand (text (words (closed k x)))) (sym w.is)
       (subst (λ ts. Derives operand ts) (sym spelt)
       (a_when (part formula a w.first_fits h.0.1) (part expression b w.second_fits h.1) (part expression x t d)))
 
-  if_derives : FormDerived if-else
+  if_derives : FormDerived if_else
   unfolding words chain_words text
   if_derives e t =
-      let w = at_third c if_guard if-then if-else good e refl refl refl in
+      let w = at_third c if_guard if_then if_else good e refl refl refl in
       let a = w.first in
       let b = w.second in
       let h = subst ChainDerived w.is front in
-      let spelt = three_text (form_word if-form ∷ []) (words a) (words b) (words x) (closer_word then-closer ∷ []) (closer_word else-closer ∷ []) (closer_word end-closer ∷ []) refl refl refl in
+      let spelt = three_text (form_word if_form ∷ []) (words a) (words b) (words x) (closer_word then_closer ∷ []) (closer_word else_closer ∷ []) (closer_word end_closer ∷ []) refl refl refl in
       subst (λ (k : Chain). Derives statement (text (words (closed k x)))) (sym w.is)
       (subst (λ ts. Derives statement ts) (sym spelt)
       (chooses (part formula a w.first_fits h.0.1) (part statement-sort b w.second_fits h.1) (part statement-sort x t d)))
 
-  script_derives : FormDerived script-post
+  script_derives : FormDerived script_post
   unfolding words chain_words text
   script_derives e t =
-      let w = at_third c script-pre script-body script-post good e refl refl refl in
+      let w = at_third c script_pre script_body script_post good e refl refl refl in
       let a = w.first in
       let b = w.second in
       let h = subst ChainDerived w.is front in
-      let spelt = three_text (form_word script-form ∷ []) (words a) (words b) (words x) (infix_word semicolon ∷ []) (closer_word post_closer ∷ []) (closer_word end_of_text ∷ []) refl refl refl in
+      let spelt = three_text (form_word script_form ∷ []) (words a) (words b) (words x) (infix_word semicolon ∷ []) (closer_word post_closer ∷ []) (closer_word end_of_text ∷ []) refl refl refl in
       subst (λ (k : Chain). Derives script (text (words (closed k x)))) (sym w.is)
       (subst (λ ts. Derives script ts) (sym spelt)
       (whole (part formula a w.first_fits h.0.1) (part statement-sort b w.second_fits h.1) (part formula x t d)))
 
-  while_derives : FormDerived while-body
+  while_derives : FormDerived while_body
   unfolding words chain_words text
   while_derives e t =
-      let w = at_fourth c while_guard while-keep while-fall while-body good e refl refl refl refl in
+      let w = at_fourth c while_guard while_keep while_fall while_body good e refl refl refl refl in
       let f = w.first in
       let g = w.second in
       let v = w.third in
       let h = subst ChainDerived w.is front in
-      let spelt = four_text (form_word while-form ∷ []) (words f) (words g) (words v) (words x) (closer_word keep-closer ∷ []) (closer_word fall-closer ∷ []) (closer_word do-closer ∷ []) (closer_word end-closer ∷ []) refl refl refl refl in
+      let spelt = four_text (form_word while_form ∷ []) (words f) (words g) (words v) (words x) (closer_word keep_closer ∷ []) (closer_word fall_closer ∷ []) (closer_word do_closer ∷ []) (closer_word end_closer ∷ []) refl refl refl refl in
       subst (λ (k : Chain). Derives statement (text (words (closed k x)))) (sym w.is)
       (subst (λ ts. Derives statement ts) (sym spelt)
       (loops (part formula f w.first_fits h.0.0.1) (part formula g w.second_fits h.0.1) (part expression v w.third_fits h.1) (part statement-sort x t d)))
@@ -91,21 +91,21 @@ module _ (c : Chain) (x : Phrase) (good : GoodChain c) (front : ChainDerived c) 
   form_derives : (p : Place) → next_place p ≡ none → Good x → FormDerived p
   form_derives in_group n g e t =
       subst (λ (k : Chain). Derives (at (sort x) 10) (text (words (closed k x)))) (sym (at_first c in_group good e refl)) (group_derives x (sort x) refl t d)
-  form_derives in-mark n g e t =
-      subst (λ (k : Chain). Derives operand (text (words (closed k x)))) (sym (at_first c in-mark good e refl)) (mark_derives x g t)
-  form_derives when-first n g e t = none_is_not (sym n)
-  form_derives when-second n g e t = none_is_not (sym n)
-  form_derives when-third n g e t = when_derives e t
+  form_derives in_mark n g e t =
+      subst (λ (k : Chain). Derives operand (text (words (closed k x)))) (sym (at_first c in_mark good e refl)) (mark_derives x g t)
+  form_derives when_first n g e t = none_is_not (sym n)
+  form_derives when_second n g e t = none_is_not (sym n)
+  form_derives when_third n g e t = when_derives e t
   form_derives if_guard n g e t = none_is_not (sym n)
-  form_derives if-then n g e t = none_is_not (sym n)
-  form_derives if-else n g e t = if_derives e t
+  form_derives if_then n g e t = none_is_not (sym n)
+  form_derives if_else n g e t = if_derives e t
   form_derives while_guard n g e t = none_is_not (sym n)
-  form_derives while-keep n g e t = none_is_not (sym n)
-  form_derives while-fall n g e t = none_is_not (sym n)
-  form_derives while-body n g e t = while_derives e t
-  form_derives script-pre n g e t = none_is_not (sym n)
-  form_derives script-body n g e t = none_is_not (sym n)
-  form_derives script-post n g e t = script_derives e t
+  form_derives while_keep n g e t = none_is_not (sym n)
+  form_derives while_fall n g e t = none_is_not (sym n)
+  form_derives while_body n g e t = while_derives e t
+  form_derives script_pre n g e t = none_is_not (sym n)
+  form_derives script_body n g e t = none_is_not (sym n)
+  form_derives script_post n g e t = script_derives e t
 
 -- ---- every phrase
 

@@ -6,8 +6,8 @@ use Rattle.script.specs.declared.Operator.TheVariants.{Plus, Minus, Times, Div, 
 use Rattle.script.specs.declared.Connective.TheVariants.{And, Or, Implies}
 use Rattle.grammar.specs.Sorts.{expression, formula, statement as statement-sort}
 use Rattle.grammar.specs.Operators.{semicolon, connective, relation, operator, not_prefix, minus_prefix, assert_prefix, assign_prefix}
-use Rattle.grammar.specs.Forms.{group-form, mark-form, when-form, if-form, while-form, script-form, when-second, when-third, if-then, if-else, while-keep, while-fall, while-body, script-body, script-post}
-use Rattle.grammar.specs.Tokens.{comma-closer, then-closer, else-closer, end-closer, keep-closer, fall-closer, do-closer, post_closer, end_of_text, Token, numeral, infix_word, form_word, closer_word, constant_leaf, number_leaf, variable_leaf, truth_leaf, skip_leaf}
+use Rattle.grammar.specs.Forms.{group_form, mark_form, when_form, if_form, while_form, script_form, when_second, when_third, if_then, if_else, while_keep, while_fall, while_body, script_body, script_post}
+use Rattle.grammar.specs.Tokens.{comma_closer, then_closer, else_closer, end_closer, keep_closer, fall_closer, do_closer, post_closer, end_of_text, Token, numeral, infix_word, form_word, closer_word, constant_leaf, number_leaf, variable_leaf, truth_leaf, skip_leaf}
 use Rattle.grammar.specs.Productions.{Nonterminal, script, statements, statement, implication, disjunction, conjunction, negation, comparison, sum, product, negative, operand, bracket, closing, Derives, whole, last_statement, in_order, skips, assigns, asserts, chooses, loops, to_implication, implies, to_disjunction, or, to_conjunction, and, to_negation, not, compares, a_true, a_false, formula_group, to_sum, plus, minus, to_product, times, divides, remains, to_negative, negates, a_numeral, a_variable, a_mark, a_when, expression_group}
 use Rattle.grammar.specs.Grammar.{Phrase, leaf, closed, begun, more, words, chain_words, Good, GoodChain}
 use Rattle.grammar.specs.PhraseOf.{phrase}
@@ -18,7 +18,7 @@ use Rattle.grammar.specs.DerivedParts.{Part, raised, a_leaf, prefixed, joined, o
 -- ---- forms
 
 module _ {x : Phrase} {ts : List Token} where
-  formula_grouped : Part implication x ts → Part comparison (closed (begun group-form) x) (bracket ∷ ts ++ closing ∷ [])
+  formula_grouped : Part implication x ts → Part comparison (closed (begun group_form) x) (bracket ∷ ts ++ closing ∷ [])
   unfolding Good GoodChain words chain_words text
   formula_grouped p = record {
     good = (tt, p.good, rw p.fits, refl);
@@ -28,7 +28,7 @@ module _ {x : Phrase} {ts : List Token} where
     spelt = one_text (bracket ∷ []) (words x) (closing ∷ []) p.spelt;
   }
 
-  expression_grouped : Part sum x ts → Part operand (closed (begun group-form) x) (bracket ∷ ts ++ closing ∷ [])
+  expression_grouped : Part sum x ts → Part operand (closed (begun group_form) x) (bracket ∷ ts ++ closing ∷ [])
   unfolding Good GoodChain words chain_words text
   expression_grouped p = record {
     good = (tt, p.good, rw p.fits, refl);
@@ -38,7 +38,7 @@ module _ {x : Phrase} {ts : List Token} where
     spelt = one_text (bracket ∷ []) (words x) (closing ∷ []) p.spelt;
   }
 
-marked : (k : ℕ) → Part operand (closed (begun mark-form) (leaf (number_leaf k))) (form_word mark-form ∷ bracket ∷ numeral k ∷ closing ∷ [])
+marked : (k : ℕ) → Part operand (closed (begun mark_form) (leaf (number_leaf k))) (form_word mark_form ∷ bracket ∷ numeral k ∷ closing ∷ [])
 unfolding Good GoodChain words chain_words text
 marked k = record {
   good = (tt, tt, refl, refl);
@@ -50,47 +50,47 @@ marked k = record {
 
 module _ {x y z : Phrase} {us vs ws : List Token} where
   chosen : Part implication x us → Part sum y vs → Part sum z ws
-      → Part operand (closed (more (more (begun when-form) x when-second) y when-third) z)
-      (form_word when-form ∷ bracket ∷ us ++ closer_word comma-closer ∷ vs ++ closer_word comma-closer ∷ ws ++ closing ∷ [])
+      → Part operand (closed (more (more (begun when_form) x when_second) y when_third) z)
+      (form_word when_form ∷ bracket ∷ us ++ closer_word comma_closer ∷ vs ++ closer_word comma_closer ∷ ws ++ closing ∷ [])
   unfolding Good GoodChain words chain_words text
   chosen p q r = record {
     good = (((tt, p.good, own formula x p.fits, refl), q.good, own expression y q.fits, refl), r.good, own expression z r.fits, refl);
     fits = refl;
     high = omega linear;
     bound = omega linear;
-    spelt = three_text (form_word when-form ∷ bracket ∷ []) (words x) (words y) (words z)
-        (closer_word comma-closer ∷ []) (closer_word comma-closer ∷ []) (closing ∷ []) p.spelt q.spelt r.spelt;
+    spelt = three_text (form_word when_form ∷ bracket ∷ []) (words x) (words y) (words z)
+        (closer_word comma_closer ∷ []) (closer_word comma_closer ∷ []) (closing ∷ []) p.spelt q.spelt r.spelt;
   }
 
   branched : Part implication x us → Part statements y vs → Part statements z ws
-      → Part statement (closed (more (more (begun if-form) x if-then) y if-else) z)
-      (form_word if-form ∷ us ++ closer_word then-closer ∷ vs ++ closer_word else-closer ∷ ws ++ closer_word end-closer ∷ [])
+      → Part statement (closed (more (more (begun if_form) x if_then) y if_else) z)
+      (form_word if_form ∷ us ++ closer_word then_closer ∷ vs ++ closer_word else_closer ∷ ws ++ closer_word end_closer ∷ [])
   unfolding Good GoodChain words chain_words text
   branched p q r = record {
     good = (((tt, p.good, own formula x p.fits, refl), q.good, own statement-sort y q.fits, refl), r.good, own statement-sort z r.fits, refl);
     fits = refl;
     high = omega linear;
     bound = omega linear;
-    spelt = three_text (form_word if-form ∷ []) (words x) (words y) (words z)
-        (closer_word then-closer ∷ []) (closer_word else-closer ∷ []) (closer_word end-closer ∷ []) p.spelt q.spelt r.spelt;
+    spelt = three_text (form_word if_form ∷ []) (words x) (words y) (words z)
+        (closer_word then_closer ∷ []) (closer_word else_closer ∷ []) (closer_word end_closer ∷ []) p.spelt q.spelt r.spelt;
   }
 
   all_read : Part implication x us → Part statements y vs → Part implication z ws
-      → Part script (closed (more (more (begun script-form) x script-body) y script-post) z)
-      (form_word script-form ∷ us ++ infix_word semicolon ∷ vs ++ infix_word semicolon ∷ closer_word post_closer ∷ ws ++ closer_word end_of_text ∷ [])
+      → Part script (closed (more (more (begun script_form) x script_body) y script_post) z)
+      (form_word script_form ∷ us ++ infix_word semicolon ∷ vs ++ infix_word semicolon ∷ closer_word post_closer ∷ ws ++ closer_word end_of_text ∷ [])
   unfolding Good GoodChain words chain_words text
   all_read p q r = record {
     good = (((tt, p.good, own formula x p.fits, refl), q.good, own statement-sort y q.fits, refl), r.good, own formula z r.fits, refl);
     fits = refl;
     high = omega linear;
     bound = omega linear;
-    spelt = three_text (form_word script-form ∷ []) (words x) (words y) (words z)
+    spelt = three_text (form_word script_form ∷ []) (words x) (words y) (words z)
         (infix_word semicolon ∷ []) (closer_word post_closer ∷ []) (closer_word end_of_text ∷ []) p.spelt q.spelt r.spelt;
   }
 
 looped : {w x y z : Phrase} {us vs ws zs : List Token} → Part implication w us → Part implication x vs → Part sum y ws → Part statements z zs
-    → Part statement (closed (more (more (more (begun while-form) w while-keep) x while-fall) y while-body) z)
-    (form_word while-form ∷ us ++ closer_word keep-closer ∷ vs ++ closer_word fall-closer ∷ ws ++ closer_word do-closer ∷ zs ++ closer_word end-closer ∷ [])
+    → Part statement (closed (more (more (more (begun while_form) w while_keep) x while_fall) y while_body) z)
+    (form_word while_form ∷ us ++ closer_word keep_closer ∷ vs ++ closer_word fall_closer ∷ ws ++ closer_word do_closer ∷ zs ++ closer_word end_closer ∷ [])
 unfolding Good GoodChain words chain_words text
 looped {w} {x} {y} {z} p q r s = record {
   good = (
@@ -102,8 +102,8 @@ looped {w} {x} {y} {z} p q r s = record {
   fits = refl;
   high = omega linear;
   bound = omega linear;
-  spelt = four_text (form_word while-form ∷ []) (words w) (words x) (words y) (words z)
-      (closer_word keep-closer ∷ []) (closer_word fall-closer ∷ []) (closer_word do-closer ∷ []) (closer_word end-closer ∷ []) p.spelt q.spelt r.spelt s.spelt;
+  spelt = four_text (form_word while_form ∷ []) (words w) (words x) (words y) (words z)
+      (closer_word keep_closer ∷ []) (closer_word fall_closer ∷ []) (closer_word do_closer ∷ []) (closer_word end_closer ∷ []) p.spelt q.spelt r.spelt s.spelt;
 }
 
 -- ---- every production

@@ -5,7 +5,7 @@ use Rattle.std.proofs.Common.{sym, ap, ◌∙◌, append_assoc, append-nil, arit
 use Rattle.script.specs.declared.Relation.TheVariants.{Less}
 use Rattle.grammar.specs.Sorts.{number, expression, formula, statement, script, Hole, only, either, takes}
 use Rattle.grammar.specs.Operators.{relation, top}
-use Rattle.grammar.specs.Forms.{script-form, script-body, script-post}
+use Rattle.grammar.specs.Forms.{script_form, script_body, script_post}
 use Rattle.grammar.specs.Tokens.{Token, numeral, infix_word, constant_leaf, number_leaf, truth_leaf, skip_leaf}
 use Rattle.grammar.specs.Grammar.{Phrase, leaf, between, closed, begun, more, words, sort, binds, Good, GoodChain}
 use Rattle.grammar.specs.States.{Frame, pending, open_at, wants, hole}
@@ -23,7 +23,7 @@ fill (only number) = leaf (number_leaf 1)
 fill (only expression) = leaf (constant_leaf 0)
 fill (only formula) = leaf (truth_leaf true)
 fill (only statement) = leaf skip_leaf
-fill (only script) = closed (more (more (begun script-form) (leaf (truth_leaf true)) script-body) (leaf skip_leaf) script-post) (leaf (truth_leaf true))
+fill (only script) = closed (more (more (begun script_form) (leaf (truth_leaf true)) script_body) (leaf skip_leaf) script_post) (leaf (truth_leaf true))
 fill either = leaf (constant_leaf 0)
 
 fill_good : (h : Hole) → Good (fill h)

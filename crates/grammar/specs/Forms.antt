@@ -9,72 +9,72 @@ use Rattle.grammar.specs.Sorts.{Sort, number, expression, formula, statement, sc
 -- "if F then S else S end, and while F keep F fall E do S end"; "the whole is pre F; S; post F"; "when(F, E, E)";
 -- "mark(k)"; "parentheses"
 pub data Form : Type 0 where
-  group-form mark-form when-form if-form while-form script-form : Form
+  group_form mark_form when_form if_form while_form script_form : Form
 
 pub data Place : Type 0 where
-  in_group in-mark : Place
-  when-first when-second when-third : Place
-  if_guard if-then if-else : Place
-  while_guard while-keep while-fall while-body : Place
-  script-pre script-body script-post : Place
+  in_group in_mark : Place
+  when_first when_second when_third : Place
+  if_guard if_then if_else : Place
+  while_guard while_keep while_fall while_body : Place
+  script_pre script_body script_post : Place
 
 abbrev pub first_place : Form → Place
-first_place group-form = in_group
-first_place mark-form = in-mark
-first_place when-form = when-first
-first_place if-form = if_guard
-first_place while-form = while_guard
-first_place script-form = script-pre
+first_place group_form = in_group
+first_place mark_form = in_mark
+first_place when_form = when_first
+first_place if_form = if_guard
+first_place while_form = while_guard
+first_place script_form = script_pre
 
 -- none after the last
 abbrev pub next_place : Place → Option Place
 next_place in_group = none
-next_place in-mark = none
-next_place when-first = some when-second
-next_place when-second = some when-third
-next_place when-third = none
-next_place if_guard = some if-then
-next_place if-then = some if-else
-next_place if-else = none
-next_place while_guard = some while-keep
-next_place while-keep = some while-fall
-next_place while-fall = some while-body
-next_place while-body = none
-next_place script-pre = some script-body
-next_place script-body = some script-post
-next_place script-post = none
+next_place in_mark = none
+next_place when_first = some when_second
+next_place when_second = some when_third
+next_place when_third = none
+next_place if_guard = some if_then
+next_place if_then = some if_else
+next_place if_else = none
+next_place while_guard = some while_keep
+next_place while_keep = some while_fall
+next_place while_fall = some while_body
+next_place while_body = none
+next_place script_pre = some script_body
+next_place script_body = some script_post
+next_place script_post = none
 
 abbrev pub place_takes : Place → Hole
 place_takes in_group = either
-place_takes in-mark = only number
-place_takes when-first = only formula
-place_takes when-second = only expression
-place_takes when-third = only expression
+place_takes in_mark = only number
+place_takes when_first = only formula
+place_takes when_second = only expression
+place_takes when_third = only expression
 place_takes if_guard = only formula
-place_takes if-then = only statement
-place_takes if-else = only statement
+place_takes if_then = only statement
+place_takes if_else = only statement
 place_takes while_guard = only formula
-place_takes while-keep = only formula
-place_takes while-fall = only expression
-place_takes while-body = only statement
-place_takes script-pre = only formula
-place_takes script-body = only statement
-place_takes script-post = only formula
+place_takes while_keep = only formula
+place_takes while_fall = only expression
+place_takes while_body = only statement
+place_takes script_pre = only formula
+place_takes script_body = only statement
+place_takes script_post = only formula
 
 -- a group makes what it holds; as a beginning it counts as an expression, which may stand wherever a group may
 abbrev pub place_makes : Place → Sort → Sort
 place_makes in_group s = s
-place_makes in-mark s = expression
-place_makes when-first s = expression
-place_makes when-second s = expression
-place_makes when-third s = expression
+place_makes in_mark s = expression
+place_makes when_first s = expression
+place_makes when_second s = expression
+place_makes when_third s = expression
 place_makes if_guard s = statement
-place_makes if-then s = statement
-place_makes if-else s = statement
+place_makes if_then s = statement
+place_makes if_else s = statement
 place_makes while_guard s = statement
-place_makes while-keep s = statement
-place_makes while-fall s = statement
-place_makes while-body s = statement
-place_makes script-pre s = script
-place_makes script-body s = script
-place_makes script-post s = script
+place_makes while_keep s = statement
+place_makes while_fall s = statement
+place_makes while_body s = statement
+place_makes script_pre s = script
+place_makes script_body s = script
+place_makes script_post s = script

@@ -4,7 +4,7 @@ use Rattle.std.specs.Prelude.{◌≡◌, refl, true, false}
 use Rattle.std.proofs.Common.{sym, ◌∙◌}
 use Rattle.grammar.specs.Sorts.{Sort, number, expression, formula, statement, script, Hole, only, either, takes, wide, begins}
 use Rattle.grammar.specs.Operators.{Infix, semicolon, connective, relation, operator, infix_takes, infix_makes}
-use Rattle.grammar.specs.Forms.{Form, group-form, mark-form, when-form, if-form, while-form, script-form, first_place, place_takes, place_makes}
+use Rattle.grammar.specs.Forms.{Form, group_form, mark_form, when_form, if_form, while_form, script_form, first_place, place_takes, place_makes}
 use Rattle.grammar.specs.Automaton.{form_takes}
 use Rattle.grammar.specs.Tests.{false_is_not}
 
@@ -54,22 +54,22 @@ group_takes either s b e = e
 -- what a form takes in a hole, its place takes
 pub form_takes_less : (f : Form) (h : Hole) (s : Sort) → begins h (place_makes (first_place f) expression) ≡ true
     → takes (form_takes h f) s ≡ true → takes (place_takes (first_place f)) s ≡ true
-form_takes_less group-form h s b e = group_takes h s b e
-form_takes_less mark-form h s b e = e
-form_takes_less when-form h s b e = e
-form_takes_less if-form h s b e = e
-form_takes_less while-form h s b e = e
-form_takes_less script-form h s b e = e
+form_takes_less group_form h s b e = group_takes h s b e
+form_takes_less mark_form h s b e = e
+form_takes_less when_form h s b e = e
+form_takes_less if_form h s b e = e
+form_takes_less while_form h s b e = e
+form_takes_less script_form h s b e = e
 
 -- what it then makes may stand in the hole
 pub form_fits : (f : Form) (h : Hole) (s : Sort) → begins h (place_makes (first_place f) expression) ≡ true
     → takes (form_takes h f) s ≡ true → begins h (place_makes (first_place f) s) ≡ true
-form_fits group-form h s b e = e
-form_fits mark-form h s b e = b
-form_fits when-form h s b e = b
-form_fits if-form h s b e = b
-form_fits while-form h s b e = b
-form_fits script-form h s b e = b
+form_fits group_form h s b e = e
+form_fits mark_form h s b e = b
+form_fits when_form h s b e = b
+form_fits if_form h s b e = b
+form_fits while_form h s b e = b
+form_fits script_form h s b e = b
 
 -- a later place is no group's
 

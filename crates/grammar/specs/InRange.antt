@@ -7,7 +7,7 @@ use Rattle.script.specs.Listing.{guarded}
 use Rattle.theorems.specs.Options.{none_is_not, some_inj, held, went_on}
 use Rattle.grammar.specs.Sorts.{Hole, takes, begins}
 use Rattle.grammar.specs.Operators.{semicolon, connective, relation, operator, Infix, infix_makes, not_prefix, minus_prefix, assert_prefix, assign_prefix, tight}
-use Rattle.grammar.specs.Forms.{Place, in_group, in-mark, when-first, when-second, when-third, if_guard, if-then, if-else, while_guard, while-keep, while-fall, while-body, script-pre, script-body, script-post, next_place}
+use Rattle.grammar.specs.Forms.{Place, in_group, in_mark, when_first, when_second, when_third, if_guard, if_then, if_else, while_guard, while_keep, while_fall, while_body, script_pre, script_body, script_post, next_place}
 use Rattle.grammar.specs.Tokens.{Token, Ending, ends, ending, same_ending, beginning}
 use Rattle.grammar.specs.Grammar.{Phrase, Chain, place, words, sort}
 use Rattle.grammar.specs.Text.{is_post, post, Spells}
@@ -41,20 +41,20 @@ no_minus (open_at h c ∷ fs) n l b = refl
 -- a body is the last part
 pub next_no_body : (p q : Place) → next_place p ≡ some q → begins_body p ≡ false
 next_no_body in_group q e = refl
-next_no_body in-mark q e = refl
-next_no_body when-first q e = refl
-next_no_body when-second q e = refl
-next_no_body when-third q e = refl
+next_no_body in_mark q e = refl
+next_no_body when_first q e = refl
+next_no_body when_second q e = refl
+next_no_body when_third q e = refl
 next_no_body if_guard q e = refl
-next_no_body if-then q e = refl
-next_no_body if-else q e = refl
+next_no_body if_then q e = refl
+next_no_body if_else q e = refl
 next_no_body while_guard q e = refl
-next_no_body while-keep q e = refl
-next_no_body while-fall q e = refl
-next_no_body while-body q e = none_is_not e
-next_no_body script-pre q e = refl
-next_no_body script-body q e = refl
-next_no_body script-post q e = refl
+next_no_body while_keep q e = refl
+next_no_body while_fall q e = refl
+next_no_body while_body q e = none_is_not e
+next_no_body script_pre q e = refl
+next_no_body script_body q e = refl
+next_no_body script_post q e = refl
 
 advance_flags : (o : Option Place) (h : Hole) (c : Chain) (x : Phrase) (fs : List Frame) → next_place (place c) ≡ o
     → state_flags (advance o c x fs) ≡ part_flags x (open_at h c ∷ fs)

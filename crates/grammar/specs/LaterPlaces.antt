@@ -3,7 +3,7 @@
 use Rattle.std.specs.Prelude.{◌≡◌, refl, List, [], ◌∷◌, Bool, true}
 use Rattle.std.proofs.Math.Option.{none, some}
 use Rattle.grammar.specs.Sorts.{statement, only}
-use Rattle.grammar.specs.Forms.{Place, in_group, in-mark, when-first, when-second, when-third, if_guard, if-then, if-else, while_guard, while-keep, while-fall, while-body, script-pre, script-body, script-post, next_place, place_takes}
+use Rattle.grammar.specs.Forms.{Place, in_group, in_mark, when_first, when_second, when_third, if_guard, if_then, if_else, while_guard, while_keep, while_fall, while_body, script_pre, script_body, script_post, next_place, place_takes}
 use Rattle.grammar.specs.Tokens.{by_closer, post_closer, same_ending, ending}
 use Rattle.grammar.specs.Tests.{false_is_not}
 
@@ -11,20 +11,20 @@ use Rattle.grammar.specs.Tests.{false_is_not}
 
 abbrev pub later : Place → List Place
 later in_group = []
-later in-mark = []
-later when-first = when-second ∷ when-third ∷ []
-later when-second = when-third ∷ []
-later when-third = []
-later if_guard = if-then ∷ if-else ∷ []
-later if-then = if-else ∷ []
-later if-else = []
-later while_guard = while-keep ∷ while-fall ∷ while-body ∷ []
-later while-keep = while-fall ∷ while-body ∷ []
-later while-fall = while-body ∷ []
-later while-body = []
-later script-pre = script-body ∷ script-post ∷ []
-later script-body = script-post ∷ []
-later script-post = []
+later in_mark = []
+later when_first = when_second ∷ when_third ∷ []
+later when_second = when_third ∷ []
+later when_third = []
+later if_guard = if_then ∷ if_else ∷ []
+later if_then = if_else ∷ []
+later if_else = []
+later while_guard = while_keep ∷ while_fall ∷ while_body ∷ []
+later while_keep = while_fall ∷ while_body ∷ []
+later while_fall = while_body ∷ []
+later while_body = []
+later script_pre = script_body ∷ script_post ∷ []
+later script_body = script_post ∷ []
+later script_post = []
 
 abbrev pub Later : Place → List Place → Type 0
 Later p [] = next_place p ≡ none
@@ -32,20 +32,20 @@ Later p (q ∷ qs) = (next_place p ≡ some q) × (later q ≡ qs)
 
 pub later_is : (p : Place) → Later p (later p)
 later_is in_group = refl
-later_is in-mark = refl
-later_is when-first = (refl, refl)
-later_is when-second = (refl, refl)
-later_is when-third = refl
+later_is in_mark = refl
+later_is when_first = (refl, refl)
+later_is when_second = (refl, refl)
+later_is when_third = refl
 later_is if_guard = (refl, refl)
-later_is if-then = (refl, refl)
-later_is if-else = refl
+later_is if_then = (refl, refl)
+later_is if_else = refl
 later_is while_guard = (refl, refl)
-later_is while-keep = (refl, refl)
-later_is while-fall = (refl, refl)
-later_is while-body = refl
-later_is script-pre = (refl, refl)
-later_is script-body = (refl, refl)
-later_is script-post = refl
+later_is while_keep = (refl, refl)
+later_is while_fall = (refl, refl)
+later_is while_body = refl
+later_is script_pre = (refl, refl)
+later_is script_body = (refl, refl)
+later_is script_post = refl
 
 -- ---- the place that post ends
 
@@ -54,17 +54,17 @@ ends_by_post p = same_ending (by_closer post_closer) (ending p)
 
 pub post_takes : (p : Place) → ends_by_post p ≡ true → place_takes p ≡ only statement
 post_takes in_group e = false_is_not e
-post_takes in-mark e = false_is_not e
-post_takes when-first e = false_is_not e
-post_takes when-second e = false_is_not e
-post_takes when-third e = false_is_not e
+post_takes in_mark e = false_is_not e
+post_takes when_first e = false_is_not e
+post_takes when_second e = false_is_not e
+post_takes when_third e = false_is_not e
 post_takes if_guard e = false_is_not e
-post_takes if-then e = false_is_not e
-post_takes if-else e = false_is_not e
+post_takes if_then e = false_is_not e
+post_takes if_else e = false_is_not e
 post_takes while_guard e = false_is_not e
-post_takes while-keep e = false_is_not e
-post_takes while-fall e = false_is_not e
-post_takes while-body e = false_is_not e
-post_takes script-pre e = false_is_not e
-post_takes script-body e = refl
-post_takes script-post e = false_is_not e
+post_takes while_keep e = false_is_not e
+post_takes while_fall e = false_is_not e
+post_takes while_body e = false_is_not e
+post_takes script_pre e = false_is_not e
+post_takes script_body e = refl
+post_takes script_post e = false_is_not e

@@ -4,7 +4,7 @@
 use Rattle.std.specs.Prelude.{ℕ, ◌+◌, ◌≤◌, List, [], ◌∷◌, ◌++◌, Bool, true, false, cond, length}
 use Rattle.std.proofs.Math.Option.{Option, none, some}
 use Rattle.std.proofs.Common.{arith as linear, length-append}
-use Rattle.grammar.specs.Forms.{Place, in_group, in-mark, when-first, when-second, when-third, if_guard, if-then, if-else, while_guard, while-keep, while-fall, while-body, script-pre, script-body, script-post}
+use Rattle.grammar.specs.Forms.{Place, in_group, in_mark, when_first, when_second, when_third, if_guard, if_then, if_else, while_guard, while_keep, while_fall, while_body, script_pre, script_body, script_post}
 use Rattle.grammar.specs.Tokens.{Token, infix_word, ending, ending_word, Leaf, constant_leaf, number_leaf, variable_leaf, truth_leaf, skip_leaf, prefix_opening}
 use Rattle.grammar.specs.Grammar.{Phrase, leaf, before, between, closed, Chain, begun, more, place, opening_words, words, chain_words}
 use Rattle.grammar.specs.Counts.{negated, size, chain_size, leaf_size, prefix_size, form_size, note_size, begins_body}
@@ -25,20 +25,20 @@ prefix_fits (some z) n m h = omega linear
 
 form_fits : (p : Place) → form_size p ≤ 1
 form_fits in_group = omega linear
-form_fits in-mark = omega linear
-form_fits when-first = omega linear
-form_fits when-second = omega linear
-form_fits when-third = omega linear
+form_fits in_mark = omega linear
+form_fits when_first = omega linear
+form_fits when_second = omega linear
+form_fits when_third = omega linear
 form_fits if_guard = omega linear
-form_fits if-then = omega linear
-form_fits if-else = omega linear
+form_fits if_then = omega linear
+form_fits if_else = omega linear
 form_fits while_guard = omega linear
-form_fits while-keep = omega linear
-form_fits while-fall = omega linear
-form_fits while-body = omega linear
-form_fits script-pre = omega linear
-form_fits script-body = omega linear
-form_fits script-post = omega linear
+form_fits while_keep = omega linear
+form_fits while_fall = omega linear
+form_fits while_body = omega linear
+form_fits script_pre = omega linear
+form_fits script_body = omega linear
+form_fits script_post = omega linear
 
 note_fits : (q : Place) → note_size q ≤ 1
 note_fits q = at (begins_body q)

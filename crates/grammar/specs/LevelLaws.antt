@@ -6,7 +6,7 @@ use Rattle.script.specs.declared.Operator.TheVariants.{Plus, Minus, Times, Div, 
 use Rattle.script.specs.declared.Connective.TheVariants.{And, Or, Implies}
 use Rattle.grammar.specs.Sorts.{Sort, number, expression, formula, statement, script, same_sort, only, begins}
 use Rattle.grammar.specs.Operators.{Infix, semicolon, connective, relation, operator, Prefix, not_prefix, minus_prefix, assert_prefix, assign_prefix, prefix_makes, infix_level, infix_binds, prefix_level, tight, top}
-use Rattle.grammar.specs.Tokens.{Token, numeral, variable, truth_word, skip-word, not-word, assert-word, becomes, infix_word, form_word, closer_word}
+use Rattle.grammar.specs.Tokens.{Token, numeral, variable, truth_word, skip_word, not_word, assert_word, becomes, infix_word, form_word, closer_word}
 use Rattle.grammar.specs.Grammar.{Phrase, leaf, before, between, closed, sort, level, binds}
 use Rattle.grammar.specs.States.{Pending, prefix, infix_after, wants, holds}
 use Rattle.grammar.specs.Automaton.{token_binds}
@@ -81,9 +81,9 @@ pub binds_tight : (t : Token) → token_binds t ≤ tight
 binds_tight (numeral n) = omega linear
 binds_tight (variable v) = omega linear
 binds_tight (truth_word b) = omega linear
-binds_tight skip-word = omega linear
-binds_tight not-word = omega linear
-binds_tight assert-word = omega linear
+binds_tight skip_word = omega linear
+binds_tight not_word = omega linear
+binds_tight assert_word = omega linear
 binds_tight becomes = omega linear
 binds_tight (infix_word o) = infix_tight o
 binds_tight (form_word f) = omega linear

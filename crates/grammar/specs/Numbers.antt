@@ -6,8 +6,8 @@ use Rattle.script.specs.declared.Operator.TheVariants.{Plus, Minus, Times, Div, 
 use Rattle.script.specs.declared.Relation.TheVariants.{Less, AtMost, Equal, Unequal}
 use Rattle.script.specs.declared.Connective.TheVariants.{And, Or, Implies}
 use Rattle.grammar.specs.Operators.{Infix, semicolon, connective, relation, operator}
-use Rattle.grammar.specs.Forms.{Form, group-form, mark-form, when-form, if-form, while-form, script-form}
-use Rattle.grammar.specs.Tokens.{Closer, bracket-closer, comma-closer, then-closer, else-closer, end-closer, keep-closer, fall-closer, do-closer, post_closer, end_of_text, Token, numeral, variable, truth_word, skip-word, not-word, assert-word, becomes, infix_word, form_word, closer_word}
+use Rattle.grammar.specs.Forms.{Form, group_form, mark_form, when_form, if_form, while_form, script_form}
+use Rattle.grammar.specs.Tokens.{Closer, bracket_closer, comma_closer, then_closer, else_closer, end_closer, keep_closer, fall_closer, do_closer, post_closer, end_of_text, Token, numeral, variable, truth_word, skip_word, not_word, assert_word, becomes, infix_word, form_word, closer_word}
 
 abbrev pub infix_number : Infix → ℕ
 infix_number semicolon = 34
@@ -25,22 +25,22 @@ infix_number (operator Div) = 6
 infix_number (operator Mod) = 7
 
 abbrev pub form_number : Form → ℕ
-form_number group-form = 40
-form_number mark-form = 9
-form_number when-form = 10
-form_number if-form = 35
-form_number while-form = 36
-form_number script-form = 48
+form_number group_form = 40
+form_number mark_form = 9
+form_number when_form = 10
+form_number if_form = 35
+form_number while_form = 36
+form_number script_form = 48
 
 abbrev pub closer_number : Closer → ℕ
-closer_number bracket-closer = 41
-closer_number comma-closer = 42
-closer_number then-closer = 43
-closer_number else-closer = 44
-closer_number end-closer = 45
-closer_number keep-closer = 46
-closer_number fall-closer = 47
-closer_number do-closer = 49
+closer_number bracket_closer = 41
+closer_number comma_closer = 42
+closer_number then_closer = 43
+closer_number else_closer = 44
+closer_number end_closer = 45
+closer_number keep_closer = 46
+closer_number fall_closer = 47
+closer_number do_closer = 49
 closer_number post_closer = 50
 closer_number end_of_text = 51
 
@@ -48,9 +48,9 @@ unfoldable pub token_number : Token → ℕ
 token_number (numeral n) = 1
 token_number (variable v) = 2
 token_number (truth_word b) = cond b 16 17
-token_number skip-word = 32
-token_number not-word = 22
-token_number assert-word = 38
+token_number skip_word = 32
+token_number not_word = 22
+token_number assert_word = 38
 token_number becomes = 33
 token_number (infix_word o) = infix_number o
 token_number (form_word f) = form_number f
@@ -64,9 +64,9 @@ unfoldable pub token_value : Token → ℕ
 token_value (numeral n) = min n most
 token_value (variable v) = min v most
 token_value (truth_word b) = 0
-token_value skip-word = 0
-token_value not-word = 0
-token_value assert-word = 0
+token_value skip_word = 0
+token_value not_word = 0
+token_value assert_word = 0
 token_value becomes = 0
 token_value (infix_word o) = 0
 token_value (form_word f) = 0

@@ -4,7 +4,7 @@ use Rattle.std.specs.Prelude.{ℕ, ◌+◌, ◌≡◌, refl, List, [], ◌∷◌
 use Rattle.std.proofs.Common.{ap, ◌∙◌, arith as linear}
 use Rattle.std.proofs.Math.Option.{Option, none, some}
 use Rattle.grammar.specs.Operators.{Prefix}
-use Rattle.grammar.specs.Forms.{Form, group-form, mark-form, when-form, if-form, while-form, script-form, first_place, Place, in_group, in-mark, when-first, when-second, when-third, if_guard, if-then, if-else, while_guard, while-keep, while-fall, while-body, script-pre, script-body, script-post}
+use Rattle.grammar.specs.Forms.{Form, group_form, mark_form, when_form, if_form, while_form, script_form, first_place, Place, in_group, in_mark, when_first, when_second, when_third, if_guard, if_then, if_else, while_guard, while_keep, while_fall, while_body, script_pre, script_body, script_post}
 use Rattle.grammar.specs.Grammar.{Phrase, leaf, before, between, closed, Chain, begun, more, place, Good, GoodChain}
 use Rattle.grammar.specs.Counts.{negated, minus, size, chain_size, form_size, begins_body, last, roots}
 use Rattle.grammar.specs.Rows.{Quad, prefix_row, prefix_rows, counts, by_row, inside, table, chain_table}
@@ -16,28 +16,28 @@ use Rattle.grammar.specs.Renamed.{Passes, nothing_passes, constant_passes, leaf_
 
 body_size : (p : Place) → begins_body p ≡ true → form_size p ≡ 1
 body_size in_group k = false_is_not k
-body_size in-mark k = refl
-body_size when-first k = refl
-body_size when-second k = refl
-body_size when-third k = refl
+body_size in_mark k = refl
+body_size when_first k = refl
+body_size when_second k = refl
+body_size when_third k = refl
 body_size if_guard k = refl
-body_size if-then k = refl
-body_size if-else k = refl
+body_size if_then k = refl
+body_size if_else k = refl
 body_size while_guard k = refl
-body_size while-keep k = refl
-body_size while-fall k = refl
-body_size while-body k = refl
-body_size script-pre k = refl
-body_size script-body k = refl
-body_size script-post k = refl
+body_size while_keep k = refl
+body_size while_fall k = refl
+body_size while_body k = refl
+body_size script_pre k = refl
+body_size script_body k = refl
+body_size script_post k = refl
 
 pub first_no_body : (f : Form) → begins_body (first_place f) ≡ false
-first_no_body group-form = refl
-first_no_body mark-form = refl
-first_no_body when-form = refl
-first_no_body if-form = refl
-first_no_body while-form = refl
-first_no_body script-form = refl
+first_no_body group_form = refl
+first_no_body mark_form = refl
+first_no_body when_form = refl
+first_no_body if_form = refl
+first_no_body while_form = refl
+first_no_body script_form = refl
 
 same_loops : (q : Bool) (i j : ℕ) (ls : List ℕ) → (q ≡ true → i ≡ j) → cond q (i ∷ ls) ls ≡ cond q (j ∷ ls) ls
 same_loops true i j ls h = ap (λ (r : ℕ). r ∷ ls) (h refl)

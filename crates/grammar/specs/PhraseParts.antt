@@ -7,7 +7,7 @@ use Rattle.script.specs.declared.Operator.TheVariants.{Plus, Minus, Times, Div, 
 use Rattle.script.specs.declared.Connective.TheVariants.{And, Or, Implies}
 use Rattle.grammar.specs.Sorts.{Sort, sort-discrete, number, expression, formula, statement as statement-sort, script as script-sort, same_sort, only, takes}
 use Rattle.grammar.specs.Operators.{Infix, semicolon, connective, relation, operator, Prefix, not_prefix, minus_prefix, assert_prefix, assign_prefix, infix_takes, infix_makes, infix_level, infix_binds, prefix_takes, prefix_makes, prefix_level}
-use Rattle.grammar.specs.Forms.{Place, in_group, in-mark, when-first, when-second, when-third, if_guard, if-then, if-else, while_guard, while-keep, while-fall, while-body, script-pre, script-body, script-post, group-form, mark-form, place_takes, place_makes}
+use Rattle.grammar.specs.Forms.{Place, in_group, in_mark, when_first, when_second, when_third, if_guard, if_then, if_else, while_guard, while_keep, while_fall, while_body, script_pre, script_body, script_post, group_form, mark_form, place_takes, place_makes}
 use Rattle.grammar.specs.Tokens.{infix_word, Leaf, constant_leaf, number_leaf, variable_leaf, truth_leaf, skip_leaf, leaf_makes, leaf_word, prefix_opening}
 use Rattle.grammar.specs.Productions.{comparison, operand, bracket, closing, Derives, in_order, skips, assigns, asserts, implies, or, and, not, compares, a_true, a_false, formula_group, plus, minus, times, divides, remains, negates, a_numeral, a_variable, a_mark, expression_group}
 use Rattle.grammar.specs.Grammar.{Phrase, leaf, before, between, closed, begun, place, opening_words, words, chain_words, sort, level, binds, Good}
@@ -70,23 +70,23 @@ no_number in_group expression t e = false_is_not e
 no_number in_group formula t e = false_is_not e
 no_number in_group statement-sort t e = false_is_not e
 no_number in_group script-sort t e = false_is_not e
-no_number in-mark s t e = false_is_not e
-no_number when-first s t e = false_is_not e
-no_number when-second s t e = false_is_not e
-no_number when-third s t e = false_is_not e
+no_number in_mark s t e = false_is_not e
+no_number when_first s t e = false_is_not e
+no_number when_second s t e = false_is_not e
+no_number when_third s t e = false_is_not e
 no_number if_guard s t e = false_is_not e
-no_number if-then s t e = false_is_not e
-no_number if-else s t e = false_is_not e
+no_number if_then s t e = false_is_not e
+no_number if_else s t e = false_is_not e
 no_number while_guard s t e = false_is_not e
-no_number while-keep s t e = false_is_not e
-no_number while-fall s t e = false_is_not e
-no_number while-body s t e = false_is_not e
-no_number script-pre s t e = false_is_not e
-no_number script-body s t e = false_is_not e
-no_number script-post s t e = false_is_not e
+no_number while_keep s t e = false_is_not e
+no_number while_fall s t e = false_is_not e
+no_number while_body s t e = false_is_not e
+no_number script_pre s t e = false_is_not e
+no_number script_body s t e = false_is_not e
+no_number script_post s t e = false_is_not e
 
 -- a mark holds a numeral only
-pub mark_derives : (x : Phrase) → Good x → takes (only number) (sort x) ≡ true → Derives operand (text (words (closed (begun mark-form) x)))
+pub mark_derives : (x : Phrase) → Good x → takes (only number) (sort x) ≡ true → Derives operand (text (words (closed (begun mark_form) x)))
 unfolding Good words chain_words text
 mark_derives (leaf (constant_leaf n)) g t = false_is_not t
 mark_derives (leaf (number_leaf k)) g t = a_mark k
@@ -104,7 +104,7 @@ mark_derives (between (operator o) x y) g t = false_is_not t
 mark_derives (closed c x) g t = absurd (no_number (place c) (sort x) g.2 t)
 
 pub group_derives : (x : Phrase) (s : Sort) → sort x ≡ s → takes (place_takes in_group) s ≡ true → Derived x
-    → Derives (at s 10) (text (words (closed (begun group-form) x)))
+    → Derives (at s 10) (text (words (closed (begun group_form) x)))
 unfolding words chain_words text
 group_derives x number e t d = false_is_not t
 group_derives x expression e t d =

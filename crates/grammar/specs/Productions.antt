@@ -7,8 +7,8 @@ use Rattle.script.specs.declared.Operator.TheVariants.{Plus, Minus, Times, Div, 
 use Rattle.script.specs.declared.Relation.{Relation}
 use Rattle.script.specs.declared.Connective.TheVariants.{And, Or, Implies}
 use Rattle.grammar.specs.Operators.{semicolon, connective, relation, operator}
-use Rattle.grammar.specs.Forms.{group-form, mark-form, when-form, if-form, while-form, script-form}
-use Rattle.grammar.specs.Tokens.{bracket-closer, comma-closer, then-closer, else-closer, end-closer, keep-closer, fall-closer, do-closer, post_closer, end_of_text, Token, numeral, variable, truth_word, skip-word, not-word, assert-word, becomes, infix_word, form_word, closer_word}
+use Rattle.grammar.specs.Forms.{group_form, mark_form, when_form, if_form, while_form, script_form}
+use Rattle.grammar.specs.Tokens.{bracket_closer, comma_closer, then_closer, else_closer, end_closer, keep_closer, fall_closer, do_closer, post_closer, end_of_text, Token, numeral, variable, truth_word, skip_word, not_word, assert_word, becomes, infix_word, form_word, closer_word}
 
 pub data Nonterminal : Type 0 where
   -- S of 02's sentences is `statements`
@@ -20,26 +20,26 @@ pub data Nonterminal : Type 0 where
 
 -- ( and )
 abbrev pub bracket : Token
-bracket = form_word group-form
+bracket = form_word group_form
 
 abbrev pub closing : Token
-closing = closer_word bracket-closer
+closing = closer_word bracket_closer
 
 pub data Derives : Nonterminal → List Token → Type 0 where
   -- "the whole is pre F; S; post F"
   whole : {fs ss gs : List Token} → Derives implication fs → Derives statements ss → Derives implication gs
-      → Derives script (form_word script-form ∷ fs ++ infix_word semicolon ∷ ss ++ infix_word semicolon ∷ closer_word post_closer ∷ gs ++ closer_word end_of_text ∷ [])
+      → Derives script (form_word script_form ∷ fs ++ infix_word semicolon ∷ ss ++ infix_word semicolon ∷ closer_word post_closer ∷ gs ++ closer_word end_of_text ∷ [])
   -- "joined by semicolons to the right"
   last_statement : {ts : List Token} → Derives statement ts → Derives statements ts
   in_order : {ss ts : List Token} → Derives statement ss → Derives statements ts → Derives statements (ss ++ infix_word semicolon ∷ ts)
   -- "skip, v := E, assert F, if F then S else S end, and while F keep F fall E do S end"
-  skips : Derives statement (skip-word ∷ [])
+  skips : Derives statement (skip_word ∷ [])
   assigns : (v : ℕ) {es : List Token} → Derives sum es → Derives statement (variable v ∷ becomes ∷ es)
-  asserts : {fs : List Token} → Derives implication fs → Derives statement (assert-word ∷ fs)
+  asserts : {fs : List Token} → Derives implication fs → Derives statement (assert_word ∷ fs)
   chooses : {fs ss ts : List Token} → Derives implication fs → Derives statements ss → Derives statements ts
-      → Derives statement (form_word if-form ∷ fs ++ closer_word then-closer ∷ ss ++ closer_word else-closer ∷ ts ++ closer_word end-closer ∷ [])
+      → Derives statement (form_word if_form ∷ fs ++ closer_word then_closer ∷ ss ++ closer_word else_closer ∷ ts ++ closer_word end_closer ∷ [])
   loops : {fs gs es ss : List Token} → Derives implication fs → Derives implication gs → Derives sum es → Derives statements ss
-      → Derives statement (form_word while-form ∷ fs ++ closer_word keep-closer ∷ gs ++ closer_word fall-closer ∷ es ++ closer_word do-closer ∷ ss ++ closer_word end-closer ∷ [])
+      → Derives statement (form_word while_form ∷ fs ++ closer_word keep_closer ∷ gs ++ closer_word fall_closer ∷ es ++ closer_word do_closer ∷ ss ++ closer_word end_closer ∷ [])
   -- "Binding from loosest: implies (to the right)"
   to_implication : {ts : List Token} → Derives disjunction ts → Derives implication ts
   implies : {fs gs : List Token} → Derives disjunction fs → Derives implication gs
@@ -53,7 +53,7 @@ pub data Derives : Nonterminal → List Token → Type 0 where
       → Derives conjunction (fs ++ infix_word (connective And) ∷ gs)
   -- "not"
   to_negation : {ts : List Token} → Derives comparison ts → Derives negation ts
-  not : {fs : List Token} → Derives negation fs → Derives negation (not-word ∷ fs)
+  not : {fs : List Token} → Derives negation fs → Derives negation (not_word ∷ fs)
   -- "one comparison <, <=, = or <>"; "true and false are formulas, parentheses group either sort"
   compares : (r : Relation) {ds es : List Token} → Derives sum ds → Derives sum es
       → Derives comparison (ds ++ infix_word (relation r) ∷ es)
@@ -78,7 +78,7 @@ pub data Derives : Nonterminal → List Token → Type 0 where
   -- another matter
   a_numeral : (n : ℕ) → Derives operand (numeral n ∷ [])
   a_variable : (v : ℕ) → Derives operand (variable v ∷ [])
-  a_mark : (k : ℕ) → Derives operand (form_word mark-form ∷ bracket ∷ numeral k ∷ closing ∷ [])
+  a_mark : (k : ℕ) → Derives operand (form_word mark_form ∷ bracket ∷ numeral k ∷ closing ∷ [])
   a_when : {fs ds es : List Token} → Derives implication fs → Derives sum ds → Derives sum es
-      → Derives operand (form_word when-form ∷ bracket ∷ fs ++ closer_word comma-closer ∷ ds ++ closer_word comma-closer ∷ es ++ closing ∷ [])
+      → Derives operand (form_word when_form ∷ bracket ∷ fs ++ closer_word comma_closer ∷ ds ++ closer_word comma_closer ∷ es ++ closing ∷ [])
   expression_group : {es : List Token} → Derives sum es → Derives operand (bracket ∷ es ++ closing ∷ [])

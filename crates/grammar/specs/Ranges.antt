@@ -5,7 +5,7 @@ use Rattle.std.proofs.Math.Option.{Option, none, some}
 use Rattle.grammar.specs.Sorts.{number, begins}
 use Rattle.grammar.specs.Operators.{Prefix, not_prefix, minus_prefix, assert_prefix, assign_prefix}
 use Rattle.grammar.specs.Forms.{Place}
-use Rattle.grammar.specs.Tokens.{Token, numeral, variable, truth_word, skip-word, not-word, assert-word, becomes, infix_word, form_word, closer_word, Leaf, constant_leaf, number_leaf, variable_leaf, truth_leaf, skip_leaf}
+use Rattle.grammar.specs.Tokens.{Token, numeral, variable, truth_word, skip_word, not_word, assert_word, becomes, infix_word, form_word, closer_word, Leaf, constant_leaf, number_leaf, variable_leaf, truth_leaf, skip_leaf}
 use Rattle.grammar.specs.Grammar.{Phrase, leaf, before, between, closed, Chain, begun, more, place}
 use Rattle.grammar.specs.Counts.{begins_body}
 use Rattle.grammar.specs.States.{prefix, infix_after, Frame, pending, open_at, hole, Mode, operand, after, due, State}
@@ -78,9 +78,9 @@ abbrev pub operand_flag : List Frame → Token → List Bool
 operand_flag fs (numeral n) = cond (begins (hole fs) number) (mark_fits (depth fs) n) (leb n (limit (after_minus fs))) ∷ []
 operand_flag fs (variable v) = variable_fits v ∷ []
 operand_flag fs (truth_word b) = []
-operand_flag fs skip-word = []
-operand_flag fs not-word = []
-operand_flag fs assert-word = []
+operand_flag fs skip_word = []
+operand_flag fs not_word = []
+operand_flag fs assert_word = []
 operand_flag fs becomes = []
 operand_flag fs (infix_word o) = []
 operand_flag fs (form_word f) = []

@@ -11,7 +11,7 @@ use Rattle.script.specs.declared.Relation.TheVariants.{Less, AtMost, Equal, Uneq
 use Rattle.script.specs.declared.Connective.TheVariants.{And, Or, Implies}
 use Rattle.theorems.specs.Options.{none_is_not}
 use Rattle.grammar.specs.Operators.{Infix, semicolon, connective, relation, operator, Prefix, not_prefix, minus_prefix, assert_prefix, assign_prefix}
-use Rattle.grammar.specs.Forms.{next_place, Place, in_group, in-mark, when-first, when-second, when-third, if_guard, if-then, if-else, while_guard, while-keep, while-fall, while-body, script-pre, script-body, script-post}
+use Rattle.grammar.specs.Forms.{next_place, Place, in_group, in_mark, when_first, when_second, when_third, if_guard, if_then, if_else, while_guard, while_keep, while_fall, while_body, script_pre, script_body, script_post}
 use Rattle.grammar.specs.Tokens.{Leaf, constant_leaf, number_leaf, variable_leaf, truth_leaf, skip_leaf}
 use Rattle.grammar.specs.Counts.{begins_body}
 use Rattle.grammar.specs.Rows.{Quad, quad, constant, leaf_rows, prefix_row, infix_kind, nth_loop, form_rows, note_rows}
@@ -106,20 +106,20 @@ pub form_passes : (p : Place) (m : ℕ) (rs : List ℕ) (r b : ℕ) (ls : List �
     → Passes (form_rows p m rs r) b ls (cond (begins_body p) (b ∷ ls) ls) (form_rows p (nth_loop ls m) rs r)
 unfolding after_pass pass_rows
 form_passes in_group m rs r b ls e = (refl, refl)
-form_passes in-mark m rs r b ls e = (refl, refl)
-form_passes when-first m rs r b ls e = none_is_not (sym e)
-form_passes when-second m rs r b ls e = none_is_not (sym e)
-form_passes when-third m rs r b ls e = (refl, refl)
+form_passes in_mark m rs r b ls e = (refl, refl)
+form_passes when_first m rs r b ls e = none_is_not (sym e)
+form_passes when_second m rs r b ls e = none_is_not (sym e)
+form_passes when_third m rs r b ls e = (refl, refl)
 form_passes if_guard m rs r b ls e = none_is_not (sym e)
-form_passes if-then m rs r b ls e = none_is_not (sym e)
-form_passes if-else m rs r b ls e = (refl, refl)
+form_passes if_then m rs r b ls e = none_is_not (sym e)
+form_passes if_else m rs r b ls e = (refl, refl)
 form_passes while_guard m rs r b ls e = none_is_not (sym e)
-form_passes while-keep m rs r b ls e = none_is_not (sym e)
-form_passes while-fall m rs r b ls e = none_is_not (sym e)
-form_passes while-body m rs r b ls e = (refl, refl)
-form_passes script-pre m rs r b ls e = none_is_not (sym e)
-form_passes script-body m rs r b ls e = none_is_not (sym e)
-form_passes script-post m rs r b ls e = (refl, refl)
+form_passes while_keep m rs r b ls e = none_is_not (sym e)
+form_passes while_fall m rs r b ls e = none_is_not (sym e)
+form_passes while_body m rs r b ls e = (refl, refl)
+form_passes script_pre m rs r b ls e = none_is_not (sym e)
+form_passes script_body m rs r b ls e = none_is_not (sym e)
+form_passes script_post m rs r b ls e = (refl, refl)
 
 -- ---- parts of the rows
 

@@ -7,7 +7,7 @@ use Rattle.std.specs.Prelude.{ℕ, ◌+◌, ◌-◌, List, [], ◌∷◌, ◌++�
 use Rattle.std.proofs.Math.Option.{Option, none, some}
 use Rattle.script.specs.Words.{op_word, rel_word, conn_word}
 use Rattle.grammar.specs.Operators.{Infix, semicolon, connective, relation, operator, Prefix, not_prefix, minus_prefix, assert_prefix, assign_prefix}
-use Rattle.grammar.specs.Forms.{Place, in_group, in-mark, when-first, when-second, when-third, if_guard, if-then, if-else, while_guard, while-keep, while-fall, while-body, script-pre, script-body, script-post}
+use Rattle.grammar.specs.Forms.{Place, in_group, in_mark, when_first, when_second, when_third, if_guard, if_then, if_else, while_guard, while_keep, while_fall, while_body, script_pre, script_body, script_post}
 use Rattle.grammar.specs.Tokens.{Leaf, constant_leaf, number_leaf, variable_leaf, truth_leaf, skip_leaf}
 use Rattle.grammar.specs.Grammar.{Phrase, leaf, before, between, closed, Chain, begun, more, place}
 use Rattle.grammar.specs.Counts.{negated, minus, form_size, begins_body, size, chain_size, last, roots}
@@ -74,20 +74,20 @@ three k rs r = quad k (get_or rs 1 0) (get_or rs 0 0) r ∷ []
 -- the row of a form: the parts before the last end at rs, the last at r, and m is the loop of a mark
 abbrev pub form_rows : Place → ℕ → List ℕ → ℕ → List Quad
 form_rows in_group m rs r = []
-form_rows in-mark m rs r = quad (pos 9) m 0 0 ∷ []
-form_rows when-first m rs r = three (pos 10) rs r
-form_rows when-second m rs r = three (pos 10) rs r
-form_rows when-third m rs r = three (pos 10) rs r
+form_rows in_mark m rs r = quad (pos 9) m 0 0 ∷ []
+form_rows when_first m rs r = three (pos 10) rs r
+form_rows when_second m rs r = three (pos 10) rs r
+form_rows when_third m rs r = three (pos 10) rs r
 form_rows if_guard m rs r = three (pos 35) rs r
-form_rows if-then m rs r = three (pos 35) rs r
-form_rows if-else m rs r = three (pos 35) rs r
+form_rows if_then m rs r = three (pos 35) rs r
+form_rows if_else m rs r = three (pos 35) rs r
 form_rows while_guard m rs r = three (pos 36) rs r
-form_rows while-keep m rs r = three (pos 36) rs r
-form_rows while-fall m rs r = three (pos 36) rs r
-form_rows while-body m rs r = three (pos 36) rs r
-form_rows script-pre m rs r = three (pos 48) rs r
-form_rows script-body m rs r = three (pos 48) rs r
-form_rows script-post m rs r = three (pos 48) rs r
+form_rows while_keep m rs r = three (pos 36) rs r
+form_rows while_fall m rs r = three (pos 36) rs r
+form_rows while_body m rs r = three (pos 36) rs r
+form_rows script_pre m rs r = three (pos 48) rs r
+form_rows script_body m rs r = three (pos 48) rs r
+form_rows script_post m rs r = three (pos 48) rs r
 
 abbrev pub note_rows : Bool → List ℕ → ℕ → List Quad
 note_rows false rs r = []

@@ -8,7 +8,7 @@ use Rattle.script.specs.Rows.{row_of, row}
 use Rattle.script.specs.Trees.{expr as expr_in, formula as formula_in, stmt as stmt_in}
 use Rattle.theorems.specs.Options.{none_is_not}
 use Rattle.grammar.specs.Sorts.{Sort, sort-discrete, expression, formula, statement, only, takes}
-use Rattle.grammar.specs.Forms.{Place, in_group, in-mark, when-first, when-second, when-third, if_guard, if-then, if-else, while_guard, while-keep, while-fall, while-body, script-pre, script-body, script-post, place_takes, place_makes, next_place, while-form}
+use Rattle.grammar.specs.Forms.{Place, in_group, in_mark, when_first, when_second, when_third, if_guard, if_then, if_else, while_guard, while_keep, while_fall, while_body, script_pre, script_body, script_post, place_takes, place_makes, next_place, while_form}
 use Rattle.grammar.specs.Grammar.{Phrase, Chain, begun, more, place, sort, GoodChain}
 use Rattle.grammar.specs.Counts.{size, chain_size, form_size, begins_body, last, roots}
 use Rattle.grammar.specs.Rows.{Quad, quad, nth_loop, counts, form_rows, note_rows}
@@ -52,15 +52,15 @@ module _ (ws : List ℤ) where
     keeps : formula_in ws n keep ≡ to_formula (nth (chain_values ls b c) 1)
     falls : expr_in ws n fall ≡ to_expr (nth (chain_values ls b c) 0)
 
-  loop_means : (c : Chain) (n : ℕ) (ls : List ℕ) (b : ℕ) → Three c while_guard while-keep while-fall while-body → ChainMeans n ls b c → Loop n ls b c
+  loop_means : (c : Chain) (n : ℕ) (ls : List ℕ) (b : ℕ) → Three c while_guard while_keep while_fall while_body → ChainMeans n ls b c → Loop n ls b c
   unfolding roots chain_values
   loop_means c n ls b w h =
-      let e = begun while-form in
-      let f = more e w.first while-keep in
-      let g = more f w.second while-fall in
-      let d = more g w.third while-body in
+      let e = begun while_form in
+      let f = more e w.first while_keep in
+      let g = more f w.second while_fall in
+      let d = more g w.third while_body in
       let k : ChainMeans n ls b d = subst (λ (k : Chain). ChainMeans n ls b k) w.is h in
-      let third = sort_is while-fall w.third expression refl w.third_fits in
+      let third = sort_is while_fall w.third expression refl w.third_fits in
       let one : 1 ≤ size w.third = sized w.third (rw third) in
       subst (λ (k : Chain). Loop n ls b k) (sym w.is)
       (record {
@@ -68,7 +68,7 @@ module _ (ws : List ℤ) where
         keep = last (b + chain_size f) (size w.second);
         fall = last (b + chain_size g) (size w.third);
         note = (stands_at ws (quad (pos 37) (last (b + chain_size f) (size w.second)) (last (b + chain_size g) (size w.third)) 0 ∷ []) (omega linear) k.2).0;
-        keeps = rw (sort_is while-keep w.second formula refl w.second_fits) at k.0.1;
+        keeps = rw (sort_is while_keep w.second formula refl w.second_fits) at k.0.1;
         falls = rw third at k.1;
       })
 
@@ -92,19 +92,19 @@ module _ (ws : List ℤ) where
     group_means : FormMeans in_group
     group_means n e t l m h = subst (λ (r : ℕ). Means ws (sort x) n r v) (omega linear) (part n l (omega linear))
 
-    mark_means : FormMeans in-mark
+    mark_means : FormMeans in_mark
     unfolding expr_in row_of
     mark_means zero e t l m h = absurd (omega linear)
     mark_means (suc n) e t l m h = rw (own_row (quad (pos 9) (nth_loop ls (counts x)) 0 0) h)
 
-    when_means : FormMeans when-third
+    when_means : FormMeans when_third
     unfolding expr_in row_of
     when_means zero e t l m h = absurd (omega linear)
     when_means (suc n) e t l m h =
-        let s = sort_is when-third x expression refl t in
+        let s = sort_is when_third x expression refl t in
         let one : 1 ≤ size x = sized x (rw s) in
-        let w = at_third c when-first when-second when-third good e refl refl refl in
-        let ps = two_means c when-first when-second when-third formula expression n ls b w refl refl refl refl (front n (omega linear) (omega linear)) in
+        let w = at_third c when_first when_second when_third good e refl refl refl in
+        let ps = two_means c when_first when_second when_third formula expression n ls b w refl refl refl refl (front n (omega linear) (omega linear)) in
         rw (
           own_row (quad (pos 10) (get_or (roots b c) 1 0) (get_or (roots b c) 0 0) (last (b + chain_size c) (size x))) h,
           ps.0,
@@ -112,14 +112,14 @@ module _ (ws : List ℤ) where
           (rw s at (part n (omega linear) (omega linear))),
         )
 
-    if_means : FormMeans if-else
+    if_means : FormMeans if_else
     unfolding stmt_in row_of
     if_means zero e t l m h = absurd (omega linear)
     if_means (suc n) e t l m h =
-        let s = sort_is if-else x statement refl t in
+        let s = sort_is if_else x statement refl t in
         let one : 1 ≤ size x = sized x (rw s) in
-        let w = at_third c if_guard if-then if-else good e refl refl refl in
-        let ps = two_means c if_guard if-then if-else formula statement n ls b w refl refl refl refl (front n (omega linear) (omega linear)) in
+        let w = at_third c if_guard if_then if_else good e refl refl refl in
+        let ps = two_means c if_guard if_then if_else formula statement n ls b w refl refl refl refl (front n (omega linear) (omega linear)) in
         rw (
           own_row (quad (pos 35) (get_or (roots b c) 1 0) (get_or (roots b c) 0 0) (last (b + chain_size c) (size x))) h,
           ps.0,
@@ -127,13 +127,13 @@ module _ (ws : List ℤ) where
           (rw s at (part n (omega linear) (omega linear))),
         )
 
-    script_means : FormMeans script-post
+    script_means : FormMeans script_post
     unfolding row_of
     script_means n e t l m h =
-        let s = sort_is script-post x formula refl t in
+        let s = sort_is script_post x formula refl t in
         let one : 1 ≤ size x = sized x (rw s) in
-        let w = at_third c script-pre script-body script-post good e refl refl refl in
-        let ps = two_means c script-pre script-body script-post formula statement n ls b w refl refl refl refl (front n l (omega linear)) in
+        let w = at_third c script_pre script_body script_post good e refl refl refl in
+        let ps = two_means c script_pre script_body script_post formula statement n ls b w refl refl refl refl (front n l (omega linear)) in
         rw (
           own_row (quad (pos 48) (get_or (roots b c) 1 0) (get_or (roots b c) 0 0) (last (b + chain_size c) (size x))) h,
           ps.0,
@@ -141,13 +141,13 @@ module _ (ws : List ℤ) where
           (rw s at (part n l (omega linear))),
         )
 
-    while_means : FormMeans while-body
+    while_means : FormMeans while_body
     unfolding stmt_in row_of
     while_means zero e t l m h = absurd (omega linear)
     while_means (suc n) e t l m h =
-        let s = sort_is while-body x statement refl t in
+        let s = sort_is while_body x statement refl t in
         let one : 1 ≤ size x = sized x (rw s) in
-        let w = at_fourth c while_guard while-keep while-fall while-body good e refl refl refl refl in
+        let w = at_fourth c while_guard while_keep while_fall while_body good e refl refl refl refl in
         let k = loop_means c n ls b w (front n (omega linear) (omega linear)) in
         rw (
           own_row (quad (pos 36) (get_or (roots b c) 1 0) (get_or (roots b c) 0 0) (last (b + chain_size c) (size x))) h,
@@ -160,17 +160,17 @@ module _ (ws : List ℤ) where
 
     pub form_means : (p : Place) → next_place p ≡ none → FormMeans p
     form_means in_group k = group_means
-    form_means in-mark k = mark_means
-    form_means when-first k = none_is_not (sym k)
-    form_means when-second k = none_is_not (sym k)
-    form_means when-third k = when_means
+    form_means in_mark k = mark_means
+    form_means when_first k = none_is_not (sym k)
+    form_means when_second k = none_is_not (sym k)
+    form_means when_third k = when_means
     form_means if_guard k = none_is_not (sym k)
-    form_means if-then k = none_is_not (sym k)
-    form_means if-else k = if_means
+    form_means if_then k = none_is_not (sym k)
+    form_means if_else k = if_means
     form_means while_guard k = none_is_not (sym k)
-    form_means while-keep k = none_is_not (sym k)
-    form_means while-fall k = none_is_not (sym k)
-    form_means while-body k = while_means
-    form_means script-pre k = none_is_not (sym k)
-    form_means script-body k = none_is_not (sym k)
-    form_means script-post k = script_means
+    form_means while_keep k = none_is_not (sym k)
+    form_means while_fall k = none_is_not (sym k)
+    form_means while_body k = while_means
+    form_means script_pre k = none_is_not (sym k)
+    form_means script_body k = none_is_not (sym k)
+    form_means script_post k = script_means

@@ -9,8 +9,8 @@ use Rattle.script.specs.declared.Operator.TheVariants.{Plus, Minus, Times, Div, 
 use Rattle.script.specs.declared.Relation.TheVariants.{Less, AtMost, Equal, Unequal}
 use Rattle.script.specs.declared.Connective.TheVariants.{And, Or, Implies}
 use Rattle.grammar.specs.Operators.{semicolon, connective, relation, operator}
-use Rattle.grammar.specs.Forms.{group-form, mark-form, when-form, if-form, while-form, script-form}
-use Rattle.grammar.specs.Tokens.{Token, numeral, variable, truth_word, skip-word, not-word, assert-word, becomes, infix_word, form_word, closer_word, bracket-closer, comma-closer, then-closer, else-closer, end-closer, keep-closer, fall-closer, do-closer, post_closer, end_of_text}
+use Rattle.grammar.specs.Forms.{group_form, mark_form, when_form, if_form, while_form, script_form}
+use Rattle.grammar.specs.Tokens.{Token, numeral, variable, truth_word, skip_word, not_word, assert_word, becomes, infix_word, form_word, closer_word, bracket_closer, comma_closer, then_closer, else_closer, end_closer, keep_closer, fall_closer, do_closer, post_closer, end_of_text}
 
 -- the bytes of an ASCII text
 abbrev pub bytes : String → List ℕ
@@ -63,21 +63,21 @@ spelt s t = record { bytes = bytes s; token = t }
 
 abbrev pub keywords : List Spelling
 keywords =
-    spelt "pre" (form_word script-form) ∷ spelt "post" (closer_word post_closer) ∷ spelt "skip" skip-word ∷ spelt "assert" assert-word
-    ∷ spelt "if" (form_word if-form) ∷ spelt "then" (closer_word then-closer) ∷ spelt "else" (closer_word else-closer)
-    ∷ spelt "end" (closer_word end-closer) ∷ spelt "while" (form_word while-form) ∷ spelt "keep" (closer_word keep-closer)
-    ∷ spelt "fall" (closer_word fall-closer) ∷ spelt "do" (closer_word do-closer) ∷ spelt "implies" (infix_word (connective Implies))
-    ∷ spelt "or" (infix_word (connective Or)) ∷ spelt "and" (infix_word (connective And)) ∷ spelt "not" not-word
-    ∷ spelt "div" (infix_word (operator Div)) ∷ spelt "mod" (infix_word (operator Mod)) ∷ spelt "mark" (form_word mark-form)
-    ∷ spelt "when" (form_word when-form) ∷ spelt "true" (truth_word true) ∷ spelt "false" (truth_word false) ∷ []
+    spelt "pre" (form_word script_form) ∷ spelt "post" (closer_word post_closer) ∷ spelt "skip" skip_word ∷ spelt "assert" assert_word
+    ∷ spelt "if" (form_word if_form) ∷ spelt "then" (closer_word then_closer) ∷ spelt "else" (closer_word else_closer)
+    ∷ spelt "end" (closer_word end_closer) ∷ spelt "while" (form_word while_form) ∷ spelt "keep" (closer_word keep_closer)
+    ∷ spelt "fall" (closer_word fall_closer) ∷ spelt "do" (closer_word do_closer) ∷ spelt "implies" (infix_word (connective Implies))
+    ∷ spelt "or" (infix_word (connective Or)) ∷ spelt "and" (infix_word (connective And)) ∷ spelt "not" not_word
+    ∷ spelt "div" (infix_word (operator Div)) ∷ spelt "mod" (infix_word (operator Mod)) ∷ spelt "mark" (form_word mark_form)
+    ∷ spelt "when" (form_word when_form) ∷ spelt "true" (truth_word true) ∷ spelt "false" (truth_word false) ∷ []
 
 -- longer ones first
 abbrev pub symbols : List Spelling
 symbols =
     spelt ":=" becomes ∷ spelt "<=" (infix_word (relation AtMost)) ∷ spelt "<>" (infix_word (relation Unequal))
     ∷ spelt "<" (infix_word (relation Less)) ∷ spelt "=" (infix_word (relation Equal)) ∷ spelt "+" (infix_word (operator Plus))
-    ∷ spelt "-" (infix_word (operator Minus)) ∷ spelt "*" (infix_word (operator Times)) ∷ spelt "(" (form_word group-form)
-    ∷ spelt ")" (closer_word bracket-closer) ∷ spelt "," (closer_word comma-closer) ∷ spelt ";" (infix_word semicolon) ∷ []
+    ∷ spelt "-" (infix_word (operator Minus)) ∷ spelt "*" (infix_word (operator Times)) ∷ spelt "(" (form_word group_form)
+    ∷ spelt ")" (closer_word bracket_closer) ∷ spelt "," (closer_word comma_closer) ∷ spelt ";" (infix_word semicolon) ∷ []
 
 -- a token, and how many bytes it has
 pub record Found : Type 0 where

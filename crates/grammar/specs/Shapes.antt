@@ -4,75 +4,75 @@ use Rattle.std.proofs.Common.{sym, ap, ◌∙◌}
 use Rattle.std.proofs.Math.Option.{Option, none, some}
 use Rattle.theorems.specs.Options.{none_is_not, some_inj}
 use Rattle.grammar.specs.Sorts.{takes}
-use Rattle.grammar.specs.Forms.{Form, group-form, mark-form, when-form, if-form, while-form, script-form, Place, in_group, in-mark, when-first, when-second, when-third, if_guard, if-then, if-else, while_guard, while-keep, while-fall, while-body, script-pre, script-body, script-post, first_place, next_place, place_takes}
+use Rattle.grammar.specs.Forms.{Form, group_form, mark_form, when_form, if_form, while_form, script_form, Place, in_group, in_mark, when_first, when_second, when_third, if_guard, if_then, if_else, while_guard, while_keep, while_fall, while_body, script_pre, script_body, script_post, first_place, next_place, place_takes}
 use Rattle.grammar.specs.Grammar.{Phrase, Chain, begun, more, place, sort, GoodChain}
 
 abbrev pub prev : Place → Option Place
 prev in_group = none
-prev in-mark = none
-prev when-first = none
-prev when-second = some when-first
-prev when-third = some when-second
+prev in_mark = none
+prev when_first = none
+prev when_second = some when_first
+prev when_third = some when_second
 prev if_guard = none
-prev if-then = some if_guard
-prev if-else = some if-then
+prev if_then = some if_guard
+prev if_else = some if_then
 prev while_guard = none
-prev while-keep = some while_guard
-prev while-fall = some while-keep
-prev while-body = some while-fall
-prev script-pre = none
-prev script-body = some script-pre
-prev script-post = some script-body
+prev while_keep = some while_guard
+prev while_fall = some while_keep
+prev while_body = some while_fall
+prev script_pre = none
+prev script_body = some script_pre
+prev script_post = some script_body
 
 abbrev pub form_of : Place → Form
-form_of in_group = group-form
-form_of in-mark = mark-form
-form_of when-first = when-form
-form_of when-second = when-form
-form_of when-third = when-form
-form_of if_guard = if-form
-form_of if-then = if-form
-form_of if-else = if-form
-form_of while_guard = while-form
-form_of while-keep = while-form
-form_of while-fall = while-form
-form_of while-body = while-form
-form_of script-pre = script-form
-form_of script-body = script-form
-form_of script-post = script-form
+form_of in_group = group_form
+form_of in_mark = mark_form
+form_of when_first = when_form
+form_of when_second = when_form
+form_of when_third = when_form
+form_of if_guard = if_form
+form_of if_then = if_form
+form_of if_else = if_form
+form_of while_guard = while_form
+form_of while_keep = while_form
+form_of while_fall = while_form
+form_of while_body = while_form
+form_of script_pre = script_form
+form_of script_body = script_form
+form_of script_post = script_form
 
 next_prev : (p q : Place) → next_place p ≡ some q → prev q ≡ some p
 next_prev in_group q e = none_is_not e
-next_prev in-mark q e = none_is_not e
-next_prev when-first q e = ap prev (sym (some_inj e))
-next_prev when-second q e = ap prev (sym (some_inj e))
-next_prev when-third q e = none_is_not e
+next_prev in_mark q e = none_is_not e
+next_prev when_first q e = ap prev (sym (some_inj e))
+next_prev when_second q e = ap prev (sym (some_inj e))
+next_prev when_third q e = none_is_not e
 next_prev if_guard q e = ap prev (sym (some_inj e))
-next_prev if-then q e = ap prev (sym (some_inj e))
-next_prev if-else q e = none_is_not e
+next_prev if_then q e = ap prev (sym (some_inj e))
+next_prev if_else q e = none_is_not e
 next_prev while_guard q e = ap prev (sym (some_inj e))
-next_prev while-keep q e = ap prev (sym (some_inj e))
-next_prev while-fall q e = ap prev (sym (some_inj e))
-next_prev while-body q e = none_is_not e
-next_prev script-pre q e = ap prev (sym (some_inj e))
-next_prev script-body q e = ap prev (sym (some_inj e))
-next_prev script-post q e = none_is_not e
+next_prev while_keep q e = ap prev (sym (some_inj e))
+next_prev while_fall q e = ap prev (sym (some_inj e))
+next_prev while_body q e = none_is_not e
+next_prev script_pre q e = ap prev (sym (some_inj e))
+next_prev script_body q e = ap prev (sym (some_inj e))
+next_prev script_post q e = none_is_not e
 
 first_prev : (f : Form) → prev (first_place f) ≡ none
-first_prev group-form = refl
-first_prev mark-form = refl
-first_prev when-form = refl
-first_prev if-form = refl
-first_prev while-form = refl
-first_prev script-form = refl
+first_prev group_form = refl
+first_prev mark_form = refl
+first_prev when_form = refl
+first_prev if_form = refl
+first_prev while_form = refl
+first_prev script_form = refl
 
 form_first : (f : Form) → form_of (first_place f) ≡ f
-form_first group-form = refl
-form_first mark-form = refl
-form_first when-form = refl
-form_first if-form = refl
-form_first while-form = refl
-form_first script-form = refl
+form_first group_form = refl
+form_first mark_form = refl
+form_first when_form = refl
+form_first if_form = refl
+form_first while_form = refl
+form_first script_form = refl
 
 -- a first place has nothing before it
 pub at_first : (c : Chain) (p : Place) → GoodChain c → place c ≡ p → prev p ≡ none → c ≡ begun (form_of p)

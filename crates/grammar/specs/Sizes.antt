@@ -6,7 +6,7 @@ use Rattle.std.proofs.Math.Option.{Option, none, some}
 use mathlib.Core.Bool.{Bool, true, false}
 use Rattle.grammar.specs.Sorts.{Sort, number, same_sort}
 use Rattle.grammar.specs.Operators.{Infix, semicolon, connective, relation, operator, infix_takes, Prefix, not_prefix, minus_prefix, assert_prefix, assign_prefix, prefix_takes}
-use Rattle.grammar.specs.Forms.{Place, place_makes, in_group, in-mark, when-first, when-second, when-third, if_guard, if-then, if-else, while_guard, while-keep, while-fall, while-body, script-pre, script-body, script-post}
+use Rattle.grammar.specs.Forms.{Place, place_makes, in_group, in_mark, when_first, when_second, when_third, if_guard, if_then, if_else, while_guard, while_keep, while_fall, while_body, script_pre, script_body, script_post}
 use Rattle.grammar.specs.Tokens.{Leaf, constant_leaf, number_leaf, variable_leaf, truth_leaf, skip_leaf}
 use Rattle.grammar.specs.Grammar.{Phrase, leaf, before, between, closed, Chain, begun, more, place, sort}
 use Rattle.grammar.specs.Counts.{negated, size, chain_size, leaf_size, prefix_size, form_size, note_size, begins_body, last, roots}
@@ -26,20 +26,20 @@ prefix_length p (some z) r n rs e = refl
 
 form_length : (p : Place) (m : ℕ) (rs : List ℕ) (r : ℕ) → length (form_rows p m rs r) ≡ form_size p
 form_length in_group m rs r = refl
-form_length in-mark m rs r = refl
-form_length when-first m rs r = refl
-form_length when-second m rs r = refl
-form_length when-third m rs r = refl
+form_length in_mark m rs r = refl
+form_length when_first m rs r = refl
+form_length when_second m rs r = refl
+form_length when_third m rs r = refl
 form_length if_guard m rs r = refl
-form_length if-then m rs r = refl
-form_length if-else m rs r = refl
+form_length if_then m rs r = refl
+form_length if_else m rs r = refl
 form_length while_guard m rs r = refl
-form_length while-keep m rs r = refl
-form_length while-fall m rs r = refl
-form_length while-body m rs r = refl
-form_length script-pre m rs r = refl
-form_length script-body m rs r = refl
-form_length script-post m rs r = refl
+form_length while_keep m rs r = refl
+form_length while_fall m rs r = refl
+form_length while_body m rs r = refl
+form_length script_pre m rs r = refl
+form_length script_body m rs r = refl
+form_length script_post m rs r = refl
 
 note_length : (q : Place) (rs : List ℕ) (r : ℕ) → length (note_rows (begins_body q) rs r) ≡ note_size q
 note_length q rs r = at (begins_body q)
@@ -75,20 +75,20 @@ module _ (by : Naming) where
 sized_form : (p : Place) (n k : ℕ) (s : Sort) → (same_sort s number ≡ false → 1 ≤ n) → same_sort (place_makes p s) number ≡ false
     → 1 ≤ k + n + form_size p
 sized_form in_group n k s h e = omega (linear, h e)
-sized_form in-mark n k s h e = omega linear
-sized_form when-first n k s h e = omega linear
-sized_form when-second n k s h e = omega linear
-sized_form when-third n k s h e = omega linear
+sized_form in_mark n k s h e = omega linear
+sized_form when_first n k s h e = omega linear
+sized_form when_second n k s h e = omega linear
+sized_form when_third n k s h e = omega linear
 sized_form if_guard n k s h e = omega linear
-sized_form if-then n k s h e = omega linear
-sized_form if-else n k s h e = omega linear
+sized_form if_then n k s h e = omega linear
+sized_form if_else n k s h e = omega linear
 sized_form while_guard n k s h e = omega linear
-sized_form while-keep n k s h e = omega linear
-sized_form while-fall n k s h e = omega linear
-sized_form while-body n k s h e = omega linear
-sized_form script-pre n k s h e = omega linear
-sized_form script-body n k s h e = omega linear
-sized_form script-post n k s h e = omega linear
+sized_form while_keep n k s h e = omega linear
+sized_form while_fall n k s h e = omega linear
+sized_form while_body n k s h e = omega linear
+sized_form script_pre n k s h e = omega linear
+sized_form script_body n k s h e = omega linear
+sized_form script_post n k s h e = omega linear
 
 sized_prefix : (o : Option ℕ) (n : ℕ) → 1 ≤ prefix_size o n
 sized_prefix none n = omega linear

@@ -7,7 +7,7 @@ use Rattle.script.specs.Listing.{◌>>=◌, guarded}
 use Rattle.theorems.specs.Options.{none_is_not, some_inj, held, went_on}
 use Rattle.grammar.specs.Sorts.{expression, script, Hole, only, either, number, formula, statement, takes, wide, begins}
 use Rattle.grammar.specs.Operators.{semicolon, connective, relation, operator, not_prefix, minus_prefix, assert_prefix, assign_prefix}
-use Rattle.grammar.specs.Forms.{Place, in_group, in-mark, when-first, when-second, when-third, if_guard, if-then, if-else, while_guard, while-keep, while-fall, while-body, script-pre, script-body, script-post, next_place, place_takes, place_makes, group-form, mark-form, when-form, if-form, while-form, script-form}
+use Rattle.grammar.specs.Forms.{Place, in_group, in_mark, when_first, when_second, when_third, if_guard, if_then, if_else, while_guard, while_keep, while_fall, while_body, script_pre, script_body, script_post, next_place, place_takes, place_makes, group_form, mark_form, when_form, if_form, while_form, script_form}
 use Rattle.grammar.specs.Tokens.{end_of_text, by_closer, ending, same_ending, Token, closer_word}
 use Rattle.grammar.specs.Grammar.{Phrase, closed, Chain, begun, more, place, sort}
 use Rattle.grammar.specs.States.{Pending, prefix, infix_after, Frame, pending, open_at, wants, hole, Mode, operand, after, due, State, at, start}
@@ -61,20 +61,20 @@ stops_exactly ts e = stop_from ts [] start refl e
 
 place_not_script : (p : Place) → begins (place_takes p) script ≡ false
 place_not_script in_group = refl
-place_not_script in-mark = refl
-place_not_script when-first = refl
-place_not_script when-second = refl
-place_not_script when-third = refl
+place_not_script in_mark = refl
+place_not_script when_first = refl
+place_not_script when_second = refl
+place_not_script when_third = refl
 place_not_script if_guard = refl
-place_not_script if-then = refl
-place_not_script if-else = refl
+place_not_script if_then = refl
+place_not_script if_else = refl
 place_not_script while_guard = refl
-place_not_script while-keep = refl
-place_not_script while-fall = refl
-place_not_script while-body = refl
-place_not_script script-pre = refl
-place_not_script script-body = refl
-place_not_script script-post = refl
+place_not_script while_keep = refl
+place_not_script while_fall = refl
+place_not_script while_body = refl
+place_not_script script_pre = refl
+place_not_script script_body = refl
+place_not_script script_post = refl
 
 group_not_script : (h : Hole) → begins h expression ≡ true → begins (wide h) script ≡ false
 group_not_script (only number) e = refl
@@ -85,12 +85,12 @@ group_not_script (only script) e = false_is_not e
 group_not_script either e = refl
 
 chain_not_script : (c : Chain) (h : Hole) → begins h (place_makes (place c) expression) ≡ true → begins (chain_takes h c) script ≡ false
-chain_not_script (begun group-form) h e = group_not_script h e
-chain_not_script (begun mark-form) h e = refl
-chain_not_script (begun when-form) h e = refl
-chain_not_script (begun if-form) h e = refl
-chain_not_script (begun while-form) h e = refl
-chain_not_script (begun script-form) h e = refl
+chain_not_script (begun group_form) h e = group_not_script h e
+chain_not_script (begun mark_form) h e = refl
+chain_not_script (begun when_form) h e = refl
+chain_not_script (begun if_form) h e = refl
+chain_not_script (begun while_form) h e = refl
+chain_not_script (begun script_form) h e = refl
 chain_not_script (more c x q) h e = place_not_script q
 
 wants_no_script : (f : Pending) → begins (only (wants f)) script ≡ false
@@ -112,22 +112,22 @@ at_bottom (open_at h c ∷ fs) g e =
     let on = g.1 in
     false_is_not (sym (chain_not_script c (hole fs) on.2) ∙ ap (λ (i : Hole). begins i script) (sym on.1) ∙ e)
 
-end_place : (p : Place) → same_ending (by_closer end_of_text) (ending p) ≡ true → p ≡ script-post
+end_place : (p : Place) → same_ending (by_closer end_of_text) (ending p) ≡ true → p ≡ script_post
 end_place in_group e = false_is_not e
-end_place in-mark e = false_is_not e
-end_place when-first e = false_is_not e
-end_place when-second e = false_is_not e
-end_place when-third e = false_is_not e
+end_place in_mark e = false_is_not e
+end_place when_first e = false_is_not e
+end_place when_second e = false_is_not e
+end_place when_third e = false_is_not e
 end_place if_guard e = false_is_not e
-end_place if-then e = false_is_not e
-end_place if-else e = false_is_not e
+end_place if_then e = false_is_not e
+end_place if_else e = false_is_not e
 end_place while_guard e = false_is_not e
-end_place while-keep e = false_is_not e
-end_place while-fall e = false_is_not e
-end_place while-body e = false_is_not e
-end_place script-pre e = false_is_not e
-end_place script-body e = false_is_not e
-end_place script-post e = refl
+end_place while_keep e = false_is_not e
+end_place while_fall e = false_is_not e
+end_place while_body e = false_is_not e
+end_place script_pre e = false_is_not e
+end_place script_body e = false_is_not e
+end_place script_post e = refl
 
 Whole : State → Type 0
 Whole s = (x : Phrase) × (s ≡ at (after x) [])

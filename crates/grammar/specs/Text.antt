@@ -3,16 +3,16 @@
 use Rattle.std.specs.Prelude.{◌≡◌, List, [], ◌∷◌, ◌++◌, Bool, false, cond}
 use Rattle.grammar.specs.Sorts.{same, script}
 use Rattle.grammar.specs.Operators.{semicolon}
-use Rattle.grammar.specs.Tokens.{closer-discrete, post_closer, Token, numeral, variable, truth_word, skip-word, not-word, assert-word, becomes, infix_word, form_word, closer_word}
+use Rattle.grammar.specs.Tokens.{closer-discrete, post_closer, Token, numeral, variable, truth_word, skip_word, not_word, assert_word, becomes, infix_word, form_word, closer_word}
 use Rattle.grammar.specs.Grammar.{Phrase, words, sort, Good}
 
 abbrev pub is_post : Token → Bool
 is_post (numeral n) = false
 is_post (variable v) = false
 is_post (truth_word b) = false
-is_post skip-word = false
-is_post not-word = false
-is_post assert-word = false
+is_post skip_word = false
+is_post not_word = false
+is_post assert_word = false
 is_post becomes = false
 is_post (infix_word o) = false
 is_post (form_word f) = false

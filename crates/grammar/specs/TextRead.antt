@@ -7,7 +7,7 @@ use Rattle.script.specs.Listing.{◌>>=◌, guarded}
 use Rattle.theorems.specs.Options.{none_is_not, some_inj, held, went_on}
 use Rattle.grammar.specs.Sorts.{sort-discrete, statement, same_sort, Hole, only, takes, begins}
 use Rattle.grammar.specs.Operators.{semicolon}
-use Rattle.grammar.specs.Forms.{next_place, group-form, mark-form, when-form, if-form, while-form, script-form}
+use Rattle.grammar.specs.Forms.{next_place, group_form, mark_form, when_form, if_form, while_form, script_form}
 use Rattle.grammar.specs.Tokens.{post_closer, by_closer, Token, infix_word}
 use Rattle.grammar.specs.Grammar.{Phrase, Chain, begun, more, place, words, sort}
 use Rattle.grammar.specs.Text.{is_post, post, text, Spells}
@@ -44,12 +44,12 @@ reduce_split (pending f ∷ fs) x r e =
 
 -- where post ends a place, that place takes statements
 post_chain : (h : Hole) (c : Chain) → ends_by_post (place c) ≡ true → chain_takes h c ≡ only statement
-post_chain h (begun group-form) e = false_is_not e
-post_chain h (begun mark-form) e = false_is_not e
-post_chain h (begun when-form) e = false_is_not e
-post_chain h (begun if-form) e = false_is_not e
-post_chain h (begun while-form) e = false_is_not e
-post_chain h (begun script-form) e = false_is_not e
+post_chain h (begun group_form) e = false_is_not e
+post_chain h (begun mark_form) e = false_is_not e
+post_chain h (begun when_form) e = false_is_not e
+post_chain h (begun if_form) e = false_is_not e
+post_chain h (begun while_form) e = false_is_not e
+post_chain h (begun script_form) e = false_is_not e
 post_chain h (more c x q) e = post_takes q e
 
 -- so a statement stands before it, where a statement may be

@@ -6,7 +6,7 @@ use Rattle.std.proofs.Math.Option.{some}
 use Rattle.theorems.specs.Options.{none_is_not, some_inj, went_on}
 use Rattle.grammar.specs.Sorts.{sort-discrete, script}
 use Rattle.grammar.specs.Operators.{semicolon, connective, relation, operator}
-use Rattle.grammar.specs.Tokens.{closer-discrete, post_closer, Token, numeral, variable, truth_word, skip-word, not-word, assert-word, becomes, infix_word, form_word, closer_word}
+use Rattle.grammar.specs.Tokens.{closer-discrete, post_closer, Token, numeral, variable, truth_word, skip_word, not_word, assert_word, becomes, infix_word, form_word, closer_word}
 use Rattle.grammar.specs.Grammar.{Phrase, words, sort, binds}
 use Rattle.grammar.specs.Text.{is_post, post, spelled, text, Spells}
 use Rattle.grammar.specs.States.{prefix, infix_after, Frame, pending, open_at, Mode, operand, after, due, State, at, start}
@@ -28,9 +28,9 @@ pub post_known : (t : Token) → is_post t ≡ true → t ≡ post
 post_known (numeral n) e = false_is_not e
 post_known (variable v) e = false_is_not e
 post_known (truth_word b) e = false_is_not e
-post_known skip-word e = false_is_not e
-post_known not-word e = false_is_not e
-post_known assert-word e = false_is_not e
+post_known skip_word e = false_is_not e
+post_known not_word e = false_is_not e
+post_known assert_word e = false_is_not e
 post_known becomes e = false_is_not e
 post_known (infix_word o) e = false_is_not e
 post_known (form_word f) e = false_is_not e

@@ -4,7 +4,7 @@ use Rattle.std.proofs.Math.Option.{Option, none, some}
 use Rattle.script.specs.Syntax.{Expr, const, var, mark, arith, neg, choose, Formula, truth, cmp, not, join, Stmt, skip, assign, seq, branch, loop, assert, Tree}
 use Rattle.script.specs.Trees.{no_expr, no_formula, no_tree}
 use Rattle.grammar.specs.Operators.{Infix, semicolon, connective, relation, operator, Prefix, not_prefix, minus_prefix, assert_prefix, assign_prefix}
-use Rattle.grammar.specs.Forms.{Place, in_group, in-mark, when-first, when-second, when-third, if_guard, if-then, if-else, while_guard, while-keep, while-fall, while-body, script-pre, script-body, script-post}
+use Rattle.grammar.specs.Forms.{Place, in_group, in_mark, when_first, when_second, when_third, if_guard, if_then, if_else, while_guard, while_keep, while_fall, while_body, script_pre, script_body, script_post}
 use Rattle.grammar.specs.Tokens.{Leaf, constant_leaf, number_leaf, variable_leaf, truth_leaf, skip_leaf}
 use Rattle.grammar.specs.Grammar.{Phrase, leaf, before, between, closed, Chain, begun, more, place}
 use Rattle.grammar.specs.Counts.{negated, minus, form_size, size, chain_size, last}
@@ -74,20 +74,20 @@ nth vs i = get_or vs i (number_value 0)
 -- the loop of a mark
 abbrev pub form_value : Place → ℕ → ℕ → List Value → Value → Value
 form_value in_group r m vs v = v
-form_value in-mark r m vs v = expr_value (mark m)
-form_value when-first r m vs v = v
-form_value when-second r m vs v = v
-form_value when-third r m vs v = expr_value (choose (to_formula (nth vs 1)) (to_expr (nth vs 0)) (to_expr v))
+form_value in_mark r m vs v = expr_value (mark m)
+form_value when_first r m vs v = v
+form_value when_second r m vs v = v
+form_value when_third r m vs v = expr_value (choose (to_formula (nth vs 1)) (to_expr (nth vs 0)) (to_expr v))
 form_value if_guard r m vs v = v
-form_value if-then r m vs v = v
-form_value if-else r m vs v = stmt_value (branch (to_formula (nth vs 1)) (to_stmt (nth vs 0)) (to_stmt v))
+form_value if_then r m vs v = v
+form_value if_else r m vs v = stmt_value (branch (to_formula (nth vs 1)) (to_stmt (nth vs 0)) (to_stmt v))
 form_value while_guard r m vs v = v
-form_value while-keep r m vs v = v
-form_value while-fall r m vs v = v
-form_value while-body r m vs v = stmt_value (loop r (to_formula (nth vs 2)) (to_formula (nth vs 1)) (to_expr (nth vs 0)) (to_stmt v))
-form_value script-pre r m vs v = v
-form_value script-body r m vs v = v
-form_value script-post r m vs v =
+form_value while_keep r m vs v = v
+form_value while_fall r m vs v = v
+form_value while_body r m vs v = stmt_value (loop r (to_formula (nth vs 2)) (to_formula (nth vs 1)) (to_expr (nth vs 0)) (to_stmt v))
+form_value script_pre r m vs v = v
+form_value script_body r m vs v = v
+form_value script_post r m vs v =
     script_value (record { pre = to_formula (nth vs 1); body = to_stmt (nth vs 0); post = to_formula v; row = r })
 
 unfoldable mutual

@@ -7,8 +7,8 @@ use Rattle.script.specs.declared.Operator.TheVariants.{Plus, Minus, Times, Div, 
 use Rattle.theorems.specs.Options.{none_is_not, some_inj, held}
 use Rattle.grammar.specs.Sorts.{Sort, number, expression, formula, statement, script, sort-discrete, same_sort, Hole, only, either, begins}
 use Rattle.grammar.specs.Operators.{Infix, semicolon, connective, relation, operator, Prefix, not_prefix, minus_prefix, assert_prefix, assign_prefix, infix_takes, prefix_makes}
-use Rattle.grammar.specs.Forms.{Form, group-form, mark-form, when-form, if-form, while-form, script-form}
-use Rattle.grammar.specs.Tokens.{Ending, ending_word, ends, Token, numeral, variable, truth_word, skip-word, not-word, assert-word, becomes, infix_word, form_word, closer_word, Leaf, constant_leaf, number_leaf, variable_leaf, truth_leaf, skip_leaf, leaf_makes, leaf_word, opening_word, prefix_opening, Due, bracket-due, becomes-due, due_word, Beginning, leaf_beginning, opening_beginning, no_beginning, infix_begins, infix_ends, beginning}
+use Rattle.grammar.specs.Forms.{Form, group_form, mark_form, when_form, if_form, while_form, script_form}
+use Rattle.grammar.specs.Tokens.{Ending, ending_word, ends, Token, numeral, variable, truth_word, skip_word, not_word, assert_word, becomes, infix_word, form_word, closer_word, Leaf, constant_leaf, number_leaf, variable_leaf, truth_leaf, skip_leaf, leaf_makes, leaf_word, opening_word, prefix_opening, Due, bracket_due, becomes_due, due_word, Beginning, leaf_beginning, opening_beginning, no_beginning, infix_begins, infix_ends, beginning}
 use Rattle.grammar.specs.Automaton.{form_due, becomes_is, infix_at, is_due}
 use Rattle.grammar.specs.Tests.{false_is_not, same_is}
 
@@ -49,8 +49,8 @@ prefix_begins (assign_prefix v) (only script) e = false_is_not e
 prefix_begins (assign_prefix v) either e = false_is_not e
 
 pub due_is_due : (d : Due) → is_due d (due_word d) ≡ true
-due_is_due bracket-due = refl
-due_is_due becomes-due = refl
+due_is_due bracket_due = refl
+due_is_due becomes_due = refl
 
 -- ---- the other way: what a token that was taken must have been
 
@@ -83,9 +83,9 @@ begun_by (numeral n) h = begun_numeral (begins h number) n
 begun_by (variable v) h =
     begun_either (begins h statement) (variable v) (opening_beginning (prefix_opening (assign_prefix v))) (leaf_beginning (variable_leaf v)) refl refl
 begun_by (truth_word b) h = refl
-begun_by skip-word h = refl
-begun_by not-word h = refl
-begun_by assert-word h = refl
+begun_by skip_word h = refl
+begun_by not_word h = refl
+begun_by assert_word h = refl
 begun_by becomes h = tt
 begun_by (infix_word o) h = begun_infix o
 begun_by (form_word f) h = refl
@@ -95,9 +95,9 @@ pub infix_known : (t : Token) (s : Sort) (o : Infix) → infix_at t s ≡ some o
 infix_known (numeral n) s o e = none_is_not e
 infix_known (variable v) s o e = none_is_not e
 infix_known (truth_word b) s o e = none_is_not e
-infix_known skip-word s o e = none_is_not e
-infix_known not-word s o e = none_is_not e
-infix_known assert-word s o e = none_is_not e
+infix_known skip_word s o e = none_is_not e
+infix_known not_word s o e = none_is_not e
+infix_known assert_word s o e = none_is_not e
 infix_known becomes s o e = none_is_not e
 infix_known (infix_word i) s o e =
     let h = held (same_sort s (infix_takes i)) (some i) e in
@@ -116,34 +116,34 @@ pub ends_known : (t : Token) (e : Ending) → ends t ≡ some e → t ≡ ending
 ends_known (numeral n) e h = none_is_not h
 ends_known (variable v) e h = none_is_not h
 ends_known (truth_word b) e h = none_is_not h
-ends_known skip-word e h = none_is_not h
-ends_known not-word e h = none_is_not h
-ends_known assert-word e h = none_is_not h
+ends_known skip_word e h = none_is_not h
+ends_known not_word e h = none_is_not h
+ends_known assert_word e h = none_is_not h
 ends_known becomes e h = none_is_not h
 ends_known (infix_word i) e h = infix_ends_known i e h
 ends_known (form_word f) e h = none_is_not h
 ends_known (closer_word c) e h = ap ending_word (some_inj h)
 
 form_due_known : (d : Due) (f : Form) → form_due d f ≡ true → form_word f ≡ due_word d
-form_due_known bracket-due group-form e = refl
-form_due_known bracket-due mark-form e = false_is_not e
-form_due_known bracket-due when-form e = false_is_not e
-form_due_known bracket-due if-form e = false_is_not e
-form_due_known bracket-due while-form e = false_is_not e
-form_due_known bracket-due script-form e = false_is_not e
-form_due_known becomes-due f e = false_is_not e
+form_due_known bracket_due group_form e = refl
+form_due_known bracket_due mark_form e = false_is_not e
+form_due_known bracket_due when_form e = false_is_not e
+form_due_known bracket_due if_form e = false_is_not e
+form_due_known bracket_due while_form e = false_is_not e
+form_due_known bracket_due script_form e = false_is_not e
+form_due_known becomes_due f e = false_is_not e
 
 becomes_known : (d : Due) → becomes_is d ≡ true → becomes ≡ due_word d
-becomes_known bracket-due e = false_is_not e
-becomes_known becomes-due e = refl
+becomes_known bracket_due e = false_is_not e
+becomes_known becomes_due e = refl
 
 pub due_known : (d : Due) (t : Token) → is_due d t ≡ true → t ≡ due_word d
 due_known d (numeral n) e = false_is_not e
 due_known d (variable v) e = false_is_not e
 due_known d (truth_word b) e = false_is_not e
-due_known d skip-word e = false_is_not e
-due_known d not-word e = false_is_not e
-due_known d assert-word e = false_is_not e
+due_known d skip_word e = false_is_not e
+due_known d not_word e = false_is_not e
+due_known d assert_word e = false_is_not e
 due_known d becomes e = becomes_known d e
 due_known d (infix_word i) e = false_is_not e
 due_known d (form_word f) e = form_due_known d f e

@@ -7,7 +7,7 @@ use Rattle.std.proofs.Math.Option.{none, some}
 use Rattle.std.proofs.Math.Bool.{true, false, cond}
 use Rattle.std.proofs.Math.ListN.{length, get_or}
 use Rattle.grammar.specs.Sorts.{Hole, only, either}
-use Rattle.grammar.specs.Forms.{Place, next_place as place_after, place_takes, place_makes, in_group, in-mark, when-first, when-second, when-third, if_guard, if-then, if-else, while_guard, while-keep, while-fall, while-body, script-pre, script-body, script-post}
+use Rattle.grammar.specs.Forms.{Place, next_place as place_after, place_takes, place_makes, in_group, in_mark, when_first, when_second, when_third, if_guard, if_then, if_else, while_guard, while_keep, while_fall, while_body, script_pre, script_body, script_post}
 use Rattle.grammar.specs.Grammar.{Phrase, closed, Chain, more, place, sort}
 use Rattle.grammar.specs.Counts.{begins_body, roots, last, size, chain_size}
 use Rattle.grammar.specs.Rows.{Quad, form_rows, note_rows, counts}
@@ -74,12 +74,12 @@ module _ (h : Hole) (ch : Chain) (x : Phrase) (fs : List Frame) (c : Config) (p 
       (rows_kept (length c.words) c.state.rows _ _ k.rows (closed_rows in_group 0 e refl ∙ omega linear))
       refl refl refl refl
 
-  mark_kept : place ch ≡ in-mark → Kept (at (after (closed ch x)) fs) (from c true p) (close_mark c)
+  mark_kept : place ch ≡ in_mark → Kept (at (after (closed ch x)) fs) (from c true p) (close_mark c)
   unfolding close_mark
   mark_kept e =
       let same = row_length c.words c.state.rows 9 c.state.number 0 0 in
-      closed_kept _ _ refl (ap (λ (i : Place). sort_letter (place_makes i (sort x))) (sym e)) (bodies_are in-mark e)
-      (row_added c.words _ c.state.rows _ _ k.rows same (closed_rows in-mark 1 e refl ∙ omega linear)) refl
+      closed_kept _ _ refl (ap (λ (i : Place). sort_letter (place_makes i (sort x))) (sym e)) (bodies_are in_mark e)
+      (row_added c.words _ c.state.rows _ _ k.rows same (closed_rows in_mark 1 e refl ∙ omega linear)) refl
       refl refl same
 
   form_kept : (q : Place) (f : ℕ) → place ch ≡ q → f % 64 ≡ place_number h q
@@ -141,14 +141,14 @@ module _ (h : Hole) (ch : Chain) (x : Phrase) (fs : List Frame) (c : Config) (p 
       (bodies_are q e ∙ ap (λ (t : Bool). cond t (suc (depth fs)) (depth fs)) (next_no_body q r a ∙ sym b))
       (rows_kept (length c.words) c.state.rows _ _ k.rows (rw b (omega linear))) refl refl refl refl
 
-  body_kept : (f : ℕ) → place ch ≡ while-fall → length fs < length c.stack → depth fs < 65536
-      → Kept (advance (some while-body) ch x fs) (from c true p) (open_body c f)
+  body_kept : (f : ℕ) → place ch ≡ while_fall → length fs < length c.stack → depth fs < 65536
+      → Kept (advance (some while_body) ch x fs) (from c true p) (open_body c f)
   unfolding open_body
   body_kept f e l d =
       let s = c.state in
       let same = row_length c.words s.rows 37 (second_part f) (s.rows - 1) 0 in
-      let now : s.bodies ≡ depth fs = bodies_are while-fall e in
-      place_kept while-fall while-body _ (frame 58 (first_part f) (rows_after c.words s.rows - 1)) _ e refl l
+      let now : s.bodies ≡ depth fs = bodies_are while_fall e in
+      place_kept while_fall while_body _ (frame 58 (first_part f) (rows_after c.words s.rows - 1)) _ e refl l
       (frame_mod 58 (first_part f) (rows_after c.words s.rows - 1)) refl (rw now (omega linear))
       (row_added c.words _ s.rows _ _ k.rows same (omega linear)) refl refl refl same
 
@@ -164,17 +164,17 @@ module _ (h : Hole) (ch : Chain) (x : Phrase) (fs : List Frame) (c : Config) (p 
           → Kept (at (after (closed ch x)) fs) (from c true p) (close c f)
       at_hole (only s) j = rw j (group_kept e)
       at_hole either j = rw j (group_kept e)
-  close_kept in-mark f e n l d = rw n (mark_kept e)
-  close_kept when-third f e n l d = rw n (form_kept when-third f e n refl refl refl)
-  close_kept if-else f e n l d = rw n (form_kept if-else f e n refl refl refl)
-  close_kept while-body f e n l d = rw n (form_kept while-body f e n refl (omega linear) refl)
-  close_kept script-post f e n l d = rw n (form_kept script-post f e n refl refl refl)
-  close_kept while-fall f e n l d = rw n (body_kept f e l d)
-  close_kept when-first f e n l d = rw n (next_kept when-first when-second f e refl l (rw n) refl)
-  close_kept when-second f e n l d = rw n (next_kept when-second when-third f e refl l (rw n) refl)
-  close_kept if_guard f e n l d = rw n (next_kept if_guard if-then f e refl l (rw n) refl)
-  close_kept if-then f e n l d = rw n (next_kept if-then if-else f e refl l (rw n) refl)
-  close_kept while_guard f e n l d = rw n (next_kept while_guard while-keep f e refl l (rw n) refl)
-  close_kept while-keep f e n l d = rw n (next_kept while-keep while-fall f e refl l (rw n) refl)
-  close_kept script-pre f e n l d = rw n (next_kept script-pre script-body f e refl l (rw n) refl)
-  close_kept script-body f e n l d = rw n (next_kept script-body script-post f e refl l (rw n) refl)
+  close_kept in_mark f e n l d = rw n (mark_kept e)
+  close_kept when_third f e n l d = rw n (form_kept when_third f e n refl refl refl)
+  close_kept if_else f e n l d = rw n (form_kept if_else f e n refl refl refl)
+  close_kept while_body f e n l d = rw n (form_kept while_body f e n refl (omega linear) refl)
+  close_kept script_post f e n l d = rw n (form_kept script_post f e n refl refl refl)
+  close_kept while_fall f e n l d = rw n (body_kept f e l d)
+  close_kept when_first f e n l d = rw n (next_kept when_first when_second f e refl l (rw n) refl)
+  close_kept when_second f e n l d = rw n (next_kept when_second when_third f e refl l (rw n) refl)
+  close_kept if_guard f e n l d = rw n (next_kept if_guard if_then f e refl l (rw n) refl)
+  close_kept if_then f e n l d = rw n (next_kept if_then if_else f e refl l (rw n) refl)
+  close_kept while_guard f e n l d = rw n (next_kept while_guard while_keep f e refl l (rw n) refl)
+  close_kept while_keep f e n l d = rw n (next_kept while_keep while_fall f e refl l (rw n) refl)
+  close_kept script_pre f e n l d = rw n (next_kept script_pre script_body f e refl l (rw n) refl)
+  close_kept script_body f e n l d = rw n (next_kept script_body script_post f e refl l (rw n) refl)

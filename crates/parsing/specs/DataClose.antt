@@ -3,7 +3,7 @@ use Rattle.std.specs.Prelude.{ℕ, ◌+◌, ◌%◌, ◌<◌, ◌≡◌, refl, t
 use Rattle.std.proofs.Common.{sym, ap, ◌∙◌, subst, lit<}
 use Rattle.std.proofs.Math.Option.{some}
 use Rattle.grammar.specs.Sorts.{Sort, number, expression, formula, statement, script, same_sort, sort-discrete, Hole, only, either, takes}
-use Rattle.grammar.specs.Forms.{Place, in_group, in-mark, when-first, when-second, when-third, if_guard, if-then, if-else, while_guard, while-keep, while-fall, while-body, script-pre, script-body, script-post, next_place, place_takes, place_makes}
+use Rattle.grammar.specs.Forms.{Place, in_group, in_mark, when_first, when_second, when_third, if_guard, if_then, if_else, while_guard, while_keep, while_fall, while_body, script_pre, script_body, script_post, next_place, place_takes, place_makes}
 use Rattle.grammar.specs.Grammar.{Phrase, closed, Chain, place, sort}
 use Rattle.grammar.specs.Counts.{begins_body}
 use Rattle.grammar.specs.Rows.{counts, form_rows, three}
@@ -92,50 +92,50 @@ module _ (h : Hole) (c : Chain) (x : Phrase) (fs : List Frame) (m : Config)
       subst (λ (u : Config). Data (at (after (closed c x)) fs) u)
       (sym (at_group m top (group_number h) (number_at in_group e) (group_number_is h)))
       (group_data h c x fs m d r e (no_number (sort x) t))
-  close_at in-mark e t room =
+  close_at in_mark e t room =
       subst (λ (u : Config). Data (at (after (closed c x)) fs) u)
-      (sym (at_mark m top 9 (number_at in-mark e) refl refl))
+      (sym (at_mark m top 9 (number_at in_mark e) refl refl))
       (mark_data h c x fs m d r e (sym (same_is sort-discrete number (sort x) t)) a room)
-  close_at when-first e t room =
-      to_next when-first when-second e refl refl refl
-      (at_next m top 49 (number_at when-first e) refl refl refl refl) room
-  close_at when-second e t room =
-      to_next when-second when-third e refl refl refl
-      (at_next m top 50 (number_at when-second e) refl refl refl refl) room
-  close_at when-third e t room =
-      to_form when-third 10 e refl (lit< tt) (λ rs z. refl) refl
-      (at_last m top 51 (number_at when-third e) refl refl refl) room
+  close_at when_first e t room =
+      to_next when_first when_second e refl refl refl
+      (at_next m top 49 (number_at when_first e) refl refl refl refl) room
+  close_at when_second e t room =
+      to_next when_second when_third e refl refl refl
+      (at_next m top 50 (number_at when_second e) refl refl refl refl) room
+  close_at when_third e t room =
+      to_form when_third 10 e refl (lit< tt) (λ rs z. refl) refl
+      (at_last m top 51 (number_at when_third e) refl refl refl) room
   close_at if_guard e t room =
-      to_next if_guard if-then e refl refl refl (at_next m top 52 (number_at if_guard e) refl refl refl refl) room
-  close_at if-then e t room =
-      to_next if-then if-else e refl refl refl (at_next m top 53 (number_at if-then e) refl refl refl refl) room
-  close_at if-else e t room =
-      to_form if-else 35 e refl (lit< tt) (λ rs z. refl) refl
-      (at_last m top 54 (number_at if-else e) refl refl refl) room
+      to_next if_guard if_then e refl refl refl (at_next m top 52 (number_at if_guard e) refl refl refl refl) room
+  close_at if_then e t room =
+      to_next if_then if_else e refl refl refl (at_next m top 53 (number_at if_then e) refl refl refl refl) room
+  close_at if_else e t room =
+      to_form if_else 35 e refl (lit< tt) (λ rs z. refl) refl
+      (at_last m top 54 (number_at if_else e) refl refl refl) room
   close_at while_guard e t room =
-      to_next while_guard while-keep e refl refl refl
+      to_next while_guard while_keep e refl refl refl
       (at_next m top 55 (number_at while_guard e) refl refl refl refl) room
-  close_at while-keep e t room =
-      to_next while-keep while-fall e refl refl refl
-      (at_next m top 56 (number_at while-keep e) refl refl refl refl) room
-  close_at while-fall e t room =
+  close_at while_keep e t room =
+      to_next while_keep while_fall e refl refl refl
+      (at_next m top 56 (number_at while_keep e) refl refl refl refl) room
+  close_at while_fall e t room =
       let s : same_sort (sort x) number ≡ false =
       ap (λ (u : Sort). same_sort u number) (sym (same_is sort-discrete expression (sort x) t)) in
-      subst (λ (u : Config). Data (advance (some while-body) c x fs) u)
-      (sym (at_body m top 57 (number_at while-fall e) refl refl refl refl))
+      subst (λ (u : Config). Data (advance (some while_body) c x fs) u)
+      (sym (at_body m top 57 (number_at while_fall e) refl refl refl refl))
       (body_data h c x fs m d r (ap begins_body e) s room)
-  close_at while-body e t room =
-      to_form while-body 36 e refl (lit< tt) (λ rs z. refl) refl
-      (at_last m top 58 (number_at while-body e) refl refl refl) room
-  close_at script-pre e t room =
-      to_next script-pre script-body e refl refl refl
-      (at_next m top 59 (number_at script-pre e) refl refl refl refl) room
-  close_at script-body e t room =
-      to_next script-body script-post e refl refl refl
-      (at_next m top 60 (number_at script-body e) refl refl refl refl) room
-  close_at script-post e t room =
-      to_form script-post 48 e refl (lit< tt) (λ rs z. refl) refl
-      (at_last m top 61 (number_at script-post e) refl refl refl) room
+  close_at while_body e t room =
+      to_form while_body 36 e refl (lit< tt) (λ rs z. refl) refl
+      (at_last m top 58 (number_at while_body e) refl refl refl) room
+  close_at script_pre e t room =
+      to_next script_pre script_body e refl refl refl
+      (at_next m top 59 (number_at script_pre e) refl refl refl refl) room
+  close_at script_body e t room =
+      to_next script_body script_post e refl refl refl
+      (at_next m top 60 (number_at script_body e) refl refl refl refl) room
+  close_at script_post e t room =
+      to_form script_post 48 e refl (lit< tt) (λ rs z. refl) refl
+      (at_last m top 61 (number_at script_post e) refl refl refl) room
 
   pub close_data : takes (place_takes (place c)) (sort x) ≡ true
       → has_room (length m.words) (length (written_in (advance (next_place (place c)) c x fs))) ≡ true

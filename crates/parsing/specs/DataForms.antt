@@ -8,7 +8,7 @@ use Rattle.std.proofs.Math.Bool.{false}
 use mathlib.Core.List.{List, [], ◌∷◌, ◌++◌, append-nil}
 use native.Mathlib.Omega.{arith as linear}
 use Rattle.grammar.specs.Sorts.{number, same_sort, Hole}
-use Rattle.grammar.specs.Forms.{Place, in_group, in-mark}
+use Rattle.grammar.specs.Forms.{Place, in_group, in_mark}
 use Rattle.grammar.specs.Grammar.{Phrase, closed, Chain, place, sort}
 use Rattle.grammar.specs.Counts.{size, chain_size, last, roots}
 use Rattle.grammar.specs.Rows.{counts, form_rows, three, Quad, quad}
@@ -41,13 +41,13 @@ module _ (h : Hole) (c : Chain) (x : Phrase) (fs : List Frame) (m : Config)
       → Data (at (after (closed c x)) fs) (popped m)
   group_data g n =
       let s : same_sort (sort (closed c x)) number ≡ false = rw g n in
-      let none-new : advance_rows none c x fs ≡ [] = rw g in
-      let is = advance_writes none h c x fs tt ∙ ap (λ (l : List Quad). part_rows x (open_at h c ∷ fs) ++ l) none-new
+      let none_new : advance_rows none c x fs ≡ [] = rw g in
+      let is = advance_writes none h c x fs tt ∙ ap (λ (l : List Quad). part_rows x (open_at h c ∷ fs) ++ l) none_new
       ∙ append-nil (part_rows x (open_at h c ∷ fs)) in
       part_after (closed c x) fs (popped m)
       (subst (λ (l : List Quad). Held m.words l) (sym is) d.words) (framed_popped (place_topped h c x fs m d r)) s
 
-  pub mark_data : place c ≡ in-mark → sort x ≡ number → All (part_flags x (open_at h c ∷ fs))
+  pub mark_data : place c ≡ in_mark → sort x ≡ number → All (part_flags x (open_at h c ∷ fs))
       → has_room (length m.words) (length (part_rows (closed c x) fs)) ≡ true
       → Data (at (after (closed c x)) fs) (close_mark m)
   unfolding close_mark

@@ -8,7 +8,7 @@ use Rattle.script.specs.declared.Relation.TheVariants.{Less, AtMost, Equal, Uneq
 use Rattle.script.specs.declared.Connective.TheVariants.{And, Or, Implies}
 use Rattle.grammar.specs.Sorts.{Hole, only, either}
 use Rattle.grammar.specs.Operators.{semicolon, connective, relation, operator, not_prefix, minus_prefix, assert_prefix, assign_prefix}
-use Rattle.grammar.specs.Forms.{Place, in_group, in-mark, when-first, when-second, when-third, if_guard, if-then, if-else, while_guard, while-keep, while-fall, while-body, script-pre, script-body, script-post}
+use Rattle.grammar.specs.Forms.{Place, in_group, in_mark, when_first, when_second, when_third, if_guard, if_then, if_else, while_guard, while_keep, while_fall, while_body, script_pre, script_body, script_post}
 use Rattle.grammar.specs.Grammar.{Chain, place}
 use Rattle.grammar.specs.Counts.{size, last, roots}
 use Rattle.grammar.specs.States.{Pending, prefix, infix_after, Frame, pending, open_at, wants, holds as levels}
@@ -76,20 +76,20 @@ group_letters either = (lit< tt, refl, lit< tt)
 pub place_letters : (h : Hole) (p : Place) → PlaceLetters (place_number h p)
 unfolding holds
 place_letters h in_group = group_letters h
-place_letters h in-mark = (lit< tt, refl, lit< tt)
-place_letters h when-first = (lit< tt, refl, lit< tt)
-place_letters h when-second = (lit< tt, refl, lit< tt)
-place_letters h when-third = (lit< tt, refl, lit< tt)
+place_letters h in_mark = (lit< tt, refl, lit< tt)
+place_letters h when_first = (lit< tt, refl, lit< tt)
+place_letters h when_second = (lit< tt, refl, lit< tt)
+place_letters h when_third = (lit< tt, refl, lit< tt)
 place_letters h if_guard = (lit< tt, refl, lit< tt)
-place_letters h if-then = (lit< tt, refl, lit< tt)
-place_letters h if-else = (lit< tt, refl, lit< tt)
+place_letters h if_then = (lit< tt, refl, lit< tt)
+place_letters h if_else = (lit< tt, refl, lit< tt)
 place_letters h while_guard = (lit< tt, refl, lit< tt)
-place_letters h while-keep = (lit< tt, refl, lit< tt)
-place_letters h while-fall = (lit< tt, refl, lit< tt)
-place_letters h while-body = (lit< tt, refl, lit< tt)
-place_letters h script-pre = (lit< tt, refl, lit< tt)
-place_letters h script-body = (lit< tt, refl, lit< tt)
-place_letters h script-post = (lit< tt, refl, lit< tt)
+place_letters h while_keep = (lit< tt, refl, lit< tt)
+place_letters h while_fall = (lit< tt, refl, lit< tt)
+place_letters h while_body = (lit< tt, refl, lit< tt)
+place_letters h script_pre = (lit< tt, refl, lit< tt)
+place_letters h script_body = (lit< tt, refl, lit< tt)
+place_letters h script_post = (lit< tt, refl, lit< tt)
 
 pub frame_word_number : (f : Frame) (b : ℕ) → frame_word f b % 64 ≡ frame_number f
 frame_word_number (pending f) b = pending_word_number f b

@@ -5,8 +5,8 @@ use Rattle.std.proofs.Common.{sym, ap, ◌∙◌, subst, arith as linear}
 use Rattle.std.proofs.Math.Option.{Option, none, some}
 use Rattle.grammar.specs.Sorts.{number, expression, formula, statement, script, Hole, only, either, begins}
 use Rattle.grammar.specs.Operators.{Infix, not_prefix, minus_prefix, assert_prefix, assign_prefix}
-use Rattle.grammar.specs.Forms.{group-form, mark-form, when-form, if-form, while-form, script-form}
-use Rattle.grammar.specs.Tokens.{Due, becomes-due, Opening, prefix_opening, form_opening, opening_makes, opening_word, opening_due}
+use Rattle.grammar.specs.Forms.{group_form, mark_form, when_form, if_form, while_form, script_form}
+use Rattle.grammar.specs.Tokens.{Due, becomes_due, Opening, prefix_opening, form_opening, opening_makes, opening_word, opening_due}
 use Rattle.grammar.specs.Grammar.{Phrase}
 use Rattle.grammar.specs.Counts.{size, last, roots}
 use Rattle.grammar.specs.Rows.{Quad}
@@ -48,10 +48,10 @@ push_data (some d) h o fs c e p w f =
 
 pub assign_data : (fs : List Frame) (c : Config) (v p : ℕ) → Data (at operand fs) c → c.state.top < length c.stack
     → variable_fits v ≡ true
-    → Data (pushed (some becomes-due) (pending (prefix (assign_prefix v))) fs) (begin_assignment c v p)
+    → Data (pushed (some becomes_due) (pending (prefix (assign_prefix v))) fs) (begin_assignment c v p)
 unfolding begin_assignment
 assign_data fs c v p d l e =
-    push_data (some becomes-due) (hole fs) (prefix_opening (assign_prefix v)) fs c (begin_assignment c v p) d refl
+    push_data (some becomes_due) (hole fs) (prefix_opening (assign_prefix v)) fs c (begin_assignment c v p) d refl
     (rw e (framed_put c.stack c.state.top (frame 33 v 0) l))
 
 -- all but an assignment
@@ -64,7 +64,7 @@ Worded (form_opening f) = Unit {0}
 
 -- a group has its number by what it takes
 group_opened : (h : Hole) (b : ℕ) → begins h expression ≡ true
-    → frame (opened 40 (hole_letter h)) 0 0 ≡ frame_word (opening_frame h (form_opening group-form)) b
+    → frame (opened 40 (hole_letter h)) 0 0 ≡ frame_word (opening_frame h (form_opening group_form)) b
 unfolding roots
 group_opened (only number) b e = false_is_not e
 group_opened (only expression) b e = refl
@@ -80,12 +80,12 @@ opened_is (prefix_opening not_prefix) h b w e = refl
 opened_is (prefix_opening minus_prefix) h b w e = refl
 opened_is (prefix_opening assert_prefix) h b w e = refl
 opened_is (prefix_opening (assign_prefix v)) h b w e = absurd w
-opened_is (form_opening group-form) h b w e = group_opened h b e
-opened_is (form_opening mark-form) h b w e = refl
-opened_is (form_opening when-form) h b w e = refl
-opened_is (form_opening if-form) h b w e = refl
-opened_is (form_opening while-form) h b w e = refl
-opened_is (form_opening script-form) h b w e = refl
+opened_is (form_opening group_form) h b w e = group_opened h b e
+opened_is (form_opening mark_form) h b w e = refl
+opened_is (form_opening when_form) h b w e = refl
+opened_is (form_opening if_form) h b w e = refl
+opened_is (form_opening while_form) h b w e = refl
+opened_is (form_opening script_form) h b w e = refl
 
 pub form_data : (o : Opening) (fs : List Frame) (c : Config) → Worded o → Data (at operand fs) c
     → c.state.top < length c.stack

@@ -9,7 +9,7 @@ use mathlib.Core.List.{List, [], ◌∷◌, ◌++◌, append-nil}
 use native.Mathlib.Omega.{arith as linear}
 use Rattle.std.proofs.Math.ListN.{length, length-append}
 use Rattle.grammar.specs.Sorts.{number, same_sort, Hole}
-use Rattle.grammar.specs.Forms.{Place, place_takes, while-body}
+use Rattle.grammar.specs.Forms.{Place, place_takes, while_body}
 use Rattle.grammar.specs.Grammar.{Phrase, Chain, place, sort}
 use Rattle.grammar.specs.Counts.{size, chain_size, last, with_note, roots, begins_body}
 use Rattle.grammar.specs.Rows.{Quad, quad}
@@ -99,9 +99,9 @@ module _ (h : Hole) (c : Chain) (x : Phrase) (fs : List Frame) (m : Config)
       let e = last (stack_size fs + chain_size c) (size x) in
       let rs = roots (stack_size fs) c in
       let is = advance_writes (some q) h c x fs nb in
-      let none-new : advance_rows (some q) c x fs ≡ [] = rw b in
+      let none_new : advance_rows (some q) c x fs ≡ [] = rw b in
       let same : written_in (advance (some q) c x fs) ≡ part_rows x (open_at h c ∷ fs) =
-      is ∙ ap (λ (l : List Quad). part_rows x (open_at h c ∷ fs) ++ l) none-new
+      is ∙ ap (λ (l : List Quad). part_rows x (open_at h c ∷ fs) ++ l) none_new
       ∙ append-nil (part_rows x (open_at h c ∷ fs)) in
       let few = room_is (length m.words) (length (written_in (advance (some q) c x fs))) room in
       let counted = ap length same in
@@ -120,16 +120,16 @@ module _ (h : Hole) (c : Chain) (x : Phrase) (fs : List Frame) (m : Config)
   -- ---- a body begins
 
   pub body_data : begins_body (place c) ≡ false → same_sort (sort x) number ≡ false
-      → has_room (length m.words) (length (written_in (advance (some while-body) c x fs))) ≡ true
-      → Data (advance (some while-body) c x fs) (open_body m f)
+      → has_room (length m.words) (length (written_in (advance (some while_body) c x fs))) ≡ true
+      → Data (advance (some while_body) c x fs) (open_body m f)
   unfolding open_body frame_words roots
   body_data nb n room =
       let e = last (stack_size fs + chain_size c) (size x) in
       let rs = roots (stack_size fs) c in
       let qs = part_rows x (open_at h c ∷ fs) in
       let note = quad (pos 37) (get_or rs 0 0) e 0 in
-      let is = advance_writes (some while-body) h c x fs nb in
-      let w = writable m.words qs (written_in (advance (some while-body) c x fs)) note m.state.rows
+      let is = advance_writes (some while_body) h c x fs nb in
+      let w = writable m.words qs (written_in (advance (some while_body) c x fs)) note m.state.rows
       d.words r is room in
       let small = row_small w in
       let low : m.state.rows ≤ 2048 = omega linear in

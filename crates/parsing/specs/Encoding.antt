@@ -5,8 +5,8 @@
 use Rattle.std.specs.Prelude.{ℕ, zero, suc, ◌*◌, ◌-◌, ◌%◌, ◌≡◌, cond, List, [], ◌∷◌, ◌++◌, map, pos, length, get_or, replicate}
 use Rattle.grammar.specs.Sorts.{Sort, number, expression, formula, statement, script, Hole, only, either}
 use Rattle.grammar.specs.Operators.{Prefix, not_prefix, minus_prefix, assert_prefix, assign_prefix}
-use Rattle.grammar.specs.Forms.{Place, in_group, in-mark, when-first, when-second, when-third, if_guard, if-then, if-else, while_guard, while-keep, while-fall, while-body, script-pre, script-body, script-post}
-use Rattle.grammar.specs.Tokens.{bracket-due, becomes-due}
+use Rattle.grammar.specs.Forms.{Place, in_group, in_mark, when_first, when_second, when_third, if_guard, if_then, if_else, while_guard, while_keep, while_fall, while_body, script_pre, script_body, script_post}
+use Rattle.grammar.specs.Tokens.{bracket_due, becomes_due}
 use Rattle.grammar.specs.Grammar.{place, sort}
 use Rattle.grammar.specs.Counts.{size, last, roots}
 use Rattle.grammar.specs.Rows.{counts}
@@ -46,20 +46,20 @@ group_number either = 62
 
 abbrev pub place_number : Hole → Place → ℕ
 place_number h in_group = group_number h
-place_number h in-mark = 9
-place_number h when-first = 49
-place_number h when-second = 50
-place_number h when-third = 51
+place_number h in_mark = 9
+place_number h when_first = 49
+place_number h when_second = 50
+place_number h when_third = 51
 place_number h if_guard = 52
-place_number h if-then = 53
-place_number h if-else = 54
+place_number h if_then = 53
+place_number h if_else = 54
 place_number h while_guard = 55
-place_number h while-keep = 56
-place_number h while-fall = 57
-place_number h while-body = 58
-place_number h script-pre = 59
-place_number h script-body = 60
-place_number h script-post = 61
+place_number h while_keep = 56
+place_number h while_fall = 57
+place_number h while_body = 58
+place_number h script_pre = 59
+place_number h script_body = 60
+place_number h script_post = 61
 
 abbrev pub pending_number : Pending → ℕ
 pending_number (prefix p) = prefix_number p
@@ -98,8 +98,8 @@ framed st (suc n) = get_or st n 0 ∷ framed st n
 abbrev pub mode_number : Mode → ℕ
 mode_number operand = 0
 mode_number (after x) = 1
-mode_number (due bracket-due f) = 2
-mode_number (due becomes-due f) = 3
+mode_number (due bracket_due f) = 2
+mode_number (due becomes_due f) = 3
 
 -- the machine pushes the frame of a second word that is due at once
 abbrev pub frames_in : Mode → List Frame → List Frame

@@ -7,7 +7,7 @@ use Rattle.std.proofs.Math.Option.{none, some}
 use Rattle.script.specs.Listing.{guarded}
 use Rattle.grammar.specs.Sorts.{statement}
 use Rattle.grammar.specs.Operators.{semicolon, connective, relation, operator}
-use Rattle.grammar.specs.Tokens.{Token, Due, bracket-due, becomes-due}
+use Rattle.grammar.specs.Tokens.{Token, Due, bracket_due, becomes_due}
 use Rattle.grammar.specs.Grammar.{Phrase, place, sort}
 use Rattle.grammar.specs.Text.{is_post, post}
 use Rattle.grammar.specs.States.{prefix, infix_after, Frame, pending, open_at, Mode, operand, after as after-part, due as due-then, State, at}
@@ -140,8 +140,8 @@ part_follows false t x fs c p e g a k room small =
 
 -- post is never due
 post_due : (d : Due) → is_due d post ≡ false
-post_due bracket-due = refl
-post_due becomes-due = refl
+post_due bracket_due = refl
+post_due becomes_due = refl
 
 word_follows : (b : Bool) (t : Token) (d : Due) (f : Frame) (fs : List Frame) (c : Config) (p : ℕ) → is_post t ≡ b
     → Control (at (due-then d f) fs) c
@@ -156,11 +156,11 @@ word_follows false t d f fs c p e k =
 due_taken : (b : Bool) (t : Token) (d : Due) (f : Frame) (fs : List Frame) (c : Config) (p : ℕ) → is_post t ≡ b
     → Control (at (due-then d f) fs) c → Following b t (due-then d f) fs c p
 unfolding take
-due_taken b t bracket-due f fs c p e k =
-    rw (is_mode 0 k.mode, is_mode 1 k.mode, is_mode 2 k.mode) (word_follows b t bracket-due f fs c p e k)
-due_taken b t becomes-due f fs c p e k =
+due_taken b t bracket_due f fs c p e k =
+    rw (is_mode 0 k.mode, is_mode 1 k.mode, is_mode 2 k.mode) (word_follows b t bracket_due f fs c p e k)
+due_taken b t becomes_due f fs c p e k =
     rw (is_mode 0 k.mode, is_mode 1 k.mode, is_mode 2 k.mode, is_mode 3 k.mode)
-    (word_follows b t becomes-due f fs c p e k)
+    (word_follows b t becomes_due f fs c p e k)
 
 mode_follows : (m : Mode) (fs : List Frame) (us : List Token) (c : Config) (t : Token) (p : ℕ) → Reads m fs us
     → Settled m fs

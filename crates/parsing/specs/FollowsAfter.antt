@@ -7,7 +7,7 @@ use Rattle.script.specs.Listing.{◌>>=◌, guarded}
 use Rattle.theorems.specs.Options.{some_inj, held}
 use Rattle.grammar.specs.Sorts.{Sort, number, expression, formula, statement, script, same_sort}
 use Rattle.grammar.specs.Operators.{infix_takes}
-use Rattle.grammar.specs.Tokens.{Token, numeral, variable, truth_word, skip-word, not-word, assert-word, becomes, infix_word, form_word, closer_word}
+use Rattle.grammar.specs.Tokens.{Token, numeral, variable, truth_word, skip_word, not_word, assert_word, becomes, infix_word, form_word, closer_word}
 use Rattle.grammar.specs.Grammar.{Phrase, sort}
 use Rattle.grammar.specs.States.{Frame, pending, open_at, wants, holds, apply, after as after-part, at}
 use Rattle.grammar.specs.Automaton.{Reduced, reduce, reduced, token_binds, infix_at, go_on as go-on-at, step_at}
@@ -66,9 +66,9 @@ unfit_operand : (t : Token) (n : ℕ) → TokenLetters t n → eqb (operand_sort
 unfit_operand (numeral v) n q = rw q.2
 unfit_operand (variable v) n q = rw q.2
 unfit_operand (truth_word b) n q = rw q.2
-unfit_operand skip-word n q = rw q.2
-unfit_operand not-word n q = rw q.2
-unfit_operand assert-word n q = rw q.2
+unfit_operand skip_word n q = rw q.2
+unfit_operand not_word n q = rw q.2
+unfit_operand assert_word n q = rw q.2
 unfit_operand becomes n q = rw q.2
 unfit_operand (infix_word o) n q = rw (q.2.0, (infix_letters o).1) (sort_letters (infix_takes o))
 unfit_operand (form_word f) n q = rw q.2

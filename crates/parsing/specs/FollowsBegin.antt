@@ -10,8 +10,8 @@ use Rattle.script.specs.declared.Relation.TheVariants.{Less, AtMost, Equal, Uneq
 use Rattle.script.specs.declared.Connective.TheVariants.{And, Or, Implies}
 use Rattle.grammar.specs.Sorts.{number, expression, formula, statement, script, Hole, only, either, wide, begins}
 use Rattle.grammar.specs.Operators.{semicolon, connective, relation, operator, not_prefix, minus_prefix, assert_prefix}
-use Rattle.grammar.specs.Forms.{group-form, mark-form, when-form, if-form, while-form, script-form}
-use Rattle.grammar.specs.Tokens.{bracket-closer, comma-closer, then-closer, else-closer, end-closer, keep-closer, fall-closer, do-closer, post_closer, end_of_text, Token, numeral, variable, truth_word, skip-word, not-word, assert-word, becomes, infix_word, form_word, closer_word, Leaf, truth_leaf, skip_leaf, leaf_makes, Opening, prefix_opening, form_opening, opening_makes, opening_due, opening_beginning, beginning as beginning-of}
+use Rattle.grammar.specs.Forms.{group_form, mark_form, when_form, if_form, while_form, script_form}
+use Rattle.grammar.specs.Tokens.{bracket_closer, comma_closer, then_closer, else_closer, end_closer, keep_closer, fall_closer, do_closer, post_closer, end_of_text, Token, numeral, variable, truth_word, skip_word, not_word, assert_word, becomes, infix_word, form_word, closer_word, Leaf, truth_leaf, skip_leaf, leaf_makes, Opening, prefix_opening, form_opening, opening_makes, opening_due, opening_beginning, beginning as beginning-of}
 use Rattle.grammar.specs.Grammar.{leaf}
 use Rattle.grammar.specs.Rows.{Quad}
 use Rattle.grammar.specs.States.{Frame, operand, after, at, hole as hole-of}
@@ -86,9 +86,9 @@ module _ (fs : List Frame) (c : Config) (g : GoodStack fs) (k : Control (at oper
       leaf_follows (truth_leaf true) _ 16 p (leaf_writes (truth_leaf true) fs) refl refl refl
   begin_follows (truth_word false) p l d =
       leaf_follows (truth_leaf false) _ 17 p (leaf_writes (truth_leaf false) fs) refl refl refl
-  begin_follows skip-word p l d = leaf_follows skip_leaf _ 32 p (leaf_writes skip_leaf fs) refl refl refl
-  begin_follows not-word p l d = opening_follows (prefix_opening not_prefix) 22 p l refl refl (λ h. refl) refl refl
-  begin_follows assert-word p l d =
+  begin_follows skip_word p l d = leaf_follows skip_leaf _ 32 p (leaf_writes skip_leaf fs) refl refl refl
+  begin_follows not_word p l d = opening_follows (prefix_opening not_prefix) 22 p l refl refl (λ h. refl) refl refl
+  begin_follows assert_word p l d =
       opening_follows (prefix_opening assert_prefix) 38 p l refl refl (λ h. refl) refl refl
   begin_follows becomes p l d = nothing_follows 33 p refl
   begin_follows (infix_word semicolon) p l d = nothing_follows 34 p refl
@@ -105,25 +105,25 @@ module _ (fs : List Frame) (c : Config) (g : GoodStack fs) (k : Control (at oper
   begin_follows (infix_word (operator Times)) p l d = nothing_follows 5 p refl
   begin_follows (infix_word (operator Div)) p l d = nothing_follows 6 p refl
   begin_follows (infix_word (operator Mod)) p l d = nothing_follows 7 p refl
-  begin_follows (form_word group-form) p l d =
-      opening_follows (form_opening group-form) 40 p l refl refl (group_opened (hole-of fs)) refl refl
-  begin_follows (form_word mark-form) p l d =
-      opening_follows (form_opening mark-form) 9 p l refl refl (λ h. refl) refl refl
-  begin_follows (form_word when-form) p l d =
-      opening_follows (form_opening when-form) 10 p l refl refl (λ h. refl) refl refl
-  begin_follows (form_word if-form) p l d =
-      opening_follows (form_opening if-form) 35 p l refl refl (λ h. refl) refl refl
-  begin_follows (form_word while-form) p l d =
-      opening_follows (form_opening while-form) 36 p l refl refl (λ h. refl) refl refl
-  begin_follows (form_word script-form) p l d =
-      opening_follows (form_opening script-form) 48 p l refl refl (λ h. refl) refl refl
-  begin_follows (closer_word bracket-closer) p l d = nothing_follows 41 p refl
-  begin_follows (closer_word comma-closer) p l d = nothing_follows 42 p refl
-  begin_follows (closer_word then-closer) p l d = nothing_follows 43 p refl
-  begin_follows (closer_word else-closer) p l d = nothing_follows 44 p refl
-  begin_follows (closer_word end-closer) p l d = nothing_follows 45 p refl
-  begin_follows (closer_word keep-closer) p l d = nothing_follows 46 p refl
-  begin_follows (closer_word fall-closer) p l d = nothing_follows 47 p refl
-  begin_follows (closer_word do-closer) p l d = nothing_follows 49 p refl
+  begin_follows (form_word group_form) p l d =
+      opening_follows (form_opening group_form) 40 p l refl refl (group_opened (hole-of fs)) refl refl
+  begin_follows (form_word mark_form) p l d =
+      opening_follows (form_opening mark_form) 9 p l refl refl (λ h. refl) refl refl
+  begin_follows (form_word when_form) p l d =
+      opening_follows (form_opening when_form) 10 p l refl refl (λ h. refl) refl refl
+  begin_follows (form_word if_form) p l d =
+      opening_follows (form_opening if_form) 35 p l refl refl (λ h. refl) refl refl
+  begin_follows (form_word while_form) p l d =
+      opening_follows (form_opening while_form) 36 p l refl refl (λ h. refl) refl refl
+  begin_follows (form_word script_form) p l d =
+      opening_follows (form_opening script_form) 48 p l refl refl (λ h. refl) refl refl
+  begin_follows (closer_word bracket_closer) p l d = nothing_follows 41 p refl
+  begin_follows (closer_word comma_closer) p l d = nothing_follows 42 p refl
+  begin_follows (closer_word then_closer) p l d = nothing_follows 43 p refl
+  begin_follows (closer_word else_closer) p l d = nothing_follows 44 p refl
+  begin_follows (closer_word end_closer) p l d = nothing_follows 45 p refl
+  begin_follows (closer_word keep_closer) p l d = nothing_follows 46 p refl
+  begin_follows (closer_word fall_closer) p l d = nothing_follows 47 p refl
+  begin_follows (closer_word do_closer) p l d = nothing_follows 49 p refl
   begin_follows (closer_word post_closer) p l d = nothing_follows 50 p refl
   begin_follows (closer_word end_of_text) p l d = nothing_follows 51 p refl

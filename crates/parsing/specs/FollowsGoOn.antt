@@ -7,7 +7,7 @@ use Rattle.std.proofs.Math.ListN.{length}
 use Rattle.script.specs.Listing.{◌>>=◌, guarded}
 use Rattle.grammar.specs.Sorts.{same_sort, takes, begins}
 use Rattle.grammar.specs.Operators.{Infix, infix_takes, infix_makes}
-use Rattle.grammar.specs.Tokens.{Token, numeral, variable, truth_word, skip-word, not-word, assert-word, becomes, infix_word, form_word, closer_word, Ending, ending, same_ending, ends as ends_of}
+use Rattle.grammar.specs.Tokens.{Token, numeral, variable, truth_word, skip_word, not_word, assert_word, becomes, infix_word, form_word, closer_word, Ending, ending, same_ending, ends as ends_of}
 use Rattle.grammar.specs.Grammar.{Phrase, place, sort}
 use Rattle.grammar.specs.Counts.{begins_body}
 use Rattle.grammar.specs.States.{infix_after, Frame, pending, open_at, hole as hole-of, operand, after as after-part, State, at}
@@ -176,9 +176,9 @@ go_on_follows (infix_word o) n x fs c p g k room d q =
 go_on_follows (numeral v) n x fs c p g k room d q = other_follows (numeral v) n x fs c p g k room d q.1 q.2
 go_on_follows (variable v) n x fs c p g k room d q = other_follows (variable v) n x fs c p g k room d q.1 q.2
 go_on_follows (truth_word b) n x fs c p g k room d q = other_follows (truth_word b) n x fs c p g k room d q.1 q.2
-go_on_follows skip-word n x fs c p g k room d q = other_follows skip-word n x fs c p g k room d q.1 q.2
-go_on_follows not-word n x fs c p g k room d q = other_follows not-word n x fs c p g k room d q.1 q.2
-go_on_follows assert-word n x fs c p g k room d q = other_follows assert-word n x fs c p g k room d q.1 q.2
+go_on_follows skip_word n x fs c p g k room d q = other_follows skip_word n x fs c p g k room d q.1 q.2
+go_on_follows not_word n x fs c p g k room d q = other_follows not_word n x fs c p g k room d q.1 q.2
+go_on_follows assert_word n x fs c p g k room d q = other_follows assert_word n x fs c p g k room d q.1 q.2
 go_on_follows becomes n x fs c p g k room d q = other_follows becomes n x fs c p g k room d q.1 q.2
 go_on_follows (form_word f) n x fs c p g k room d q = other_follows (form_word f) n x fs c p g k room d q.1 q.2
 go_on_follows (closer_word f) n x fs c p g k room d q =

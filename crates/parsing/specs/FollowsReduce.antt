@@ -99,10 +99,10 @@ reduce_follows (pending f ∷ fs) n x st (suc top) rows ws h a e =
     let more = operator_row_length ws rows w in
     let m = machine-reduce st (98 + n) top (sort_letter (sort (apply f x))) (rows_after ws rows)
     (operator_row ws rows w) in
-    let unfit-here : fits (hole w) 0 ≡ false = ap (λ (l : ℕ). fits l 0) (hole_is f w number) ∙ fits_nothing (wants f) in
+    let unfit_here : fits (hole w) 0 ≡ false = ap (λ (l : ℕ). fits l 0) (hole_is f w number) ∙ fits_nothing (wants f) in
     rw (lets f w number n, fit f w number x, maker_is f w number x)
     (at_test (leb n (tightness f)) (same_sort (sort x) (wants f)) m
-    (record { sort = refl; nothing = unfit-here })
+    (record { sort = refl; nothing = unfit_here })
     (subst (λ k. Reduces (reduce n (apply f x) fs) st k m) more
     (reduce_follows fs n (apply f x) st top (rows_after ws rows) (operator_row ws rows w)
     (stands_rest (pending f) fs st top h) (apart_apply f x fs)

@@ -10,7 +10,7 @@ use Rattle.script.specs.declared.Relation.TheVariants.{Less, AtMost, Equal, Uneq
 use Rattle.script.specs.declared.Connective.TheVariants.{And, Or, Implies}
 use Rattle.grammar.specs.Sorts.{number, expression, formula, statement, script, Hole, only, either, wide, begins}
 use Rattle.grammar.specs.Operators.{semicolon, connective, relation, operator, Prefix, not_prefix, minus_prefix, assert_prefix, assign_prefix}
-use Rattle.grammar.specs.Forms.{group-form, mark-form, when-form, if-form, while-form, script-form, Place, place_takes, in_group, in-mark, when-first, when-second, when-third, if_guard, if-then, if-else, while_guard, while-keep, while-fall, while-body, script-pre, script-body, script-post}
+use Rattle.grammar.specs.Forms.{group_form, mark_form, when_form, if_form, while_form, script_form, Place, place_takes, in_group, in_mark, when_first, when_second, when_third, if_guard, if_then, if_else, while_guard, while_keep, while_fall, while_body, script_pre, script_body, script_post}
 use Rattle.grammar.specs.Tokens.{ending}
 use Rattle.grammar.specs.Grammar.{Phrase, Chain, begun, more, sort}
 use Rattle.grammar.specs.States.{Pending, prefix, infix_after, Frame, pending, open_at, apply, hole as hole-of}
@@ -84,38 +84,38 @@ pub place_letters : (h : Hole) (p : Place)
 unfolding holds ends
 place_letters (only s) in_group = (refl, refl, refl, refl)
 place_letters either in_group = (refl, refl, refl, refl)
-place_letters h in-mark = (refl, refl, refl, refl)
-place_letters h when-first = (refl, refl, refl, refl)
-place_letters h when-second = (refl, refl, refl, refl)
-place_letters h when-third = (refl, refl, refl, refl)
+place_letters h in_mark = (refl, refl, refl, refl)
+place_letters h when_first = (refl, refl, refl, refl)
+place_letters h when_second = (refl, refl, refl, refl)
+place_letters h when_third = (refl, refl, refl, refl)
 place_letters h if_guard = (refl, refl, refl, refl)
-place_letters h if-then = (refl, refl, refl, refl)
-place_letters h if-else = (refl, refl, refl, refl)
+place_letters h if_then = (refl, refl, refl, refl)
+place_letters h if_else = (refl, refl, refl, refl)
 place_letters h while_guard = (refl, refl, refl, refl)
-place_letters h while-keep = (refl, refl, refl, refl)
-place_letters h while-fall = (refl, refl, refl, refl)
-place_letters h while-body = (refl, refl, refl, refl)
-place_letters h script-pre = (refl, refl, refl, refl)
-place_letters h script-body = (refl, refl, refl, refl)
-place_letters h script-post = (refl, refl, refl, refl)
+place_letters h while_keep = (refl, refl, refl, refl)
+place_letters h while_fall = (refl, refl, refl, refl)
+place_letters h while_body = (refl, refl, refl, refl)
+place_letters h script_pre = (refl, refl, refl, refl)
+place_letters h script_body = (refl, refl, refl, refl)
+place_letters h script_post = (refl, refl, refl, refl)
 
 later_hole : (q : Place) → get_or holes (place_number (place_takes q) q) 0 ≡ hole_letter (place_takes q)
 unfolding holes
 later_hole in_group = refl
-later_hole in-mark = refl
-later_hole when-first = refl
-later_hole when-second = refl
-later_hole when-third = refl
+later_hole in_mark = refl
+later_hole when_first = refl
+later_hole when_second = refl
+later_hole when_third = refl
 later_hole if_guard = refl
-later_hole if-then = refl
-later_hole if-else = refl
+later_hole if_then = refl
+later_hole if_else = refl
 later_hole while_guard = refl
-later_hole while-keep = refl
-later_hole while-fall = refl
-later_hole while-body = refl
-later_hole script-pre = refl
-later_hole script-body = refl
-later_hole script-post = refl
+later_hole while_keep = refl
+later_hole while_fall = refl
+later_hole while_body = refl
+later_hole script_pre = refl
+later_hole script_body = refl
+later_hole script_post = refl
 
 -- a group stands where an expression may
 group_hole : (h : Hole) → begins h expression ≡ true → get_or holes (group_number (wide h)) 0 ≡ hole_letter (wide h)
@@ -137,12 +137,12 @@ top_number (f ∷ fs) = frame_number f
 open_hole : (c : Chain) (fs : List Frame) → GoodOn (open_at (chain_takes (hole-of fs) c) c) fs
     → get_or holes (frame_number (open_at (chain_takes (hole-of fs) c) c)) 0 ≡ hole_letter (chain_takes (hole-of fs) c)
 unfolding holes
-open_hole (begun group-form) fs g = group_hole (hole-of fs) g.2
-open_hole (begun mark-form) fs g = refl
-open_hole (begun when-form) fs g = refl
-open_hole (begun if-form) fs g = refl
-open_hole (begun while-form) fs g = refl
-open_hole (begun script-form) fs g = refl
+open_hole (begun group_form) fs g = group_hole (hole-of fs) g.2
+open_hole (begun mark_form) fs g = refl
+open_hole (begun when_form) fs g = refl
+open_hole (begun if_form) fs g = refl
+open_hole (begun while_form) fs g = refl
+open_hole (begun script_form) fs g = refl
 open_hole (more c x q) fs g = later_hole q
 
 pub top_hole : (fs : List Frame) → GoodStack fs → get_or holes (top_number fs) 0 ≡ hole_letter (hole-of fs)

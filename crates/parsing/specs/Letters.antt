@@ -5,7 +5,7 @@
 use Rattle.std.specs.Prelude.{ℕ, ◌≡◌, refl, Bool, true, false, cond, ◌||◌, eqb}
 use Rattle.std.proofs.Common.{sym, ap, ◌∙◌, subst, eqb-true, eq-eqb}
 use Rattle.grammar.specs.Sorts.{same, Sort, sort-discrete, same_sort, number, expression, formula, statement, script, Hole, only, either, takes, begins}
-use Rattle.grammar.specs.Tokens.{Ending, by_semicolon, by_closer, same_ending, ending-discrete, closer-discrete, bracket-closer, comma-closer, then-closer, else-closer, end-closer, keep-closer, fall-closer, do-closer, post_closer, end_of_text}
+use Rattle.grammar.specs.Tokens.{Ending, by_semicolon, by_closer, same_ending, ending-discrete, closer-discrete, bracket_closer, comma_closer, then_closer, else_closer, end_closer, keep_closer, fall_closer, do_closer, post_closer, end_of_text}
 use Rattle.grammar.specs.Tests.{same_is, same_refl}
 use Rattle.parser.specs.Machine.{fits, begins as begins_by}
 use Rattle.parsing.specs.Encoding.{sort_letter, hole_letter}
@@ -124,37 +124,37 @@ assigns_letter either = refl
 
 abbrev pub ending_letter : Ending → ℕ
 ending_letter by_semicolon = 59
-ending_letter (by_closer bracket-closer) = 41
-ending_letter (by_closer comma-closer) = 44
-ending_letter (by_closer then-closer) = 116
-ending_letter (by_closer else-closer) = 108
-ending_letter (by_closer end-closer) = 101
-ending_letter (by_closer keep-closer) = 107
-ending_letter (by_closer fall-closer) = 102
-ending_letter (by_closer do-closer) = 100
+ending_letter (by_closer bracket_closer) = 41
+ending_letter (by_closer comma_closer) = 44
+ending_letter (by_closer then_closer) = 116
+ending_letter (by_closer else_closer) = 108
+ending_letter (by_closer end_closer) = 101
+ending_letter (by_closer keep_closer) = 107
+ending_letter (by_closer fall_closer) = 102
+ending_letter (by_closer do_closer) = 100
 ending_letter (by_closer post_closer) = 112
 ending_letter (by_closer end_of_text) = 36
 
 ending_of : ℕ → Ending
 ending_of n =
-    cond (eqb n 59) by_semicolon (cond (eqb n 41) (by_closer bracket-closer) (cond (eqb n 44) (by_closer comma-closer)
-    (cond (eqb n 116) (by_closer then-closer) (cond (eqb n 108) (by_closer else-closer)
-    (cond (eqb n 101) (by_closer end-closer)
-    (cond (eqb n 107) (by_closer keep-closer) (cond (eqb n 102) (by_closer fall-closer)
-    (cond (eqb n 100) (by_closer do-closer)
+    cond (eqb n 59) by_semicolon (cond (eqb n 41) (by_closer bracket_closer) (cond (eqb n 44) (by_closer comma_closer)
+    (cond (eqb n 116) (by_closer then_closer) (cond (eqb n 108) (by_closer else_closer)
+    (cond (eqb n 101) (by_closer end_closer)
+    (cond (eqb n 107) (by_closer keep_closer) (cond (eqb n 102) (by_closer fall_closer)
+    (cond (eqb n 100) (by_closer do_closer)
     (cond (eqb n 112) (by_closer post_closer) (by_closer end_of_text))))))))))
 
 ending_back : (e : Ending) → ending_of (ending_letter e) ≡ e
 unfolding ending_of
 ending_back by_semicolon = refl
-ending_back (by_closer bracket-closer) = refl
-ending_back (by_closer comma-closer) = refl
-ending_back (by_closer then-closer) = refl
-ending_back (by_closer else-closer) = refl
-ending_back (by_closer end-closer) = refl
-ending_back (by_closer keep-closer) = refl
-ending_back (by_closer fall-closer) = refl
-ending_back (by_closer do-closer) = refl
+ending_back (by_closer bracket_closer) = refl
+ending_back (by_closer comma_closer) = refl
+ending_back (by_closer then_closer) = refl
+ending_back (by_closer else_closer) = refl
+ending_back (by_closer end_closer) = refl
+ending_back (by_closer keep_closer) = refl
+ending_back (by_closer fall_closer) = refl
+ending_back (by_closer do_closer) = refl
 ending_back (by_closer post_closer) = refl
 ending_back (by_closer end_of_text) = refl
 
@@ -167,26 +167,26 @@ swapped_ends d e = same_ends e d ∙ same_swap (ending-discrete closer-discrete)
 -- no ending's letters
 pub ends_nothing : (e : Ending) → eqb (ending_letter e) 45 ≡ false
 ends_nothing by_semicolon = refl
-ends_nothing (by_closer bracket-closer) = refl
-ends_nothing (by_closer comma-closer) = refl
-ends_nothing (by_closer then-closer) = refl
-ends_nothing (by_closer else-closer) = refl
-ends_nothing (by_closer end-closer) = refl
-ends_nothing (by_closer keep-closer) = refl
-ends_nothing (by_closer fall-closer) = refl
-ends_nothing (by_closer do-closer) = refl
+ends_nothing (by_closer bracket_closer) = refl
+ends_nothing (by_closer comma_closer) = refl
+ends_nothing (by_closer then_closer) = refl
+ends_nothing (by_closer else_closer) = refl
+ends_nothing (by_closer end_closer) = refl
+ends_nothing (by_closer keep_closer) = refl
+ends_nothing (by_closer fall_closer) = refl
+ends_nothing (by_closer do_closer) = refl
 ends_nothing (by_closer post_closer) = refl
 ends_nothing (by_closer end_of_text) = refl
 
 pub no_ending : (e : Ending) → eqb 95 (ending_letter e) ≡ false
 no_ending by_semicolon = refl
-no_ending (by_closer bracket-closer) = refl
-no_ending (by_closer comma-closer) = refl
-no_ending (by_closer then-closer) = refl
-no_ending (by_closer else-closer) = refl
-no_ending (by_closer end-closer) = refl
-no_ending (by_closer keep-closer) = refl
-no_ending (by_closer fall-closer) = refl
-no_ending (by_closer do-closer) = refl
+no_ending (by_closer bracket_closer) = refl
+no_ending (by_closer comma_closer) = refl
+no_ending (by_closer then_closer) = refl
+no_ending (by_closer else_closer) = refl
+no_ending (by_closer end_closer) = refl
+no_ending (by_closer keep_closer) = refl
+no_ending (by_closer fall_closer) = refl
+no_ending (by_closer do_closer) = refl
 no_ending (by_closer post_closer) = refl
 no_ending (by_closer end_of_text) = refl

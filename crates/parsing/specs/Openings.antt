@@ -5,8 +5,8 @@ use Rattle.std.proofs.Common.{sym, ap, ◌∙◌}
 use Rattle.std.proofs.Math.Option.{Option, none, some}
 use Rattle.grammar.specs.Sorts.{Hole}
 use Rattle.grammar.specs.Operators.{assign_prefix}
-use Rattle.grammar.specs.Forms.{group-form, mark-form, when-form, if-form, while-form, script-form}
-use Rattle.grammar.specs.Tokens.{Due, bracket-due, becomes-due, Opening, prefix_opening, form_opening, opening_due}
+use Rattle.grammar.specs.Forms.{group_form, mark_form, when_form, if_form, while_form, script_form}
+use Rattle.grammar.specs.Tokens.{Due, bracket_due, becomes_due, Opening, prefix_opening, form_opening, opening_due}
 use Rattle.grammar.specs.States.{prefix, Frame, pending, operand, due, at, hole as hole-of}
 use Rattle.grammar.specs.Automaton.{opening_frame, pushed}
 use Rattle.grammar.specs.Ranges.{variable_fits, depth}
@@ -23,23 +23,23 @@ use Rattle.parsing.specs.Following.{from, Kept}
 
 abbrev pub due_number : Option Due → ℕ
 due_number none = 0
-due_number (some bracket-due) = 2
-due_number (some becomes-due) = 3
+due_number (some bracket_due) = 2
+due_number (some becomes_due) = 3
 
 due_mode : (d : Due) (f : Frame) → due_number (some d) ≡ mode_number (due d f)
-due_mode bracket-due f = refl
-due_mode becomes-due f = refl
+due_mode bracket_due f = refl
+due_mode becomes_due f = refl
 
 -- no body begins with a form
 opening_depth : (h : Hole) (o : Opening) (fs : List Frame) → depth (opening_frame h o ∷ fs) ≡ depth fs
 unfolding depth
 opening_depth h (prefix_opening p) fs = refl
-opening_depth h (form_opening group-form) fs = refl
-opening_depth h (form_opening mark-form) fs = refl
-opening_depth h (form_opening when-form) fs = refl
-opening_depth h (form_opening if-form) fs = refl
-opening_depth h (form_opening while-form) fs = refl
-opening_depth h (form_opening script-form) fs = refl
+opening_depth h (form_opening group_form) fs = refl
+opening_depth h (form_opening mark_form) fs = refl
+opening_depth h (form_opening when_form) fs = refl
+opening_depth h (form_opening if_form) fs = refl
+opening_depth h (form_opening while_form) fs = refl
+opening_depth h (form_opening script_form) fs = refl
 
 pub opening_kept : (d : Option Due) (h : Hole) (o : Opening) (fs : List Frame) (c : Config) (s : State) (w : ℕ)
     (b : Bool) (p : ℕ)
@@ -84,11 +84,11 @@ opening_kept (some q) h o fs c s w b p k l e m t d r u i =
 pub assignment_kept : (fs : List Frame) (c : Config) (n v p : ℕ) → Control (at operand fs) c
     → length fs < length c.stack
     → variable_fits v ≡ variable_fits n
-    → Kept (at (due becomes-due (pending (prefix (assign_prefix n)))) fs) (from c (variable_fits n) p)
+    → Kept (at (due becomes_due (pending (prefix (assign_prefix n)))) fs) (from c (variable_fits n) p)
     (begin_assignment c v p)
 unfolding begin_assignment
 assignment_kept fs c n v p k l e =
-    opening_kept (some becomes-due) (hole-of fs) (prefix_opening (assign_prefix n)) fs c _
+    opening_kept (some becomes_due) (hole-of fs) (prefix_opening (assign_prefix n)) fs c _
     (frame 33 (kept (variable_fits v) v) 0) (variable_fits n) p
     k l (frame_mod 33 (kept (variable_fits v) v) 0) refl refl refl refl (rw e) refl
 

@@ -6,8 +6,8 @@ use Rattle.script.specs.declared.Operator.TheVariants.{Plus, Minus, Times, Div, 
 use Rattle.script.specs.declared.Relation.TheVariants.{Less, AtMost, Equal, Unequal}
 use Rattle.script.specs.declared.Connective.TheVariants.{And, Or, Implies}
 use Rattle.grammar.specs.Operators.{Infix, semicolon, connective, relation, operator, infix_takes, infix_makes, infix_binds}
-use Rattle.grammar.specs.Forms.{Form, group-form, mark-form, when-form, if-form, while-form, script-form}
-use Rattle.grammar.specs.Tokens.{infix_ends, Closer, bracket-closer, comma-closer, then-closer, else-closer, end-closer, keep-closer, fall-closer, do-closer, post_closer, end_of_text, Token, numeral, variable, truth_word, skip-word, not-word, assert-word, becomes, infix_word, form_word, closer_word, Ending, by_closer, ends}
+use Rattle.grammar.specs.Forms.{Form, group_form, mark_form, when_form, if_form, while_form, script_form}
+use Rattle.grammar.specs.Tokens.{infix_ends, Closer, bracket_closer, comma_closer, then_closer, else_closer, end_closer, keep_closer, fall_closer, do_closer, post_closer, end_of_text, Token, numeral, variable, truth_word, skip_word, not_word, assert_word, becomes, infix_word, form_word, closer_word, Ending, by_closer, ends}
 use Rattle.grammar.specs.Text.{is_post}
 use Rattle.grammar.specs.Automaton.{token_binds}
 use Rattle.grammar.specs.Numbers.{infix_number, form_number, closer_number, token_number}
@@ -52,23 +52,23 @@ PlainLetters k e = (binding k ≡ 98) × (operand_sort k ≡ 95) × (closing k �
 
 form_letters : (f : Form) → PlainLetters (form_number f) none
 unfolding binds takes closes
-form_letters group-form = (refl, refl, refl)
-form_letters mark-form = (refl, refl, refl)
-form_letters when-form = (refl, refl, refl)
-form_letters if-form = (refl, refl, refl)
-form_letters while-form = (refl, refl, refl)
-form_letters script-form = (refl, refl, refl)
+form_letters group_form = (refl, refl, refl)
+form_letters mark_form = (refl, refl, refl)
+form_letters when_form = (refl, refl, refl)
+form_letters if_form = (refl, refl, refl)
+form_letters while_form = (refl, refl, refl)
+form_letters script_form = (refl, refl, refl)
 
 closer_letters : (c : Closer) → PlainLetters (closer_number c) (some (by_closer c))
 unfolding binds takes closes
-closer_letters bracket-closer = (refl, refl, refl)
-closer_letters comma-closer = (refl, refl, refl)
-closer_letters then-closer = (refl, refl, refl)
-closer_letters else-closer = (refl, refl, refl)
-closer_letters end-closer = (refl, refl, refl)
-closer_letters keep-closer = (refl, refl, refl)
-closer_letters fall-closer = (refl, refl, refl)
-closer_letters do-closer = (refl, refl, refl)
+closer_letters bracket_closer = (refl, refl, refl)
+closer_letters comma_closer = (refl, refl, refl)
+closer_letters then_closer = (refl, refl, refl)
+closer_letters else_closer = (refl, refl, refl)
+closer_letters end_closer = (refl, refl, refl)
+closer_letters keep_closer = (refl, refl, refl)
+closer_letters fall_closer = (refl, refl, refl)
+closer_letters do_closer = (refl, refl, refl)
 closer_letters post_closer = (refl, refl, refl)
 closer_letters end_of_text = (refl, refl, refl)
 
@@ -77,9 +77,9 @@ abbrev pub InfixAt : Token → ℕ → Type 0
 InfixAt (numeral n) k = operand_sort k ≡ 95
 InfixAt (variable v) k = operand_sort k ≡ 95
 InfixAt (truth_word b) k = operand_sort k ≡ 95
-InfixAt skip-word k = operand_sort k ≡ 95
-InfixAt not-word k = operand_sort k ≡ 95
-InfixAt assert-word k = operand_sort k ≡ 95
+InfixAt skip_word k = operand_sort k ≡ 95
+InfixAt not_word k = operand_sort k ≡ 95
+InfixAt assert_word k = operand_sort k ≡ 95
 InfixAt becomes k = operand_sort k ≡ 95
 InfixAt (infix_word o) k = (k ≡ infix_number o) × InfixLetters o
 InfixAt (form_word f) k = operand_sort k ≡ 95
@@ -98,9 +98,9 @@ unfolding token_number binds takes closes
 token_letters (numeral n) = (refl, refl, refl)
 token_letters (variable v) = (refl, refl, refl)
 token_letters (truth_word b) = truth_letters b
-token_letters skip-word = (refl, refl, refl)
-token_letters not-word = (refl, refl, refl)
-token_letters assert-word = (refl, refl, refl)
+token_letters skip_word = (refl, refl, refl)
+token_letters not_word = (refl, refl, refl)
+token_letters assert_word = (refl, refl, refl)
 token_letters becomes = (refl, refl, refl)
 token_letters (infix_word o) = let l = infix_letters o in (l.0, l.3, (refl, l))
 token_letters (form_word f) = let l = form_letters f in (l.0, l.2, l.1)
@@ -109,24 +109,24 @@ token_letters (closer_word c) = let l = closer_letters c in (l.0, l.2, l.1)
 -- ---- post
 
 closer_post : (c : Closer) → eqb (closer_number c) 50 ≡ is_post (closer_word c)
-closer_post bracket-closer = refl
-closer_post comma-closer = refl
-closer_post then-closer = refl
-closer_post else-closer = refl
-closer_post end-closer = refl
-closer_post keep-closer = refl
-closer_post fall-closer = refl
-closer_post do-closer = refl
+closer_post bracket_closer = refl
+closer_post comma_closer = refl
+closer_post then_closer = refl
+closer_post else_closer = refl
+closer_post end_closer = refl
+closer_post keep_closer = refl
+closer_post fall_closer = refl
+closer_post do_closer = refl
 closer_post post_closer = refl
 closer_post end_of_text = refl
 
 form_post : (f : Form) → eqb (form_number f) 50 ≡ false
-form_post group-form = refl
-form_post mark-form = refl
-form_post when-form = refl
-form_post if-form = refl
-form_post while-form = refl
-form_post script-form = refl
+form_post group_form = refl
+form_post mark_form = refl
+form_post when_form = refl
+form_post if_form = refl
+form_post while_form = refl
+form_post script_form = refl
 
 truth_post : (b : Bool) → eqb (token_number (truth_word b)) 50 ≡ false
 unfolding token_number
@@ -138,9 +138,9 @@ unfolding token_number
 post_number (numeral n) = refl
 post_number (variable v) = refl
 post_number (truth_word b) = truth_post b
-post_number skip-word = refl
-post_number not-word = refl
-post_number assert-word = refl
+post_number skip_word = refl
+post_number not_word = refl
+post_number assert_word = refl
 post_number becomes = refl
 post_number (infix_word o) = (infix_letters o).5
 post_number (form_word f) = form_post f

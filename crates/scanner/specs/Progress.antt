@@ -9,8 +9,8 @@ use Rattle.script.specs.declared.Operator.TheVariants.{Plus, Minus, Times, Div, 
 use Rattle.script.specs.declared.Relation.TheVariants.{Less, AtMost, Equal, Unequal}
 use Rattle.script.specs.declared.Connective.TheVariants.{And, Or, Implies}
 use Rattle.grammar.specs.Operators.{Infix, semicolon, connective, relation, operator}
-use Rattle.grammar.specs.Forms.{Form, group-form, mark-form, when-form, if-form, while-form, script-form}
-use Rattle.grammar.specs.Tokens.{Closer, bracket-closer, comma-closer, then-closer, else-closer, end-closer, keep-closer, fall-closer, do-closer, post_closer, end_of_text, Token, numeral, variable, truth_word, skip-word, not-word, assert-word, becomes, infix_word, form_word, closer_word}
+use Rattle.grammar.specs.Forms.{Form, group_form, mark_form, when_form, if_form, while_form, script_form}
+use Rattle.grammar.specs.Tokens.{Closer, bracket_closer, comma_closer, then_closer, else_closer, end_closer, keep_closer, fall_closer, do_closer, post_closer, end_of_text, Token, numeral, variable, truth_word, skip_word, not_word, assert_word, becomes, infix_word, form_word, closer_word}
 use Rattle.grammar.specs.Numbers.{infix_number, form_number, closer_number, token_number}
 use Rattle.grammar.specs.Scanning.{Found, token_at}
 use Rattle.grammar.specs.Longest.{Begun, begun, begins_some}
@@ -35,22 +35,22 @@ infix_some (operator Div) = omega linear
 infix_some (operator Mod) = omega linear
 
 form_some : (f : Form) → 0 < form_number f
-form_some group-form = omega linear
-form_some mark-form = omega linear
-form_some when-form = omega linear
-form_some if-form = omega linear
-form_some while-form = omega linear
-form_some script-form = omega linear
+form_some group_form = omega linear
+form_some mark_form = omega linear
+form_some when_form = omega linear
+form_some if_form = omega linear
+form_some while_form = omega linear
+form_some script_form = omega linear
 
 closer_some : (c : Closer) → 0 < closer_number c
-closer_some bracket-closer = omega linear
-closer_some comma-closer = omega linear
-closer_some then-closer = omega linear
-closer_some else-closer = omega linear
-closer_some end-closer = omega linear
-closer_some keep-closer = omega linear
-closer_some fall-closer = omega linear
-closer_some do-closer = omega linear
+closer_some bracket_closer = omega linear
+closer_some comma_closer = omega linear
+closer_some then_closer = omega linear
+closer_some else_closer = omega linear
+closer_some end_closer = omega linear
+closer_some keep_closer = omega linear
+closer_some fall_closer = omega linear
+closer_some do_closer = omega linear
 closer_some post_closer = omega linear
 closer_some end_of_text = omega linear
 
@@ -60,9 +60,9 @@ token_some (numeral n) = omega linear
 token_some (variable v) = omega linear
 token_some (truth_word true) = omega linear
 token_some (truth_word false) = omega linear
-token_some skip-word = omega linear
-token_some not-word = omega linear
-token_some assert-word = omega linear
+token_some skip_word = omega linear
+token_some not_word = omega linear
+token_some assert_word = omega linear
 token_some becomes = omega linear
 token_some (infix_word o) = infix_some o
 token_some (form_word f) = form_some f

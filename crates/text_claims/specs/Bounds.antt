@@ -7,7 +7,7 @@ use Rattle.std.proofs.Common.{ap, subst, arith as linear, leb-true, ltb-true, le
 use Rattle.std.proofs.Math.Option.{Option, some}
 use Rattle.theorems.specs.Options.{went_on}
 use Rattle.grammar.specs.Sorts.{number, begins}
-use Rattle.grammar.specs.Tokens.{Token, numeral, variable, truth_word, skip-word, not-word, assert-word, becomes, infix_word, form_word, closer_word, end_of_text}
+use Rattle.grammar.specs.Tokens.{Token, numeral, variable, truth_word, skip_word, not_word, assert_word, becomes, infix_word, form_word, closer_word, end_of_text}
 use Rattle.grammar.specs.Grammar.{Phrase}
 use Rattle.grammar.specs.States.{Frame, hole, Mode, operand, after, due, State, at, start}
 use Rattle.grammar.specs.Reader.{take, read}
@@ -30,9 +30,9 @@ abbrev pub Within : Token → Type 0
 Within (numeral n) = n ≤ 2147483648
 Within (variable v) = v < 1024
 Within (truth_word b) = Unit {0}
-Within skip-word = Unit {0}
-Within not-word = Unit {0}
-Within assert-word = Unit {0}
+Within skip_word = Unit {0}
+Within not_word = Unit {0}
+Within assert_word = Unit {0}
 Within becomes = Unit {0}
 Within (infix_word o) = Unit {0}
 Within (form_word f) = Unit {0}
@@ -58,9 +58,9 @@ operand_within : (fs : List Frame) (t : Token) → depth fs ≤ 2147483648 → A
 operand_within fs (numeral n) l h = numeral_within (begins (hole fs) number) (after_minus fs) (depth fs) n l h.0
 operand_within fs (variable v) l h = ltb-true v 1024 h.0
 operand_within fs (truth_word b) l h = tt
-operand_within fs skip-word l h = tt
-operand_within fs not-word l h = tt
-operand_within fs assert-word l h = tt
+operand_within fs skip_word l h = tt
+operand_within fs not_word l h = tt
+operand_within fs assert_word l h = tt
 operand_within fs becomes l h = tt
 operand_within fs (infix_word o) l h = tt
 operand_within fs (form_word f) l h = tt
@@ -74,9 +74,9 @@ no_flag : (t : Token) → OneIf (is_number t) [] → Within t
 no_flag (numeral n) h = absurd (nil_is_not h.1)
 no_flag (variable v) h = absurd (nil_is_not h.1)
 no_flag (truth_word b) h = tt
-no_flag skip-word h = tt
-no_flag not-word h = tt
-no_flag assert-word h = tt
+no_flag skip_word h = tt
+no_flag not_word h = tt
+no_flag assert_word h = tt
 no_flag becomes h = tt
 no_flag (infix_word o) h = tt
 no_flag (form_word f) h = tt

@@ -115,9 +115,9 @@ module _ (room : ℕ) (bytes : List ℕ) where
         → Occasion (cond k (given (text_table x)) (refused 43 0))
     at_room x r h true e =
         record { short = short; of = x; reading = r; in_range = h; fits = tested_fits room x e; table_of = refl }
-    at_room x r h false e = let not-fits : ¬ Fits room x = λ f. false_is_not (sym e ∙ fits_tested room x f) in (
+    at_room x r h false e = let not_fits : ¬ Fits room x = λ f. false_is_not (sym e ∙ fits_tested room x f) in (
       (lit≤ tt, lit≤ tt),
-      (refl, record { short = short; of = x; reading = r; in_range = h; full = not-fits }),
+      (refl, record { short = short; of = x; reading = r; in_range = h; full = not_fits }),
     )
 
     module _ (ls : List Lexeme) (scanned : scan bytes ≡ lexemes ls) where

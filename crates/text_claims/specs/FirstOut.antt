@@ -7,7 +7,7 @@ use Rattle.std.proofs.Common.{sym, arith as linear}
 use Rattle.std.proofs.Math.Option.{Option, none, some}
 use Rattle.std.proofs.Math.ListN.{get_elem?}
 use Rattle.theorems.specs.Options.{none_is_not, some_inj}
-use Rattle.grammar.specs.Tokens.{Token, numeral, variable, truth_word, skip-word, not-word, assert-word, becomes, infix_word, form_word, closer_word}
+use Rattle.grammar.specs.Tokens.{Token, numeral, variable, truth_word, skip_word, not_word, assert_word, becomes, infix_word, form_word, closer_word}
 use Rattle.grammar.specs.Scanning.{Lexeme}
 use Rattle.grammar.specs.Ranges.{All}
 use Rattle.grammar.specs.Tests.{false_is_not}
@@ -16,9 +16,9 @@ abbrev pub is_number : Token → Bool
 is_number (numeral n) = true
 is_number (variable v) = true
 is_number (truth_word b) = false
-is_number skip-word = false
-is_number not-word = false
-is_number assert-word = false
+is_number skip_word = false
+is_number not_word = false
+is_number assert_word = false
 is_number becomes = false
 is_number (infix_word o) = false
 is_number (form_word f) = false

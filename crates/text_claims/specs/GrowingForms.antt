@@ -14,7 +14,7 @@ use Rattle.theorems.specs.Options.{none_is_not}
 use Rattle.grammar.specs.Tests.{false_is_not, same_is}
 use Rattle.grammar.specs.Sorts.{Sort, sort-discrete, number, expression, formula, statement, script, same_sort, only, takes}
 use Rattle.grammar.specs.Operators.{semicolon, connective, relation, operator, not_prefix, minus_prefix, assert_prefix, assign_prefix}
-use Rattle.grammar.specs.Forms.{Place, in_group, in-mark, when-first, when-second, when-third, if_guard, if-then, if-else, while_guard, while-keep, while-fall, while-body, script-pre, script-body, script-post, group-form, mark-form, when-form, if-form, while-form, script-form, place_takes, next_place}
+use Rattle.grammar.specs.Forms.{Place, in_group, in_mark, when_first, when_second, when_third, if_guard, if_then, if_else, while_guard, while_keep, while_fall, while_body, script_pre, script_body, script_post, group_form, mark_form, when_form, if_form, while_form, script_form, place_takes, next_place}
 use Rattle.grammar.specs.Tokens.{constant_leaf, number_leaf, variable_leaf, truth_leaf, skip_leaf}
 use Rattle.grammar.specs.Grammar.{Phrase, leaf, before, between, closed, Chain, begun, more, place, sort, Good, GoodChain}
 use Rattle.grammar.specs.Counts.{size, chain_size, last, roots}
@@ -50,16 +50,16 @@ sort_is s x t = sym (same_is sort-discrete s (sort x) t)
 module _ (ws : List ℤ) (filled : 0 < rows ws) where
   -- ---- forms
 
-  group_grows : (x : Phrase) → Grows ws filled x → Grows ws filled (closed (begun group-form) x)
+  group_grows : (x : Phrase) → Grows ws filled x → Grows ws filled (closed (begun group_form) x)
   unfolding flags size table
   group_grows x inner e d m ls b g a =
-      let k = parts_of ws filled (begun group-form) x d m ls b g in
+      let k = parts_of ws filled (begun group_form) x d m ls b g in
       grown_as ws (omega linear) (omega linear) refl (inner e d false ls (b + 0) k.back (above_as ws (omega linear) a))
 
-  mark_grows : (x : Phrase) → size x ≡ 0 → Grows ws filled (closed (begun mark-form) x)
+  mark_grows : (x : Phrase) → size x ≡ 0 → Grows ws filled (closed (begun mark_form) x)
   unfolding flags size table
   mark_grows x n e d m ls b g a =
-      let k = parts_of ws filled (begun mark-form) x d m ls b g in
+      let k = parts_of ws filled (begun mark_form) x d m ls b g in
       let named = nth_low ws filled ls (counts x - 1) g.low in
       grown_as ws (omega linear) (omega linear) refl
       (node ws (no_front ws (b + 0 + size x) (above_as ws (omega linear) a)) refl
@@ -67,11 +67,11 @@ module _ (ws : List ℤ) (filled : 0 < rows ws) where
 
   module _ (x y z : Phrase) (gx : Grows ws filled x) (gy : Grows ws filled y) (gz : Grows ws filled z) where
     when_grows : sort x ≡ formula → sort y ≡ expression → sort z ≡ expression
-        → Grows ws filled (closed (more (more (begun when-form) x when-second) y when-third) z)
+        → Grows ws filled (closed (more (more (begun when_form) x when_second) y when_third) z)
     unfolding flags size table roots
     when_grows s t u e d m ls b g a =
-        let c1 = more (begun when-form) x when-second in
-        let c = more c1 y when-third in
+        let c1 = more (begun when_form) x when_second in
+        let c = more c1 y when_third in
         let k = parts_of ws filled c z d m ls b g in
         let low = above_as ws {c = b + 0} (omega linear) a in
         let i = grown_as ws refl refl (ap row_sort s) (gx (rw s) d false ls (b + 0) k.front.0.1 low) in
@@ -81,11 +81,11 @@ module _ (ws : List ℤ) (filled : 0 < rows ws) where
         grown_as ws (omega linear) (omega linear) refl (node ws f refl (sound_at ws k.own.0 (when_shape ws _ _ _)))
 
     if_grows : sort x ≡ formula → sort y ≡ statement → sort z ≡ statement
-        → Grows ws filled (closed (more (more (begun if-form) x if-then) y if-else) z)
+        → Grows ws filled (closed (more (more (begun if_form) x if_then) y if_else) z)
     unfolding flags size table roots
     if_grows s t u e d m ls b g a =
-        let c1 = more (begun if-form) x if-then in
-        let c = more c1 y if-else in
+        let c1 = more (begun if_form) x if_then in
+        let c = more c1 y if_else in
         let k = parts_of ws filled c z d m ls b g in
         let low = above_as ws {c = b + 0} (omega linear) a in
         let i = grown_as ws refl refl (ap row_sort s) (gx (rw s) d false ls (b + 0) k.front.0.1 low) in
@@ -95,11 +95,11 @@ module _ (ws : List ℤ) (filled : 0 < rows ws) where
         grown_as ws (omega linear) (omega linear) refl (node ws f refl (sound_at ws k.own.0 (if_shape ws _ _ _)))
 
     script_grows : sort x ≡ formula → sort y ≡ statement → sort z ≡ formula
-        → Grows ws filled (closed (more (more (begun script-form) x script-body) y script-post) z)
+        → Grows ws filled (closed (more (more (begun script_form) x script_body) y script_post) z)
     unfolding flags size table roots
     script_grows s t u e d m ls b g a =
-        let c1 = more (begun script-form) x script-body in
-        let c = more c1 y script-post in
+        let c1 = more (begun script_form) x script_body in
+        let c = more c1 y script_post in
         let k = parts_of ws filled c z d m ls b g in
         let low = above_as ws {c = b + 0} (omega linear) a in
         let i = grown_as ws refl refl (ap row_sort s) (gx (rw s) d false ls (b + 0) k.front.0.1 low) in
@@ -109,12 +109,12 @@ module _ (ws : List ℤ) (filled : 0 < rows ws) where
         grown_as ws (omega linear) (omega linear) refl (node ws f refl (sound_at ws k.own.0 (script_shape ws _ _ _)))
 
     while_grows : (v : Phrase) → Grows ws filled v → sort x ≡ formula → sort y ≡ formula → sort z ≡ expression → sort v ≡ statement
-        → Grows ws filled (closed (more (more (more (begun while-form) x while-keep) y while-fall) z while-body) v)
+        → Grows ws filled (closed (more (more (more (begun while_form) x while_keep) y while_fall) z while_body) v)
     unfolding flags size table roots
     while_grows v gv s t u w e d m ls b g a =
-        let c1 = more (begun while-form) x while-keep in
-        let c2 = more c1 y while-fall in
-        let c = more c2 z while-body in
+        let c1 = more (begun while_form) x while_keep in
+        let c2 = more c1 y while_fall in
+        let c = more c2 z while_body in
         let k = parts_of ws filled c v d m ls b g in
         let r = last b (chain_size c + size v + 1) in
         let low = above_as ws {c = b + 0} (omega linear) a in
@@ -143,33 +143,33 @@ module _ (ws : List ℤ) (filled : 0 < rows ws) where
     abbrev FormGrows : Place → Type 0
     FormGrows p = place c ≡ p → takes (place_takes p) (sort x) ≡ true → Grows ws filled (closed c x)
 
-    when_form_grows : FormGrows when-third
+    when_form_grows : FormGrows when_third
     when_form_grows e t =
-        let w = at_third c when-first when-second when-third good e refl refl refl in
+        let w = at_third c when_first when_second when_third good e refl refl refl in
         let h = subst ChainGrows w.is front in
         subst (λ (k : Chain). Grows ws filled (closed k x)) (sym w.is)
         (when_grows w.first w.second x h.0.1 h.1 back
         (sort_is formula w.first w.first_fits) (sort_is expression w.second w.second_fits) (sort_is expression x t))
 
-    if_form_grows : FormGrows if-else
+    if_form_grows : FormGrows if_else
     if_form_grows e t =
-        let w = at_third c if_guard if-then if-else good e refl refl refl in
+        let w = at_third c if_guard if_then if_else good e refl refl refl in
         let h = subst ChainGrows w.is front in
         subst (λ (k : Chain). Grows ws filled (closed k x)) (sym w.is)
         (if_grows w.first w.second x h.0.1 h.1 back
         (sort_is formula w.first w.first_fits) (sort_is statement w.second w.second_fits) (sort_is statement x t))
 
-    script_form_grows : FormGrows script-post
+    script_form_grows : FormGrows script_post
     script_form_grows e t =
-        let w = at_third c script-pre script-body script-post good e refl refl refl in
+        let w = at_third c script_pre script_body script_post good e refl refl refl in
         let h = subst ChainGrows w.is front in
         subst (λ (k : Chain). Grows ws filled (closed k x)) (sym w.is)
         (script_grows w.first w.second x h.0.1 h.1 back
         (sort_is formula w.first w.first_fits) (sort_is statement w.second w.second_fits) (sort_is formula x t))
 
-    while_form_grows : FormGrows while-body
+    while_form_grows : FormGrows while_body
     while_form_grows e t =
-        let w = at_fourth c while_guard while-keep while-fall while-body good e refl refl refl refl in
+        let w = at_fourth c while_guard while_keep while_fall while_body good e refl refl refl refl in
         let h = subst ChainGrows w.is front in
         subst (λ (k : Chain). Grows ws filled (closed k x)) (sym w.is)
         (while_grows w.first w.second w.third h.0.0.1 h.0.1 h.1 x back
@@ -178,21 +178,21 @@ module _ (ws : List ℤ) (filled : 0 < rows ws) where
 
     form_grows : (p : Place) → next_place p ≡ none → Good x → FormGrows p
     form_grows in_group n g e t = subst (λ (k : Chain). Grows ws filled (closed k x)) (sym (at_first c in_group good e refl)) (group_grows x back)
-    form_grows in-mark n g e t =
-        subst (λ (k : Chain). Grows ws filled (closed k x)) (sym (at_first c in-mark good e refl)) (mark_grows x (number_rowless x g t))
-    form_grows when-first n g e t = none_is_not (sym n)
-    form_grows when-second n g e t = none_is_not (sym n)
-    form_grows when-third n g e t = when_form_grows e t
+    form_grows in_mark n g e t =
+        subst (λ (k : Chain). Grows ws filled (closed k x)) (sym (at_first c in_mark good e refl)) (mark_grows x (number_rowless x g t))
+    form_grows when_first n g e t = none_is_not (sym n)
+    form_grows when_second n g e t = none_is_not (sym n)
+    form_grows when_third n g e t = when_form_grows e t
     form_grows if_guard n g e t = none_is_not (sym n)
-    form_grows if-then n g e t = none_is_not (sym n)
-    form_grows if-else n g e t = if_form_grows e t
+    form_grows if_then n g e t = none_is_not (sym n)
+    form_grows if_else n g e t = if_form_grows e t
     form_grows while_guard n g e t = none_is_not (sym n)
-    form_grows while-keep n g e t = none_is_not (sym n)
-    form_grows while-fall n g e t = none_is_not (sym n)
-    form_grows while-body n g e t = while_form_grows e t
-    form_grows script-pre n g e t = none_is_not (sym n)
-    form_grows script-body n g e t = none_is_not (sym n)
-    form_grows script-post n g e t = script_form_grows e t
+    form_grows while_keep n g e t = none_is_not (sym n)
+    form_grows while_fall n g e t = none_is_not (sym n)
+    form_grows while_body n g e t = while_form_grows e t
+    form_grows script_pre n g e t = none_is_not (sym n)
+    form_grows script_body n g e t = none_is_not (sym n)
+    form_grows script_post n g e t = script_form_grows e t
 
   mutual
     unfolding Good

@@ -7,7 +7,7 @@ use Rattle.std.proofs.Common.{sym, ap, ◌∙◌}
 use Rattle.std.proofs.Math.Option.{none, some}
 use Rattle.theorems.specs.Options.{none_is_not, went_on}
 use Rattle.grammar.specs.Sorts.{Sort}
-use Rattle.grammar.specs.Tokens.{Token, numeral, variable, truth_word, skip-word, not-word, assert-word, becomes, infix_word, form_word, closer_word, Due, ends}
+use Rattle.grammar.specs.Tokens.{Token, numeral, variable, truth_word, skip_word, not_word, assert_word, becomes, infix_word, form_word, closer_word, Due, ends}
 use Rattle.grammar.specs.Scanning.{Lexeme, tokens_of}
 use Rattle.grammar.specs.Grammar.{Phrase}
 use Rattle.grammar.specs.Text.{is_post, Spells}
@@ -33,9 +33,9 @@ begins_only : (t : Token) → is_number t ≡ true → BeginsOnly t
 begins_only (numeral n) e = record { not_post = refl; no_infix = λ s. refl; no_end = refl; not_due = λ d. refl }
 begins_only (variable v) e = record { not_post = refl; no_infix = λ s. refl; no_end = refl; not_due = λ d. refl }
 begins_only (truth_word b) e = false_is_not e
-begins_only skip-word e = false_is_not e
-begins_only not-word e = false_is_not e
-begins_only assert-word e = false_is_not e
+begins_only skip_word e = false_is_not e
+begins_only not_word e = false_is_not e
+begins_only assert_word e = false_is_not e
 begins_only becomes e = false_is_not e
 begins_only (infix_word o) e = false_is_not e
 begins_only (form_word f) e = false_is_not e
@@ -50,9 +50,9 @@ operand_one : (fs : List Frame) (t : Token) → OneIf (is_number t) (operand_fla
 operand_one fs (numeral n) = (_, refl)
 operand_one fs (variable v) = (_, refl)
 operand_one fs (truth_word b) = refl
-operand_one fs skip-word = refl
-operand_one fs not-word = refl
-operand_one fs assert-word = refl
+operand_one fs skip_word = refl
+operand_one fs not_word = refl
+operand_one fs assert_word = refl
 operand_one fs becomes = refl
 operand_one fs (infix_word o) = refl
 operand_one fs (form_word f) = refl

@@ -11,8 +11,8 @@ use Rattle.script.specs.declared.Connective.TheVariants.{And, Or, Implies}
 use Rattle.theorems.specs.Truths.{is_true, both}
 use Rattle.text.specs.Decimal as Decimal
 use Rattle.grammar.specs.Operators.{semicolon, connective, relation, operator}
-use Rattle.grammar.specs.Forms.{group-form, mark-form, when-form, if-form, while-form, script-form}
-use Rattle.grammar.specs.Tokens.{bracket-closer, comma-closer, then-closer, else-closer, end-closer, keep-closer, fall-closer, do-closer, post_closer, end_of_text, Token, numeral, variable, truth_word, skip-word, not-word, assert-word, becomes, infix_word, form_word, closer_word}
+use Rattle.grammar.specs.Forms.{group_form, mark_form, when_form, if_form, while_form, script_form}
+use Rattle.grammar.specs.Tokens.{bracket_closer, comma_closer, then_closer, else_closer, end_closer, keep_closer, fall_closer, do_closer, post_closer, end_of_text, Token, numeral, variable, truth_word, skip_word, not_word, assert_word, becomes, infix_word, form_word, closer_word}
 use Rattle.grammar.specs.Scanning.{bytes, is_digit, is_letter, is_word_byte, front, decimal, number, Found, numeral_of, word_of, symbol_of, keywords, symbols, token_at}
 use Rattle.grammar.specs.Pieces.{All, Digits, TokenBegins}
 use Rattle.grammar.specs.Longest.{Begun, begun}
@@ -104,9 +104,9 @@ spelling (numeral n) = Decimal.decimal n
 spelling (variable v) = 118 ∷ Decimal.decimal v
 spelling (truth_word true) = bytes "true"
 spelling (truth_word false) = bytes "false"
-spelling skip-word = bytes "skip"
-spelling not-word = bytes "not"
-spelling assert-word = bytes "assert"
+spelling skip_word = bytes "skip"
+spelling not_word = bytes "not"
+spelling assert_word = bytes "assert"
 spelling becomes = bytes ":="
 spelling (infix_word semicolon) = bytes ";"
 spelling (infix_word (connective And)) = bytes "and"
@@ -121,20 +121,20 @@ spelling (infix_word (operator Minus)) = bytes "-"
 spelling (infix_word (operator Times)) = bytes "*"
 spelling (infix_word (operator Div)) = bytes "div"
 spelling (infix_word (operator Mod)) = bytes "mod"
-spelling (form_word group-form) = bytes "("
-spelling (form_word mark-form) = bytes "mark"
-spelling (form_word when-form) = bytes "when"
-spelling (form_word if-form) = bytes "if"
-spelling (form_word while-form) = bytes "while"
-spelling (form_word script-form) = bytes "pre"
-spelling (closer_word bracket-closer) = bytes ")"
-spelling (closer_word comma-closer) = bytes ","
-spelling (closer_word then-closer) = bytes "then"
-spelling (closer_word else-closer) = bytes "else"
-spelling (closer_word end-closer) = bytes "end"
-spelling (closer_word keep-closer) = bytes "keep"
-spelling (closer_word fall-closer) = bytes "fall"
-spelling (closer_word do-closer) = bytes "do"
+spelling (form_word group_form) = bytes "("
+spelling (form_word mark_form) = bytes "mark"
+spelling (form_word when_form) = bytes "when"
+spelling (form_word if_form) = bytes "if"
+spelling (form_word while_form) = bytes "while"
+spelling (form_word script_form) = bytes "pre"
+spelling (closer_word bracket_closer) = bytes ")"
+spelling (closer_word comma_closer) = bytes ","
+spelling (closer_word then_closer) = bytes "then"
+spelling (closer_word else_closer) = bytes "else"
+spelling (closer_word end_closer) = bytes "end"
+spelling (closer_word keep_closer) = bytes "keep"
+spelling (closer_word fall_closer) = bytes "fall"
+spelling (closer_word do_closer) = bytes "do"
 spelling (closer_word post_closer) = bytes "post"
 spelling (closer_word end_of_text) = []
 
@@ -143,20 +143,20 @@ abbrev pub BeforeEnd : Token → Type 0
 BeforeEnd (numeral n) = Unit {0}
 BeforeEnd (variable v) = Unit {0}
 BeforeEnd (truth_word b) = Unit {0}
-BeforeEnd skip-word = Unit {0}
-BeforeEnd not-word = Unit {0}
-BeforeEnd assert-word = Unit {0}
+BeforeEnd skip_word = Unit {0}
+BeforeEnd not_word = Unit {0}
+BeforeEnd assert_word = Unit {0}
 BeforeEnd becomes = Unit {0}
 BeforeEnd (infix_word o) = Unit {0}
 BeforeEnd (form_word f) = Unit {0}
-BeforeEnd (closer_word bracket-closer) = Unit {0}
-BeforeEnd (closer_word comma-closer) = Unit {0}
-BeforeEnd (closer_word then-closer) = Unit {0}
-BeforeEnd (closer_word else-closer) = Unit {0}
-BeforeEnd (closer_word end-closer) = Unit {0}
-BeforeEnd (closer_word keep-closer) = Unit {0}
-BeforeEnd (closer_word fall-closer) = Unit {0}
-BeforeEnd (closer_word do-closer) = Unit {0}
+BeforeEnd (closer_word bracket_closer) = Unit {0}
+BeforeEnd (closer_word comma_closer) = Unit {0}
+BeforeEnd (closer_word then_closer) = Unit {0}
+BeforeEnd (closer_word else_closer) = Unit {0}
+BeforeEnd (closer_word end_closer) = Unit {0}
+BeforeEnd (closer_word keep_closer) = Unit {0}
+BeforeEnd (closer_word fall_closer) = Unit {0}
+BeforeEnd (closer_word do_closer) = Unit {0}
 BeforeEnd (closer_word post_closer) = Unit {0}
 BeforeEnd (closer_word end_of_text) = ⊥
 
@@ -170,9 +170,9 @@ begins (variable v) h rest =
     subst (λ k. TokenBegins ((118 ∷ w) ++ (32 ∷ rest)) (variable k) (suc (length w))) (number_is v) (begins_variable w rest (led v))
 begins (truth_word true) h rest = begun (spelling (truth_word true) ++ (32 ∷ rest))
 begins (truth_word false) h rest = begun (spelling (truth_word false) ++ (32 ∷ rest))
-begins skip-word h rest = begun (spelling skip-word ++ (32 ∷ rest))
-begins not-word h rest = begun (spelling not-word ++ (32 ∷ rest))
-begins assert-word h rest = begun (spelling assert-word ++ (32 ∷ rest))
+begins skip_word h rest = begun (spelling skip_word ++ (32 ∷ rest))
+begins not_word h rest = begun (spelling not_word ++ (32 ∷ rest))
+begins assert_word h rest = begun (spelling assert_word ++ (32 ∷ rest))
 begins becomes h rest = begun (spelling becomes ++ (32 ∷ rest))
 begins (infix_word semicolon) h rest = begun (spelling (infix_word semicolon) ++ (32 ∷ rest))
 begins (infix_word (connective And)) h rest = begun (spelling (infix_word (connective And)) ++ (32 ∷ rest))
@@ -187,19 +187,19 @@ begins (infix_word (operator Minus)) h rest = begun (spelling (infix_word (opera
 begins (infix_word (operator Times)) h rest = begun (spelling (infix_word (operator Times)) ++ (32 ∷ rest))
 begins (infix_word (operator Div)) h rest = begun (spelling (infix_word (operator Div)) ++ (32 ∷ rest))
 begins (infix_word (operator Mod)) h rest = begun (spelling (infix_word (operator Mod)) ++ (32 ∷ rest))
-begins (form_word group-form) h rest = begun (spelling (form_word group-form) ++ (32 ∷ rest))
-begins (form_word mark-form) h rest = begun (spelling (form_word mark-form) ++ (32 ∷ rest))
-begins (form_word when-form) h rest = begun (spelling (form_word when-form) ++ (32 ∷ rest))
-begins (form_word if-form) h rest = begun (spelling (form_word if-form) ++ (32 ∷ rest))
-begins (form_word while-form) h rest = begun (spelling (form_word while-form) ++ (32 ∷ rest))
-begins (form_word script-form) h rest = begun (spelling (form_word script-form) ++ (32 ∷ rest))
-begins (closer_word bracket-closer) h rest = begun (spelling (closer_word bracket-closer) ++ (32 ∷ rest))
-begins (closer_word comma-closer) h rest = begun (spelling (closer_word comma-closer) ++ (32 ∷ rest))
-begins (closer_word then-closer) h rest = begun (spelling (closer_word then-closer) ++ (32 ∷ rest))
-begins (closer_word else-closer) h rest = begun (spelling (closer_word else-closer) ++ (32 ∷ rest))
-begins (closer_word end-closer) h rest = begun (spelling (closer_word end-closer) ++ (32 ∷ rest))
-begins (closer_word keep-closer) h rest = begun (spelling (closer_word keep-closer) ++ (32 ∷ rest))
-begins (closer_word fall-closer) h rest = begun (spelling (closer_word fall-closer) ++ (32 ∷ rest))
-begins (closer_word do-closer) h rest = begun (spelling (closer_word do-closer) ++ (32 ∷ rest))
+begins (form_word group_form) h rest = begun (spelling (form_word group_form) ++ (32 ∷ rest))
+begins (form_word mark_form) h rest = begun (spelling (form_word mark_form) ++ (32 ∷ rest))
+begins (form_word when_form) h rest = begun (spelling (form_word when_form) ++ (32 ∷ rest))
+begins (form_word if_form) h rest = begun (spelling (form_word if_form) ++ (32 ∷ rest))
+begins (form_word while_form) h rest = begun (spelling (form_word while_form) ++ (32 ∷ rest))
+begins (form_word script_form) h rest = begun (spelling (form_word script_form) ++ (32 ∷ rest))
+begins (closer_word bracket_closer) h rest = begun (spelling (closer_word bracket_closer) ++ (32 ∷ rest))
+begins (closer_word comma_closer) h rest = begun (spelling (closer_word comma_closer) ++ (32 ∷ rest))
+begins (closer_word then_closer) h rest = begun (spelling (closer_word then_closer) ++ (32 ∷ rest))
+begins (closer_word else_closer) h rest = begun (spelling (closer_word else_closer) ++ (32 ∷ rest))
+begins (closer_word end_closer) h rest = begun (spelling (closer_word end_closer) ++ (32 ∷ rest))
+begins (closer_word keep_closer) h rest = begun (spelling (closer_word keep_closer) ++ (32 ∷ rest))
+begins (closer_word fall_closer) h rest = begun (spelling (closer_word fall_closer) ++ (32 ∷ rest))
+begins (closer_word do_closer) h rest = begun (spelling (closer_word do_closer) ++ (32 ∷ rest))
 begins (closer_word post_closer) h rest = begun (spelling (closer_word post_closer) ++ (32 ∷ rest))
 begins (closer_word end_of_text) h rest = absurd h
