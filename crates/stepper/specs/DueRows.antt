@@ -7,7 +7,6 @@ use Rattle.std.specs.Prelude.{false, List, [], ◌∷◌, ℤ}
 use Rattle.std.proofs.Common.{arith as linear}
 use Rattle.script.specs.declared.StatementRow.TheVariants.{Skip, Assign, Sequence, If, While, Assert}
 use Rattle.script.specs.declared.Row.{Row}
-use Rattle.script.specs.declared.Row.TheVariants as Row
 use Rattle.script.specs.Rows.{row, rows}
 use Rattle.theorems.specs.Accepted.{Accepted}
 use Rattle.theorems.specs.RowTrees.{below, lower₂}

@@ -8,7 +8,6 @@ use Rattle.std.proofs.lemmas.Bool.{eqb-false}
 use Rattle.std.proofs.Math.Dec.{eqb}
 use Rattle.script.specs.declared.StatementRow.TheVariants.{Skip, Assign, Sequence, If, While, Assert}
 use Rattle.script.specs.declared.Row.{Row}
-use Rattle.script.specs.declared.Row.TheVariants as Row
 use Rattle.script.specs.Rows.{field_number, row_no, kinds, row_of, row, word}
 use Rattle.script.specs.Laws.{row_is}
 use Rattle.theorems.specs.Kinds.{listed_holds, ◌also◌}

@@ -8,7 +8,6 @@ use Rattle.script.specs.declared.Sort.TheVariants.{Formula, Statement, Note, Scr
 use Rattle.script.specs.declared.StatementRow.{StatementRow}
 use Rattle.script.specs.declared.StatementRow.TheVariants.{Assign, If, While, Assert}
 use Rattle.script.specs.declared.Row.{Row}
-use Rattle.script.specs.declared.Row.TheVariants as Row
 use Rattle.script.specs.Rows.{field_number, row_no, var_no, row_of, row, rows, word, sort_of, variables}
 use Rattle.script.specs.Refusals.{verdict, accepted, same_sort}
 use Rattle.theorems.specs.Accepted.{Accepted, passed, both}

@@ -21,7 +21,7 @@ use Rattle.stepper.specs.Taking.{Ready, Taken}
 
 -- a 64-bit value that a local holds as bits
 pub back_64 : {z : ℤ} → mag z < 2 ^ 63 → to_z w64 (of_z w64 z) ≡ z
-back_64 h = to_z-of_z (record { sfits = h })
+back_64 h = to_z-of_z {w = w64} (record { sfits = h })
 
 -- a step can be tried, of the statement at row `at`
 pub record Stage (t : List ℤ) (words : List ℕ) (height : ℕ) (vars marks : List ℤ) (at : ℕ) : Type 0 where

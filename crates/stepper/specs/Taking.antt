@@ -77,7 +77,10 @@ module _ (t : List ℤ) (words : List ℕ) (height : ℕ) (R : Ready t words hei
       record {
         long = refl;
         zeros = zeros_popped words height i R.high R.zeros;
-        roomy = rw (length-set words (height - 1) 0, less_held) (subst (Roomy t (length words)) (top_first words height i R.high) R.roomy);
+        roomy =
+            subst (λ (n : ℕ). Roomy t n (top words height ∷ held_in less (height - 1))) (sym (length-set words (height - 1) 0))
+            (subst (λ (rs : List ℕ). Roomy t (length words) (top words height ∷ rs)) (sym less_held)
+            (subst (Roomy t (length words)) (top_first words height i R.high) R.roomy));
         same = refl;
       }
 

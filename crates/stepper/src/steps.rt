@@ -122,6 +122,7 @@ fn choose_side(
 }
 
 // A pass of the loop: its mark takes the variant's value; its body is next, then the loop again.
+#[tactic(auto, using(crate::proofs::Marks::mark_low))]
 fn begin_pass(
     table: &[i32],
     stack: &mut [u32],
