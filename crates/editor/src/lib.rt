@@ -1,6 +1,5 @@
 // The editor's entry, 01: "The editor's entry takes the table as a lent run of row records and gives the same answer as
-// four words to a row." It copies the records into a local run of words and calls the generator on them. Only the
-// functions that hold the records are proved by hand.
+// four words to a row." It copies the records into a local run of words and calls the generator on them.
 #![tactic(auto)]
 
 ghost use Rattle.std.specs.Prelude.{◌≡◌, ◌+◌, ◌*◌, ◌<◌, ◌≤◌, length, get_or, take};

@@ -1,4 +1,3 @@
-use Rattle.std.proofs.Common.{ℕ}
 use Rattle.editor.proofs.+copy_first.Given as goal
 
 abbrev pub decreases-copy_first : goal.decreases-copy_first
