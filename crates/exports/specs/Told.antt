@@ -1,6 +1,6 @@
 -- An answer as four numbers. Assumes nothing.
 use Rattle.std.specs.Prelude.{ℕ, ◌≡◌, List, ℤ}
-use Rattle.std.proofs.Common.{sym, subst, ◌∙◌}
+use Rattle.std.proofs.Common.{subst}
 use Rattle.script.specs.declared.Answer.{Answer}
 use Rattle.script.specs.Promise.{Demand3}
 
