@@ -1,7 +1,7 @@
 // Tables whose rows double when they are mended (02, P7): every field of the answer, and how many words of each run are as
 // expected, up to the first that is not. The words were 7 before.
 
-use crate::mending;
+use crate::mended;
 use std::io;
 use trial_words::output;
 
@@ -157,7 +157,7 @@ fn mend_slice(
     expected_new: &[i32; 9000],
     expected_origins: &[i32; 9000],
 ) -> io::Result<()> {
-    mending::say_answer(rt, name, mender::mend(table, new, origins))?;
+    mended::say_answer(rt, name, mender::mend(table, new, origins))?;
     say_alike(rt, b"new:", new, expected_new)?;
     say_alike(rt, b"from:", origins, expected_origins)
 }

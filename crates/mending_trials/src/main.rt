@@ -4,10 +4,10 @@
 
 use std::io;
 
-mod mending; // tables of up to 124 words
+mod mended; // tables of up to 124 words
 mod doubling; // tables that grow to 2,048 rows and beyond
 
 fn main(rt: HostRuntime) -> io::Result<()> {
-    mending::all(&rt)?;
+    mended::all(&rt)?;
     doubling::all(&rt)
 }

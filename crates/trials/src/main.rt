@@ -16,7 +16,7 @@ mod zero_divisors; // scripts that divide
 mod scripts; // conditions as scripts
 mod texts; // scripts as text
 mod depths; // lists read, with depths and without
-mod shortening; // lists shortened
+mod shortened; // lists shortened
 
 fn main(rt: HostRuntime) -> io::Result<()> {
     example::rooms(&rt)?;
@@ -33,5 +33,5 @@ fn main(rt: HostRuntime) -> io::Result<()> {
     texts::all(&rt)?;
     depths::words(&rt)?;
     depths::scripts(&rt)?;
-    shortening::all(&rt)
+    shortened::all(&rt)
 }
