@@ -3,6 +3,7 @@
 
 mod files;
 mod json;
+mod pretended;
 mod proving;
 mod terminal;
 
@@ -19,6 +20,7 @@ use fuzz::claims::changed_meaning;
 use fuzz::templates::{any_dividing_template, lay_out};
 use fuzz::{seed_from_environment, tell, Prng};
 use json::Json;
+use pretended::outside;
 use proving::{command, real_path, vcgen, without_times, Line, Run, PROVED};
 use reference::{formula_from_words, formula_is_true, Row, State, Variable};
 use terminal::run_on_a_terminal;
@@ -436,9 +438,7 @@ fn what_is_open_may_get_more_time() {
 fn folder_with(solver: &str) -> PathBuf {
     static FOLDERS: AtomicUsize = AtomicUsize::new(0);
     let number = FOLDERS.fetch_add(1, Ordering::Relaxed);
-    let folder = Path::new(env!("CARGO_TARGET_TMPDIR")).join(format!("{solver}-alone-{number}"));
-    let _ = fs::remove_dir_all(&folder);
-    fs::create_dir_all(&folder).unwrap();
+    let folder = outside(&format!("{solver}-alone-{number}"));
     let path = real_path();
     let mut programs = env::split_paths(&path).map(|folder| folder.join(solver));
     let program = programs.find(|program| program.is_file()).unwrap();

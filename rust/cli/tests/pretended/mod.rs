@@ -5,6 +5,7 @@
 
 use std::collections::BTreeSet;
 use std::convert::Infallible;
+use std::env;
 use std::fs;
 use std::io::Write;
 use std::path::{Path, PathBuf};
@@ -25,13 +26,22 @@ pub const READS: &str = "while read -r line && [ \"$line\" != '(check-sat)' ]; d
 pub fn folder(solvers: &[(&str, &str)]) -> PathBuf {
     static FOLDERS: AtomicUsize = AtomicUsize::new(0);
     let number = FOLDERS.fetch_add(1, Ordering::Relaxed);
-    let name = format!("{}-{number}", env!("CARGO_CRATE_NAME"));
-    let folder = Path::new(env!("CARGO_TARGET_TMPDIR")).join(name);
-    let _ = fs::remove_dir_all(&folder);
-    fs::create_dir_all(&folder).unwrap();
+    let folder = outside(&format!("{}-{number}", env!("CARGO_CRATE_NAME")));
     for (name, does) in solvers {
         write_program(&folder.join(name), &format!("#!/bin/sh\n{does}\n"));
     }
+    folder
+}
+
+/// A new folder for what `rt ci` refuses below a checkout: links, and a second
+/// `crates.txt`. It is of this checkout alone, and empty.
+pub fn outside(name: &str) -> PathBuf {
+    let checkout = env!("CARGO_TARGET_TMPDIR").replace('/', "-");
+    let folder = env::temp_dir()
+        .join(format!("leqwarti{checkout}"))
+        .join(name);
+    let _ = fs::remove_dir_all(&folder);
+    fs::create_dir_all(&folder).unwrap();
     folder
 }
 
