@@ -8,11 +8,11 @@ mod proving;
 mod terminal;
 
 use std::collections::BTreeSet;
+use std::env;
 use std::os::unix::fs::symlink;
 use std::path::{Path, PathBuf};
 use std::sync::atomic::{AtomicUsize, Ordering};
 use std::sync::LazyLock;
-use std::{env, fs};
 
 use cli::Source;
 use files::{each, expected, name, rows, text, texts, top};
