@@ -14,7 +14,8 @@ ghost use Rattle.dividing.specs.Divisions.{division};
 ghost use Rattle.dividing.specs.Entries.{RowReady};
 ghost use Rattle.dividing.specs.Filling.{Filled};
 
-use script::{RowNumber, field, kinds};
+use kind_numbers as kinds;
+use script::{RowNumber, field};
 
 // The entry of the node at row r.
 fn entry(follow: &[i32], r: RowNumber) -> usize

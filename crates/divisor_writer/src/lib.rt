@@ -18,7 +18,8 @@ ghost use Rattle.divisor_writer.specs.Under.{ands, lead, premise, unequal_zero};
 
 use dividing::divides;
 use formula_writer::push_kind;
-use script::{RowNumber, field, kinds};
+use kind_numbers as kinds;
+use script::{RowNumber, field};
 
 // Writes the and of two items, where both stand.
 fn push_and_if_both(list: &mut [i32], at: usize, first: bool, second: bool) -> usize

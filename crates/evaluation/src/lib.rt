@@ -15,7 +15,8 @@ ghost use Rattle.evaluation.specs.Worked.{opposite, denial, stop_truth, stop_val
 ghost use Rattle.evaluation.specs.Kinds.{operator_of, relation_of, connective_of};
 
 use arithmetic::Checked;
-use script::{Operator, field, kinds};
+use kind_numbers as kinds;
+use script::{Operator, field};
 
 // The value of an expression, or what stops the machine.
 #[derive(Clone, Copy)]

@@ -17,7 +17,8 @@ ghost use Rattle.formula_writer.specs.Paths.{expr_under, formula_under};
 ghost use Rattle.formula_writer.specs.Nodes.{OnPath, Ready};
 ghost use Rattle.formula_writer.specs.Replacing.{Replaced};
 
-use script::{RowNumber, VariableNumber, field, kinds};
+use kind_numbers as kinds;
+use script::{RowNumber, VariableNumber, field};
 
 // Writes one word. A place is where the next word goes; past the end of the list it says that there was no room.
 pub fn push(list: &mut [i32], at: usize, word: i32) -> usize

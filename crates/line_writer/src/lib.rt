@@ -16,7 +16,8 @@ ghost use Rattle.line_writer.specs.Spelled.{Finishing, Finished, Counted};
 ghost use Rattle.line_writer.specs.Guards.{GuardReady, guard_lines};
 ghost use Rattle.line_writer.specs.Loops.{Lined, StepReady, MainReady, exit_line, floor_line, step_line, main_line};
 
-use script::{RowNumber, Rule, field, kinds};
+use kind_numbers as kinds;
+use script::{RowNumber, Rule, field};
 
 // Where the next word goes, with the number of conditions before it; a place past the end of the list says that there was no
 // room.

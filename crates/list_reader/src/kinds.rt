@@ -1,6 +1,6 @@
 // The kinds as the words of a list, which are signed. To compare a word with them takes less than to make it a number first.
 
-use script::kinds;
+use kind_numbers as kinds;
 
 pub const CONSTANT: i32 = kinds::CONSTANT as i32;
 

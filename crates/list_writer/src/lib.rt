@@ -15,8 +15,9 @@ ghost use Rattle.line_writer.specs.Spelled.{Whole};
 ghost use Rattle.line_writer.specs.Loops.{Lined};
 ghost use Rattle.list_writer.specs.Walks.{Walking, walk_at};
 
+use kind_numbers as kinds;
 use line_writer::Progress;
-use script::{RowNumber, field, kinds};
+use script::{RowNumber, field};
 
 // Lists the conditions of the statement at row `first`, in the bodies of `depth` loops, met with what follows it and the formula
 // at the end after it.

@@ -8,7 +8,8 @@ ghost use Rattle.grammar.specs.Renamed.{loop_of};
 ghost use Rattle.marks.specs.Stack.{stacked};
 ghost use Rattle.marks.specs.Quads.{marks_named};
 
-use script::{field_number, kinds};
+use kind_numbers as kinds;
+use script::field_number;
 
 // One less; 0 has none.
 fn one_less(n: usize) -> usize

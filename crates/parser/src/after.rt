@@ -10,7 +10,7 @@ use crate::sorts::{begins, fits};
 use crate::states::{complete, due, refused, with_bodies, with_rows};
 use crate::symbols::{binding, closing, end_of, hold, hole, maker, operand_sort};
 use crate::{PART, State, symbols};
-use script::kinds;
+use kind_numbers as kinds;
 
 // What is left when operators have taken a part: its sort, rows written, frames.
 #[derive(Clone, Copy)]

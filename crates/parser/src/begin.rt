@@ -11,8 +11,9 @@ use crate::sorts::begins;
 use crate::states::{complete, counted, due, kept, noted, refused};
 use crate::symbols::{beginning, hole};
 use crate::{BECOMES, BRACKET, PART, State, symbols};
+use kind_numbers as kinds;
 use scanner::tokens;
-use script::{VARIABLES, kinds};
+use script::VARIABLES;
 
 // Whether a mark may say k, with so many bodies around.
 fn mark_fits(bodies: usize, k: usize) -> bool

@@ -5,7 +5,7 @@ ghost use Rattle.parser.specs.Machine.{rows_after, with_words, with_row, with_co
 
 use crate::FULL;
 use crate::frames::{below, first_part};
-use script::kinds;
+use kind_numbers as kinds;
 
 // Writes the four words of a row.
 fn write_words(words: &mut [i32], rows: usize, kind: i32, a: i32, b: i32, c: i32) -> usize

@@ -5,8 +5,8 @@
 ghost use Rattle.std.specs.Prelude.{◌≡◌, ◌%◌, get_or};
 ghost use Rattle.parser.specs.Symbols.{holds, holes, makes, ends, binds, takes, begins, closes};
 
+use kind_numbers as kinds;
 use scanner::tokens;
-use script::kinds;
 
 // ---- sorts, by their letters
 

@@ -1,6 +1,6 @@
 // The numbers of tokens. A token that makes a row has the kind of that row; the numbers of the others are no kinds.
 
-use script::kinds;
+use kind_numbers as kinds;
 
 // no token begins here
 pub const NONE: usize = 0;

@@ -16,4 +16,5 @@ pub mod Computed
 pub mod DivisionFigures
 pub mod DivisionRuns
 pub mod DepthFigures
+pub mod Kinds
 pub mod Laws

@@ -1,57 +1,77 @@
-// The kinds of rows, by the numbers of 01, "Rows of a script".
+// The kinds of rows, 01, "Rows of a script", each with its number there.
 
-pub const CONSTANT: usize = 1;
+ghost use Rattle.std.specs.Prelude.{◌≡◌};
+ghost use Rattle.script.specs.Kinds.{kind_of};
 
-pub const VARIABLE: usize = 2;
+#[derive(Clone, Copy, PartialEq, Eq, Debug)]
+pub enum Kind {
+    // a number that no kind has
+    Unlisted = 0,
+    Constant = 1,
+    Variable = 2,
+    Plus = 3,
+    Minus = 4,
+    Times = 5,
+    Div = 6,
+    Mod = 7,
+    Negate = 8,
+    Mark = 9,
+    Choose = 10,
+    True = 16,
+    False = 17,
+    Less = 18,
+    AtMost = 19,
+    Equal = 20,
+    Unequal = 21,
+    Not = 22,
+    And = 23,
+    Or = 24,
+    Implies = 25,
+    Skip = 32,
+    Assign = 33,
+    Sequence = 34,
+    If = 35,
+    While = 36,
+    Note = 37,
+    Assert = 38,
+    Script = 48,
+}
 
-pub const PLUS: usize = 3;
+impl From<usize> for Kind {
+    ghost from_gives = { λ n kind. kind ≡ kind_of n };
 
-pub const MINUS: usize = 4;
-
-pub const TIMES: usize = 5;
-
-pub const DIV: usize = 6;
-
-pub const MOD: usize = 7;
-
-pub const NEGATE: usize = 8;
-
-pub const MARK: usize = 9;
-
-pub const CHOOSE: usize = 10;
-
-pub const TRUE: usize = 16;
-
-pub const FALSE: usize = 17;
-
-pub const LESS: usize = 18;
-
-pub const AT_MOST: usize = 19;
-
-pub const EQUAL: usize = 20;
-
-pub const UNEQUAL: usize = 21;
-
-pub const NOT: usize = 22;
-
-pub const AND: usize = 23;
-
-pub const OR: usize = 24;
-
-pub const IMPLIES: usize = 25;
-
-pub const SKIP: usize = 32;
-
-pub const ASSIGN: usize = 33;
-
-pub const SEQUENCE: usize = 34;
-
-pub const IF: usize = 35;
-
-pub const WHILE: usize = 36;
-
-pub const NOTE: usize = 37;
-
-pub const ASSERT: usize = 38;
-
-pub const SCRIPT: usize = 48;
+    #[tactic(auto, unfolding(crate::specs::Kinds::kind_of))]
+    fn from(number: usize) -> Kind {
+        match number {
+            1 => Kind::Constant,
+            2 => Kind::Variable,
+            3 => Kind::Plus,
+            4 => Kind::Minus,
+            5 => Kind::Times,
+            6 => Kind::Div,
+            7 => Kind::Mod,
+            8 => Kind::Negate,
+            9 => Kind::Mark,
+            10 => Kind::Choose,
+            16 => Kind::True,
+            17 => Kind::False,
+            18 => Kind::Less,
+            19 => Kind::AtMost,
+            20 => Kind::Equal,
+            21 => Kind::Unequal,
+            22 => Kind::Not,
+            23 => Kind::And,
+            24 => Kind::Or,
+            25 => Kind::Implies,
+            32 => Kind::Skip,
+            33 => Kind::Assign,
+            34 => Kind::Sequence,
+            35 => Kind::If,
+            36 => Kind::While,
+            37 => Kind::Note,
+            38 => Kind::Assert,
+            48 => Kind::Script,
+            _ => Kind::Unlisted,
+        }
+    }
+}

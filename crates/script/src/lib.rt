@@ -3,23 +3,26 @@
 
 #![tactic(auto)]
 
-pub mod kinds;
+mod kinds; // the kinds, each with its number
 
 ghost use Rattle.std.specs.Prelude.{◌≡◌, ℕ, ◌+◌, ◌*◌, ◌<◌, ◌≤◌, length};
-ghost use Rattle.script.specs.Rows.{field_number, row_no, var_no, row_of, row, word};
+ghost use Rattle.script.specs.Rows.{field_number, row_no, var_no, row_of, row, word, rows};
+ghost use Rattle.script.specs.Kinds.{kind_of};
 ghost use Rattle.script.specs.Refusals.{frozen};
 
+pub use kinds::Kind;
+
 // A row number and a variable number are both small whole numbers: two types keep them apart.
-#[derive(Clone, Copy)]
+#[derive(Clone, Copy, PartialEq, Eq, PartialOrd, Ord, Debug)]
 pub struct RowNumber(pub usize);
 
-#[derive(Clone, Copy)]
+#[derive(Clone, Copy, PartialEq, Eq, PartialOrd, Ord, Debug)]
 pub struct VariableNumber(pub usize);
 
 // How many variables there are.
 pub const VARIABLES: usize = 1024;
 
-#[derive(Clone, Copy)]
+#[derive(Clone, Copy, PartialEq, Eq, Debug)]
 pub enum Operator {
     Plus,
     Minus,
@@ -28,7 +31,7 @@ pub enum Operator {
     Mod,
 }
 
-#[derive(Clone, Copy)]
+#[derive(Clone, Copy, PartialEq, Eq, Debug)]
 pub enum Relation {
     Less,
     AtMost,
@@ -36,7 +39,7 @@ pub enum Relation {
     Unequal,
 }
 
-#[derive(Clone, Copy)]
+#[derive(Clone, Copy, PartialEq, Eq, Debug)]
 pub enum Connective {
     And,
     Or,
@@ -89,7 +92,7 @@ pub enum StatementRow {
     Assert(RowNumber),
 }
 
-#[derive(Clone, Copy)]
+#[derive(Clone, Copy, PartialEq, Eq, Debug)]
 pub enum Sort {
     Expression,
     Formula,
@@ -99,15 +102,15 @@ pub enum Sort {
     Unknown,
 }
 
-// The rule that a condition comes from: what 01 calls the condition kind.
-#[derive(Clone, Copy)]
+// The rule that a condition comes from, with its number: what 01 calls the condition kind.
+#[derive(Clone, Copy, PartialEq, Eq, Debug)]
 pub enum Rule {
-    Exit,
-    Floor,
-    Step,
-    Main,
+    Exit = 1,
+    Floor = 2,
+    Step = 3,
+    Main = 4,
     // 02, P5
-    Guard,
+    Guard = 5,
 }
 
 // What a call answers: 0 with the conditions and words of the list, or the number of a refusal with its row.
@@ -141,7 +144,7 @@ pub fn field_number(w: i32) -> usize
 pub fn is_frozen(v: VariableNumber) -> bool
     ensures { result ≡ frozen v.0 }
 {
-    if 128 <= v.0 { v.0 <= 255 } else { false }
+    128 <= v.0 && v.0 <= 255
 }
 
 // The number in field f of row r of a table; field 0 is the kind.
@@ -150,6 +153,21 @@ pub fn field(table: &[i32], r: usize, f: usize) -> usize
     ensures { result ≡ field_number (word table.now r f) }
 {
     field_number(table[4 * r + f])
+}
+
+// The kind of row r of a table.
+pub fn kind_at(table: &[i32], r: usize) -> Kind
+    requires { 4 * r + 3 < length table.now }
+    ensures { result ≡ kind_of (field_number (word table.now r 0)) }
+{
+    Kind::from(field(table, r, 0))
+}
+
+// How many rows a table has.
+pub fn row_count(table: &[i32]) -> usize
+    ensures { result ≡ rows table.now }
+{
+    table.len() / 4
 }
 
 fn row_number(w: i32) -> RowNumber
@@ -165,7 +183,7 @@ fn variable_number(w: i32) -> VariableNumber
 }
 
 // The row whose first word is n and whose fields are a, b and c.
-#[tactic(auto, unfolding(crate::specs::Rows::row_of))]
+#[tactic(auto, unfolding(crate::specs::Rows::row_of, crate::specs::Kinds::kind_of))]
 pub fn row_of(n: usize, a: i32, b: i32, c: i32) -> Row
     ensures { result ≡ row_of n a b c }
 {
@@ -173,36 +191,36 @@ pub fn row_of(n: usize, a: i32, b: i32, c: i32) -> Row
     let ra = row_number(a);
     let rb = row_number(b);
     let rc = row_number(c);
-    match n {
-        kinds::CONSTANT => Row::Expression(ExpressionRow::Constant(a)),
-        kinds::VARIABLE => Row::Expression(ExpressionRow::Variable(v)),
-        kinds::PLUS => Row::Expression(ExpressionRow::Arithmetic(Operator::Plus, ra, rb)),
-        kinds::MINUS => Row::Expression(ExpressionRow::Arithmetic(Operator::Minus, ra, rb)),
-        kinds::TIMES => Row::Expression(ExpressionRow::Arithmetic(Operator::Times, ra, rb)),
-        kinds::DIV => Row::Expression(ExpressionRow::Arithmetic(Operator::Div, ra, rb)),
-        kinds::MOD => Row::Expression(ExpressionRow::Arithmetic(Operator::Mod, ra, rb)),
-        kinds::NEGATE => Row::Expression(ExpressionRow::Negate(ra)),
-        kinds::MARK => Row::Expression(ExpressionRow::Mark(ra)),
-        kinds::CHOOSE => Row::Expression(ExpressionRow::Choose(ra, rb, rc)),
-        kinds::TRUE => Row::Formula(FormulaRow::True),
-        kinds::FALSE => Row::Formula(FormulaRow::False),
-        kinds::LESS => Row::Formula(FormulaRow::Comparison(Relation::Less, ra, rb)),
-        kinds::AT_MOST => Row::Formula(FormulaRow::Comparison(Relation::AtMost, ra, rb)),
-        kinds::EQUAL => Row::Formula(FormulaRow::Comparison(Relation::Equal, ra, rb)),
-        kinds::UNEQUAL => Row::Formula(FormulaRow::Comparison(Relation::Unequal, ra, rb)),
-        kinds::NOT => Row::Formula(FormulaRow::Not(ra)),
-        kinds::AND => Row::Formula(FormulaRow::Junction(Connective::And, ra, rb)),
-        kinds::OR => Row::Formula(FormulaRow::Junction(Connective::Or, ra, rb)),
-        kinds::IMPLIES => Row::Formula(FormulaRow::Junction(Connective::Implies, ra, rb)),
-        kinds::SKIP => Row::Statement(StatementRow::Skip),
-        kinds::ASSIGN => Row::Statement(StatementRow::Assign(v, rb)),
-        kinds::SEQUENCE => Row::Statement(StatementRow::Sequence(ra, rb)),
-        kinds::IF => Row::Statement(StatementRow::If(ra, rb, rc)),
-        kinds::WHILE => Row::Statement(StatementRow::While(ra, rb, rc)),
-        kinds::NOTE => Row::Note(ra, rb),
-        kinds::ASSERT => Row::Statement(StatementRow::Assert(ra)),
-        kinds::SCRIPT => Row::Script(ra, rb, rc),
-        _ => Row::Unknown,
+    match Kind::from(n) {
+        Kind::Constant => Row::Expression(ExpressionRow::Constant(a)),
+        Kind::Variable => Row::Expression(ExpressionRow::Variable(v)),
+        Kind::Plus => Row::Expression(ExpressionRow::Arithmetic(Operator::Plus, ra, rb)),
+        Kind::Minus => Row::Expression(ExpressionRow::Arithmetic(Operator::Minus, ra, rb)),
+        Kind::Times => Row::Expression(ExpressionRow::Arithmetic(Operator::Times, ra, rb)),
+        Kind::Div => Row::Expression(ExpressionRow::Arithmetic(Operator::Div, ra, rb)),
+        Kind::Mod => Row::Expression(ExpressionRow::Arithmetic(Operator::Mod, ra, rb)),
+        Kind::Negate => Row::Expression(ExpressionRow::Negate(ra)),
+        Kind::Mark => Row::Expression(ExpressionRow::Mark(ra)),
+        Kind::Choose => Row::Expression(ExpressionRow::Choose(ra, rb, rc)),
+        Kind::True => Row::Formula(FormulaRow::True),
+        Kind::False => Row::Formula(FormulaRow::False),
+        Kind::Less => Row::Formula(FormulaRow::Comparison(Relation::Less, ra, rb)),
+        Kind::AtMost => Row::Formula(FormulaRow::Comparison(Relation::AtMost, ra, rb)),
+        Kind::Equal => Row::Formula(FormulaRow::Comparison(Relation::Equal, ra, rb)),
+        Kind::Unequal => Row::Formula(FormulaRow::Comparison(Relation::Unequal, ra, rb)),
+        Kind::Not => Row::Formula(FormulaRow::Not(ra)),
+        Kind::And => Row::Formula(FormulaRow::Junction(Connective::And, ra, rb)),
+        Kind::Or => Row::Formula(FormulaRow::Junction(Connective::Or, ra, rb)),
+        Kind::Implies => Row::Formula(FormulaRow::Junction(Connective::Implies, ra, rb)),
+        Kind::Skip => Row::Statement(StatementRow::Skip),
+        Kind::Assign => Row::Statement(StatementRow::Assign(v, rb)),
+        Kind::Sequence => Row::Statement(StatementRow::Sequence(ra, rb)),
+        Kind::If => Row::Statement(StatementRow::If(ra, rb, rc)),
+        Kind::While => Row::Statement(StatementRow::While(ra, rb, rc)),
+        Kind::Note => Row::Note(ra, rb),
+        Kind::Assert => Row::Statement(StatementRow::Assert(ra)),
+        Kind::Script => Row::Script(ra, rb, rc),
+        Kind::Unlisted => Row::Unknown,
     }
 }
 

@@ -11,7 +11,8 @@ use crate::rules::{
     IS_FALSE, IS_TRUE, KEPT, KEPT_WITH_NUMBER, ONE, OTHER, ZERO, changed_shape, not_change,
     pair_change,
 };
-use script::{field_number, kinds};
+use kind_numbers as kinds;
+use script::field_number;
 
 // Of a node: the place past it, its shape when it is shortened, and what it becomes.
 #[derive(Clone, Copy)]

@@ -7,7 +7,7 @@ ghost use Rattle.script.specs.declared.Connective.TheVariants.{And, Implies};
 ghost use Rattle.shortening.specs.Simplify.{order, arith_change, join_change};
 ghost use Rattle.shortener.specs.Codes.{shaped, change_code, truth_change_code, not_code, pair_code, changed_shape_code};
 
-use script::kinds;
+use kind_numbers as kinds;
 
 // ---- shapes
 

@@ -5,7 +5,7 @@ ghost use Rattle.shortener.specs.Turns.{Begins, WroteShort};
 use crate::plan::place;
 use crate::rules::{FALSE, FIRST, KEPT, KEPT_WITH_NUMBER, NEGATED_SECOND, PASSED, SECOND, TRUE};
 use formula_writer::{push, push_kind, push_two};
-use script::kinds;
+use kind_numbers as kinds;
 
 // Writes the formula that stands in the words from `first` to `end`, shortened, from the place `start` on. A part that is
 // dropped behind a part that is written is noted when its node is met, and passed over when it is reached.

@@ -9,7 +9,8 @@ ghost use Rattle.smt.specs.Pieces.{declaration_text, declarations_text};
 ghost use Rattle.smt_writer.specs.Nodes.{Spells, Spelled};
 ghost use Rattle.smt_writer.specs.Noted.{names, reference_at, variable_place, mark_place, noted, past, top_of, declared_if, declared_from};
 
-use script::{RowNumber, VARIABLES, VariableNumber, field_number, kinds};
+use kind_numbers as kinds;
+use script::{RowNumber, VARIABLES, VariableNumber, field_number};
 use text::{push_byte, push_number, push_text};
 
 // How many names: variables and marks.

@@ -11,8 +11,9 @@ ghost use Rattle.smt_writer.specs.Turns.{Begins, Written};
 ghost use Rattle.smt_writer.specs.Divisions.{Divides, ByZero, Divided};
 
 use crate::names::{write_mark, write_variable};
+use kind_numbers as kinds;
 use list_reader::expression_end;
-use script::{RowNumber, VariableNumber, field_number, kinds};
+use script::{RowNumber, VariableNumber, field_number};
 use text::{magnitude, push_byte, push_number, push_repeated, push_text};
 
 // Where a writer stands after a part: its place in the text, and the place in the words past the part.

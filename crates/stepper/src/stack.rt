@@ -7,7 +7,8 @@ ghost use Rattle.stepper.specs.Kinds.{splits};
 ghost use Rattle.stepper.specs.DueRows.{due_row};
 ghost use Rattle.stepper.specs.Taking.{Ready, Taken};
 
-use script::{field, kinds};
+use kind_numbers as kinds;
+use script::field;
 
 // Puts a zero into every word.
 pub fn clear(words: &mut [u32])

@@ -9,7 +9,8 @@ ghost use Rattle.stepper.specs.Statements.{passing};
 
 use crate::stack::take_next;
 use evaluation::{Truth, Value, truth_at, value_at};
-use script::{field, kinds};
+use kind_numbers as kinds;
+use script::field;
 
 #[derive(Clone, Copy)]
 pub enum Outcome {

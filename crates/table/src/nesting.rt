@@ -8,7 +8,7 @@ ghost use Rattle.script.specs.Refusals.{accepted, script_test};
 ghost use Rattle.table.specs.Misread.{Sound};
 ghost use Rattle.table.specs.Nesting.{Nested, Nestings};
 
-use script::kinds;
+use kind_numbers as kinds;
 
 fn larger(a: u16, b: u16) -> u16
     ensures { result ≡ max a b }

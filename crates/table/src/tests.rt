@@ -9,7 +9,8 @@ ghost use Rattle.table.specs.Verdicts.{verdict_of};
 ghost use Rattle.table.specs.Lowest.{NamelessAt, RowsTested};
 
 use crate::Verdict;
-use script::{RowNumber, VariableNumber, kinds};
+use kind_numbers as kinds;
+use script::{RowNumber, VariableNumber};
 
 // 1: no words, not four to a row, or over 2,048 rows.
 pub fn bad_length(n: usize) -> bool

@@ -12,7 +12,8 @@ ghost use Rattle.wp_writer.specs.Loops.{Loop, invariant_row, variant_row};
 ghost use Rattle.wp_writer.specs.Ends.{end_formula, EndReady, words_under};
 ghost use Rattle.wp_writer.specs.Walked.{Before, before_end, Walked};
 
-use script::{RowNumber, field, kinds};
+use kind_numbers as kinds;
+use script::{RowNumber, field};
 
 // The row of a loop's invariant.
 pub fn invariant(table: &[i32], k: RowNumber) -> RowNumber
