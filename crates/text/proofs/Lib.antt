@@ -1,3 +1,3 @@
 pub mod Signs
-mod Loops
+mod Parts
 mod Digits

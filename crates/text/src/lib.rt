@@ -10,14 +10,11 @@ ghost use Rattle.text.specs.Decimal.{decimal};
 pub fn clear(text: &mut [u8])
     ensures { text.new ≡ replicate (length text.old) 0 }
 {
-    let mut i = 0;
-    while i < text.len() {
-        text[i] = 0;
-        i += 1;
-    }
+    text.fill(0);
 }
 
-// Writes one byte. A place is where the next byte goes; past the end of the run it says that there was no room.
+// Writes one byte. A place is where the next byte goes; past the end of the run it says that there was no room (`Wrote`: a writer
+// goes on from any place with no test, and the last place tells).
 pub fn push_byte(text: &mut [u8], at: usize, byte: u8) -> usize
     ensures { Wrote text.old at (byte ∷ []) result text.new }
 {
@@ -33,17 +30,15 @@ pub fn push_byte(text: &mut [u8], at: usize, byte: u8) -> usize
 pub fn push_repeated(text: &mut [u8], at: usize, byte: u8, count: usize) -> usize
     ensures { Wrote text.old at (replicate count byte) result text.new }
 {
-    let mut p = at;
-    let mut left = count;
-    while 0 < left {
-        if text.len() <= p {
-            return text.len() + 1;
-        }
-        text[p] = byte;
-        p += 1;
-        left -= 1;
+    if text.len() < at {
+        return at;
     }
-    p
+    if text.len() - at < count {
+        return text.len() + 1;
+    }
+    let end = at + count;
+    text[at..end].fill(byte);
+    end
 }
 
 // Writes bytes, all of them or none.
@@ -56,12 +51,9 @@ pub fn push_text(text: &mut [u8], at: usize, bytes: &[u8]) -> usize
     if text.len() - at < bytes.len() {
         return text.len() + 1;
     }
-    let mut i = 0;
-    while i < bytes.len() {
-        text[at + i] = bytes[i];
-        i += 1;
-    }
-    at + i
+    let end = at + bytes.len();
+    text[at..end].copy_from_slice(bytes);
+    end
 }
 
 // The last digit of a number.
@@ -87,9 +79,5 @@ pub fn push_number(text: &mut [u8], at: usize, n: usize) -> usize
 pub fn magnitude(w: i32) -> usize
     ensures { result ≡ nat_abs w }
 {
-    if w < 0 {
-        (-1 - w) as usize + 1
-    } else {
-        w as usize
-    }
+    w.unsigned_abs() as usize
 }
