@@ -43,11 +43,6 @@ name_is Step = refl
 name_is Main = refl
 name_is Guard = refl
 
--- a kind that is neither 1, 2, 3 nor 5
-pub last_name : (n : ℕ) → (n ≡ 1 → ⊥) → (n ≡ 2 → ⊥) → (n ≡ 3 → ⊥) → (n ≡ 5 → ⊥) → name_of n ≡ bytes "main"
-unfolding name_of
-last_name n exit floor step guard = rw (ne_eqb n 1 exit, ne_eqb n 2 floor, ne_eqb n 3 step, ne_eqb n 5 guard)
-
 -- ---- an answer, by its number
 
 pub planned_is : (a : Answer) (cs : List Condition) → a.number ≡ 0

@@ -7,27 +7,10 @@
 ghost use Rattle.std.specs.Prelude.{◌≡◌, [], ◌∷◌, ◌+◌, ◌*◌, ◌≤◌, pos, length};
 ghost use Rattle.theorems.specs.Writing.{Wrote};
 ghost use Rattle.text.specs.Decimal.{decimal};
-ghost use Rattle.printer.specs.Input.{unsigned, twos_complement, words_of};
-ghost use Rattle.printer.specs.Text.{signed_decimal, rest_of_line, line, name_of, lines, conditions_in, answer_text, Listed};
+ghost use Rattle.printer.specs.Input.{words_of};
+ghost use Rattle.printer.specs.Text.{signed_decimal, rest_of_line, line, name, name_of, lines, conditions_in, answer_text, Listed};
 
-use script::Answer;
-
-// The number that four bytes spell, low byte first.
-fn unsigned(a: u8, b: u8, c: u8, d: u8) -> u32
-    ensures { result ≡ unsigned a b c d }
-{
-    a as u32 + 256 * (b as u32) + 65536 * (c as u32) + 16777216 * (d as u32)
-}
-
-fn twos_complement(n: u32) -> i32
-    ensures { result ≡ twos_complement n }
-{
-    if n < 2147483648 {
-        n as i32
-    } else {
-        -1 - ((4294967295 - n) as i32)
-    }
-}
+use script::{Answer, Rule};
 
 // Writes the words that the bytes spell, and gives their number.
 pub fn decode(bytes: &[u8], words: &mut [i32]) -> usize
@@ -35,15 +18,11 @@ pub fn decode(bytes: &[u8], words: &mut [i32]) -> usize
     ensures wrote { Wrote words.old 0 (words_of bytes.now) result words.new }
     ensures upper_bound { result ≤ length words.old }
 {
-    let count = bytes.len() / 4;
-    let mut i = 0;
-    while i < count {
-        let at = 4 * i;
-        let n = unsigned(bytes[at], bytes[at + 1], bytes[at + 2], bytes[at + 3]);
-        words[i] = twos_complement(n);
-        i += 1;
+    let (fours, _) = bytes.as_chunks::<4>();
+    for (i, four) in fours.iter().enumerate() {
+        words[i] = i32::from_le_bytes(*four);
     }
-    i
+    fours.len()
 }
 
 // A space and a number.
@@ -73,10 +52,8 @@ fn put_fields(out: &mut [u8], at: usize, words: &[i32]) -> usize
     ensures words_len_bound { length (rest_of_line words.now) ≤ 12 * length words.now + 1 }
 {
     let mut end = at;
-    let mut i = 0;
-    while i < words.len() {
-        end = put_field(out, end, words[i]);
-        i += 1;
+    for word in words {
+        end = put_field(out, end, *word);
     }
     text::push_byte(out, end, b'\n')
 }
@@ -91,16 +68,30 @@ fn put_heading(out: &mut [u8], name: &[u8], first: usize, second: usize) -> usiz
     text::push_byte(out, c, b'\n')
 }
 
-// The name of a condition of this kind.
-fn put_name(out: &mut [u8], at: usize, kind: usize) -> usize
-    ensures { Wrote out.old at (name_of kind) result out.new }
+// The rule of a condition of this kind.
+#[tactic(auto, unfolding(crate::specs::Text::name_of))]
+fn rule_of(kind: usize) -> Rule
+    ensures { name result ≡ name_of kind }
 {
     match kind {
-        1 => text::push_text(out, at, b"exit"),
-        2 => text::push_text(out, at, b"floor"),
-        3 => text::push_text(out, at, b"step"),
-        5 => text::push_text(out, at, b"guard"),
-        _ => text::push_text(out, at, b"main"),
+        1 => Rule::Exit,
+        2 => Rule::Floor,
+        3 => Rule::Step,
+        5 => Rule::Guard,
+        _ => Rule::Main,
+    }
+}
+
+// The name of a rule.
+fn put_name(out: &mut [u8], at: usize, rule: Rule) -> usize
+    ensures { Wrote out.old at (name rule) result out.new }
+{
+    match rule {
+        Rule::Exit => text::push_text(out, at, b"exit"),
+        Rule::Floor => text::push_text(out, at, b"floor"),
+        Rule::Step => text::push_text(out, at, b"step"),
+        Rule::Main => text::push_text(out, at, b"main"),
+        Rule::Guard => text::push_text(out, at, b"guard"),
     }
 }
 
@@ -109,7 +100,7 @@ fn put_condition(out: &mut [u8], at: usize, kind: usize, row: i32, formula: &[i3
     ensures wrote { Wrote out.old at (line (name_of kind) (row ∷ formula.now)) result out.new }
     ensures formula_len_bound { length (line (name_of kind) (row ∷ formula.now)) ≤ 12 * length formula.now + 36 }
 {
-    let a = put_name(out, at, kind);
+    let a = put_name(out, at, rule_of(kind));
     let b = put_field(out, a, row);
     put_fields(out, b, formula)
 }

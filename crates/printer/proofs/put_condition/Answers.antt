@@ -10,7 +10,7 @@ pub returns-clause-wrote : goal.returns-clause-wrote
 returns-clause-wrote c =
     let row = rw (back c.ranges.row.sfits) at c.put_field-b.ensures in
     rw (line_is (name_of c.args.kind) c.args.row c.args.formula.now)
-    (then c.put_name-a.ensures (then row c.put_fields.ensures.wrote))
+    (then (rw c.rule_of.ensures at c.put_name-a.ensures) (then row c.put_fields.ensures.wrote))
 
 pub returns-clause-formula_len_bound : goal.returns-clause-formula_len_bound
 returns-clause-formula_len_bound c =
