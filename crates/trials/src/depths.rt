@@ -3,34 +3,29 @@
 use crate::run;
 use script::Line;
 use std::io;
-use trial_words::output;
 
-fn say_line(rt: &impl Print, name: &[u8], line: Line) -> io::Result<()> {
-    rt.write_all(name)?;
-    if line.number == 0 {
-        rt.write_all(b": kind")?;
-        output::number(rt, line.kind)?;
-        rt.write_all(b", row")?;
-        output::number(rt, line.row)?;
-        rt.write_all(b", depth")?;
-        output::number(rt, line.depth)?;
-        rt.write_all(b", from")?;
-        output::number(rt, line.start)?;
-        rt.write_all(b" to")?;
-        output::number(rt, line.end)?;
+fn say_line(rt: &impl Print, name: &str, line: Line) -> io::Result<()> {
+    let Line {
+        number,
+        kind,
+        row,
+        depth,
+        start,
+        end,
+    } = line;
+    if number == 0 {
+        println!(rt; "{name}: kind {kind}, row {row}, depth {depth}, from {start} to {end}")
     } else {
-        rt.write_all(b": refused")?;
-        output::number(rt, line.number)?;
+        println!(rt; "{name}: refused {number}")
     }
-    rt.write_all(b"\n")
 }
 
-fn read(rt: &impl Print, name: &[u8], list: &[i32], index: i32) -> io::Result<()> {
+fn read(rt: &impl Print, name: &str, list: &[i32], index: i32) -> io::Result<()> {
     say_line(rt, name, list_reader::line_at(list, index))
 }
 
 // One condition, true, with this fourth word of its trailer and this last word of the list.
-fn ends_in(rt: &impl Print, name: &[u8], fourth: i32, last: i32) -> io::Result<()> {
+fn ends_in(rt: &impl Print, name: &str, fourth: i32, last: i32) -> io::Result<()> {
     let list = [16, 4, 0, 1, fourth, last];
     read(rt, name, &list, 0)
 }
@@ -48,62 +43,61 @@ const OLD_NEGATED: [i32; 7] = [25, 16, 16, 4, 3, 3, -1];
 const NEW_NOT_NEGATED: [i32; 8] = [25, 16, 16, 4, 3, 3, 0, 1];
 
 pub fn words(rt: &impl Print) -> io::Result<()> {
-    ends_in(rt, b"fourth word -1", -1, -1)?;
-    ends_in(rt, b"fourth word 0", 0, -1)?;
-    ends_in(rt, b"fourth word 7", 7, -1)?;
-    ends_in(rt, b"fourth word 8", 8, -1)?;
-    ends_in(rt, b"last word 0", 0, 0)?;
-    ends_in(rt, b"last word -1", 0, -1)?;
-    ends_in(rt, b"last word -2", 0, -2)?;
-    ends_in(rt, b"last word -2147483648", 0, -2147483648)?;
-    read(rt, b"old list", &OLD, 0)?;
-    read(rt, b"old list, index 1", &OLD, 1)?;
-    read(rt, b"old list of a guard", &OLD_GUARD, 0)?;
-    read(rt, b"old list, count negated", &OLD_NEGATED, 0)?;
-    read(rt, b"new list", &NEW, 0)?;
-    read(rt, b"new list, index 1", &NEW, 1)?;
-    read(rt, b"new list, index -1", &NEW, -1)?;
-    read(rt, b"new list, count not negated", &NEW_NOT_NEGATED, 0)
+    ends_in(rt, "fourth word -1", -1, -1)?;
+    ends_in(rt, "fourth word 0", 0, -1)?;
+    ends_in(rt, "fourth word 7", 7, -1)?;
+    ends_in(rt, "fourth word 8", 8, -1)?;
+    ends_in(rt, "last word 0", 0, 0)?;
+    ends_in(rt, "last word -1", 0, -1)?;
+    ends_in(rt, "last word -2", 0, -2)?;
+    ends_in(rt, "last word -2147483648", 0, -2147483648)?;
+    read(rt, "old list", &OLD, 0)?;
+    read(rt, "old list, index 1", &OLD, 1)?;
+    read(rt, "old list of a guard", &OLD_GUARD, 0)?;
+    read(rt, "old list, count negated", &OLD_NEGATED, 0)?;
+    read(rt, "new list", &NEW, 0)?;
+    read(rt, "new list, index 1", &NEW, 1)?;
+    read(rt, "new list, index -1", &NEW, -1)?;
+    read(rt, "new list, count not negated", &NEW_NOT_NEGATED, 0)
 }
 
 // Kind, row and depth of each condition, first one first.
 fn say_depths(rt: &impl Print, list: &[i32], conditions: usize) -> io::Result<()> {
-    let mut i: usize = 0;
-    while i < conditions {
-        if i < 100 {
-            let line = list_reader::line_at(list, i as i32);
-            output::number(rt, line.kind)?;
-            output::number(rt, line.row)?;
-            output::number(rt, line.depth)?;
-            rt.write_all(b";")?;
+    for i in 0..100 {
+        if i < conditions {
+            let Line {
+                kind,
+                row,
+                depth,
+                ..
+            } = list_reader::line_at(list, i as i32);
+            print!(rt; " {kind} {row} {depth};")?;
         }
-        i += 1;
     }
-    rt.write_all(b"\n")
+    println!(rt)
 }
 
-fn generated(rt: &impl Print, name: &[u8], table: &[i32], n: usize) -> io::Result<()> {
+fn generated(rt: &impl Print, name: &str, table: &[i32]) -> io::Result<()> {
     let mut list = [7; 512];
     let mut scratch = [7; 5120];
-    if n <= table.len() {
-        let answer = generator::generate(&table[..n], &mut list, &mut scratch);
-        let conditions = answer.conditions;
-        let used = answer.words;
-        run::say(rt, name, answer)?;
-        rt.write_all(b"kinds, rows and depths:")?;
-        if used <= 512 {
-            say_depths(rt, &list[..used], conditions)?;
-        }
+    let answer = generator::generate(table, &mut list, &mut scratch);
+    let conditions = answer.conditions;
+    let words = answer.words;
+    run::say(rt, name, answer)?;
+    print!(rt; "kinds, rows and depths:")?;
+    if let Some(written) = list.get(..words) {
+        say_depths(rt, written, conditions)?;
     }
     Ok(())
 }
 
 // The script of a text.
-fn depths(rt: &impl Print, name: &[u8], text: &[u8]) -> io::Result<()> {
+fn depths(rt: &impl Print, name: &str, text: &str) -> io::Result<()> {
     let mut table = [7; 512];
-    let answer = script_reader::read_text(text, &mut table);
-    if answer.number == 0 {
-        generated(rt, name, &table, answer.used)?;
+    let answer = script_reader::read_text(text.as_bytes(), &mut table);
+    let used = answer.used;
+    if answer.number == 0 && used <= 512 {
+        generated(rt, name, &table[..used])?;
     }
     Ok(())
 }
@@ -111,20 +105,20 @@ fn depths(rt: &impl Print, name: &[u8], text: &[u8]) -> io::Result<()> {
 pub fn scripts(rt: &impl Print) -> io::Result<()> {
     depths(
         rt,
-        b"a loop in a loop in a branch",
-        b"pre true; if v0 < 1 then while true keep true fall 0 do if v1 < 1 then while true keep true fall 1 do skip end else skip end
+        "a loop in a loop in a branch",
+        "pre true; if v0 < 1 then while true keep true fall 0 do if v1 < 1 then while true keep true fall 1 do skip end else skip end
         end else while true keep true fall 2 do skip end end; post true",
     )?;
     depths(
         rt,
-        b"guards that divide",
-        b"pre true; while 1 div v0 = 1 keep true fall 0 do while 1 mod v1 = 1 keep true fall 1 do skip end; while true keep true fall 2
+        "guards that divide",
+        "pre true; while 1 div v0 = 1 keep true fall 0 do while 1 mod v1 = 1 keep true fall 1 do skip end; while true keep true fall 2
         do skip end end; while 1 div v2 = 1 keep true fall 3 do skip end; post true",
     )?;
     depths(
         rt,
-        b"eight loops in one another",
-        b"pre true; while true keep true fall 0 do while true keep true fall 1 do while true keep true fall 2 do while true keep true
+        "eight loops in one another",
+        "pre true; while true keep true fall 0 do while true keep true fall 1 do while true keep true fall 2 do while true keep true
         fall 3 do while true keep true fall 4 do while true keep true fall 5 do while true keep true fall 6 do while true keep true
         fall 7 do skip end end end end end end end end; post true",
     )

@@ -11,16 +11,16 @@ fn divided(n: i64, d: i64, quotient: i64, remainder: i64) -> bool {
     }
 }
 
-fn say(rt: &impl Print, line: &[u8], right: bool) -> io::Result<()> {
+fn say(rt: &impl Print, line: &str, right: bool) -> io::Result<()> {
     if right {
-        rt.write_all(line)?;
+        println!(rt; "{line}")?;
     }
     Ok(())
 }
 
 pub fn all(rt: &impl Print) -> io::Result<()> {
-    say(rt, b"-7 by 2: div -4, mod 1\n", divided(-7, 2, -4, 1))?;
-    say(rt, b"7 by -2: div -3, mod 1\n", divided(7, -2, -3, 1))?;
-    say(rt, b"-7 by -2: div 4, mod 1\n", divided(-7, -2, 4, 1))?;
-    say(rt, b"5 by 0: div 0, mod 5\n", divided(5, 0, 0, 5))
+    say(rt, "-7 by 2: div -4, mod 1", divided(-7, 2, -4, 1))?;
+    say(rt, "7 by -2: div -3, mod 1", divided(7, -2, -3, 1))?;
+    say(rt, "-7 by -2: div 4, mod 1", divided(-7, -2, 4, 1))?;
+    say(rt, "5 by 0: div 0, mod 5", divided(5, 0, 0, 5))
 }

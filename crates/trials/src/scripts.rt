@@ -2,35 +2,26 @@
 // (02, P9).
 
 use std::io;
-use trial_words::{output, printed};
-
-// The list of the first n words of a table.
-fn list_of(table: &[i32], n: usize, list: &mut [i32], scratch: &mut [i32]) {
-    if n <= table.len() {
-        generator::generate(&table[..n], list, scratch);
-    }
-}
+use trial_words::printed;
 
 // The condition at an index: its text, or the number of the refusal.
 fn script(rt: &impl Print, list: &[i32], index: i32, text: &mut [u8]) -> io::Result<()> {
     let answer = smt_writer::write_condition(list, index, text);
+    let number = answer.number;
     let used = answer.used;
-    if answer.number == 0 {
-        if used <= text.len() {
-            rt.write_all(&text[..used])?;
-        }
-    } else {
-        rt.write_all(b"script refused")?;
-        output::number(rt, answer.number)?;
-        rt.write_all(b"\n")?;
+    if number != 0 {
+        return println!(rt; "script refused {number}");
+    }
+    if let Some(written) = text.get(..used) {
+        rt.write_all(written)?;
     }
     Ok(())
 }
 
 // A list that lacks its first word is none.
 fn torn(rt: &impl Print, list: &[i32], text: &mut [u8]) -> io::Result<()> {
-    if 1 <= list.len() {
-        script(rt, &list[1..], 4, text)?;
+    if let Some((_, rest)) = list.split_first() {
+        script(rt, rest, 4, text)?;
     }
     Ok(())
 }
@@ -50,7 +41,7 @@ pub fn all(rt: &impl Print) -> io::Result<()> {
     let mut text = [7; 512];
     let mut exact = [7; 179];
     let mut short = [7; 178];
-    list_of(&table, 80, &mut list, &mut scratch);
+    generator::generate(&table, &mut list, &mut scratch);
     script(rt, &list, 0, &mut text)?;
     script(rt, &list, 1, &mut text)?;
     script(rt, &list, 2, &mut exact)?;

@@ -3,59 +3,37 @@
 use std::io;
 use trial_words::{output, printed};
 
-// Says what the first n words of a list become in a run.
-fn shorten_part(
-    rt: &impl Print,
-    name: &[u8],
-    list: &[i32],
-    n: usize,
-    short: &mut [i32],
-) -> io::Result<()> {
-    if n <= list.len() {
-        let answer = shortener::shorten(&list[..n], short);
-        if answer.number == 0 {
-            output::list(rt, name, short, answer.used)?;
-        } else {
-            rt.write_all(name)?;
-            rt.write_all(b": refused")?;
-            output::number(rt, answer.number)?;
-            rt.write_all(b"\n")?;
-        }
+// Says what a list becomes in a run.
+fn shorten_words(rt: &impl Print, name: &str, list: &[i32], short: &mut [i32]) -> io::Result<()> {
+    let answer = shortener::shorten(list, short);
+    let number = answer.number;
+    let used = answer.used;
+    if number != 0 {
+        return println!(rt; "{name}: refused {number}");
+    }
+    if let Some(written) = short.get(..used) {
+        output::list(rt, name, written)?;
     }
     Ok(())
 }
 
-// The same of a list in an array.
-fn shorten_words(
-    rt: &impl Print,
-    name: &[u8],
-    list: &[i32; 124],
-    n: usize,
-    short: &mut [i32],
-) -> io::Result<()> {
-    shorten_part(rt, name, list, n, short)
-}
-
 // The same of a list as the program prints it.
-fn shorten(rt: &impl Print, name: &[u8], words: &[u8], short: &mut [i32]) -> io::Result<()> {
-    let mut list = [0; 124];
-    let n = printed::numbers(words, &mut list);
-    shorten_words(rt, name, &list, n, short)
+fn shorten(rt: &impl Print, name: &str, words: &str, short: &mut [i32]) -> io::Result<()> {
+    shorten_words(rt, name, &printed::numbers(words), short)
 }
 
 // The same of a list with depths, from the words before its last one.
 fn shorten_with_depths(
     rt: &impl Print,
-    name: &[u8],
-    words: &[u8],
+    name: &str,
+    words: &str,
     last: i32,
     short: &mut [i32],
 ) -> io::Result<()> {
-    let mut list = [0; 124];
-    let n = printed::numbers(words, &mut list);
-    if n < 124 {
-        list[n] = last;
-        shorten_words(rt, name, &list, n + 1, short)?;
+    let mut list = printed::numbers(words);
+    if !list.is_full() {
+        list.push(last);
+        shorten_words(rt, name, &list, short)?;
     }
     Ok(())
 }
@@ -64,11 +42,9 @@ fn shorten_with_depths(
 fn shorter<'a>(rt: &impl Print, old: &'a [i32], new: &'a [i32], index: i32) -> io::Result<()> {
     let mut number: usize = 7;
     let formula = shortener::shorter(old, new, index, &mut number);
-    rt.write_all(b"shorter:")?;
-    output::number(rt, number)?;
-    rt.write_all(b",")?;
+    print!(rt; "shorter: {number},")?;
     output::words(rt, formula)?;
-    rt.write_all(b"\n")
+    println!(rt)
 }
 
 // 0 - v0 = v1; v0 - 0 = v0 + 0; 0 + v0 = v0 * 1; 1 * v0 = v1.
@@ -76,8 +52,8 @@ fn expressions(rt: &impl Print) -> io::Result<()> {
     let mut short = [7; 40];
     shorten(
         rt,
-        b"expressions",
-        b"20 4 1 0 2 0 2 1 1 9 8 20 4 2 0 1 0 3 2 0 1 0 2 9 11 20 3 1 0 2 0 5 2 0 1 1 3 9 11 20 5 1 1 2 0 2 1 4 9 8 4\n",
+        "expressions",
+        "20 4 1 0 2 0 2 1 1 9 8 20 4 2 0 1 0 3 2 0 1 0 2 9 11 20 3 1 0 2 0 5 2 0 1 1 3 9 11 20 5 1 1 2 0 2 1 4 9 8 4\n",
         &mut short,
     )
 }
@@ -88,36 +64,36 @@ fn formulas(rt: &impl Print) -> io::Result<()> {
     let mut short = [7; 40];
     shorten(
         rt,
-        b"formulas",
-        b"24 23 16 18 2 0 2 1 23 18 2 0 2 1 16 1 9 15 24 23 17 18 2 0 2 1 23 18 2 0 2 1 17 2 9 15 24 25 16 18 2 0 2 1 24 25 17 18 2 0 2 1 25 18 2 0 2 1 16 3 9 23 24 22 16 22 17 5 9 5 4\n",
+        "formulas",
+        "24 23 16 18 2 0 2 1 23 18 2 0 2 1 16 1 9 15 24 23 17 18 2 0 2 1 23 18 2 0 2 1 17 2 9 15 24 25 16 18 2 0 2 1 24 25 17 18 2 0 2 1 25 18 2 0 2 1 16 3 9 23 24 22 16 22 17 5 9 5 4\n",
         &mut short,
     )
 }
 
 // v0 = 0 - 0; true implies (not false and v0 + 1 * 0 = 0): rules that fit when a part was shortened. It becomes 17 words.
 fn padded(rt: &impl Print) -> io::Result<()> {
-    let words = b"20 2 0 4 1 0 1 0 1 7 8 25 16 23 22 17 20 3 2 0 5 1 1 1 0 1 0 4 9 16 2\n";
+    let words = "20 2 0 4 1 0 1 0 1 7 8 25 16 23 22 17 20 3 2 0 5 1 1 1 0 1 0 4 9 16 2\n";
     let mut exact = [7; 17];
     let mut short = [7; 16];
-    shorten(rt, b"padded", words, &mut exact)?;
-    shorten(rt, b"padded, one word short", words, &mut short)?;
-    shorten(rt, b"no list", b"16 25 16 16 4 3 3 1\n", &mut exact)
+    shorten(rt, "padded", words, &mut exact)?;
+    shorten(rt, "padded, one word short", words, &mut short)?;
+    shorten(rt, "no list", "16 25 16 16 4 3 3 1\n", &mut exact)
 }
 
 // The same conditions with depths 7 and 0. It becomes 19 words.
 fn padded_with_depths(rt: &impl Print) -> io::Result<()> {
-    let words = b"20 2 0 4 1 0 1 0 1 7 8 7 25 16 23 22 17 20 3 2 0 5 1 1 1 0 1 0 4 9 16 0\n";
+    let words = "20 2 0 4 1 0 1 0 1 7 8 7 25 16 23 22 17 20 3 2 0 5 1 1 1 0 1 0 4 9 16 0\n";
     let mut exact = [7; 19];
     let mut short = [7; 18];
-    shorten_with_depths(rt, b"padded, with depths", words, -2, &mut exact)?;
+    shorten_with_depths(rt, "padded, with depths", words, -2, &mut exact)?;
     shorten_with_depths(
         rt,
-        b"padded, with depths, one word short",
+        "padded, with depths, one word short",
         words,
         -2,
         &mut short,
     )?;
-    shorten_with_depths(rt, b"depth 8", b"25 16 16 3 3 3 8\n", -1, &mut exact)
+    shorten_with_depths(rt, "depth 8", "25 16 16 3 3 3 8\n", -1, &mut exact)
 }
 
 // 02, P10: 0 - 0 = v0 + (0 - 0); not (0 - 0 = 0); (0 - 0) - 0 = 0 - (0 - 0). Then what the order of P6 left of them, which stays.
@@ -125,14 +101,14 @@ fn zero_minus_zero(rt: &impl Print) -> io::Result<()> {
     let mut short = [7; 40];
     shorten(
         rt,
-        b"0 - 0",
-        b"20 4 1 0 1 0 3 2 0 4 1 0 1 0 1 7 14 22 20 4 1 0 1 0 1 0 2 7 9 20 4 4 1 0 1 0 1 0 4 1 0 4 1 0 1 0 4 9 17 3\n",
+        "0 - 0",
+        "20 4 1 0 1 0 3 2 0 4 1 0 1 0 1 7 14 22 20 4 1 0 1 0 1 0 2 7 9 20 4 4 1 0 1 0 1 0 4 1 0 4 1 0 1 0 4 9 17 3\n",
         &mut short,
     )?;
     shorten(
         rt,
-        b"0 - 0, from before",
-        b"20 8 1 0 3 2 0 8 1 0 1 7 10 22 20 8 1 0 1 0 2 7 7 20 8 1 0 8 8 1 0 4 9 8 3\n",
+        "0 - 0, from before",
+        "20 8 1 0 3 2 0 8 1 0 1 7 10 22 20 8 1 0 1 0 2 7 7 20 8 1 0 8 8 1 0 4 9 8 3\n",
         &mut short,
     )
 }

@@ -12,31 +12,17 @@ const FOUR_SKIPS: [i32; 40] = [
 ];
 
 pub fn rooms(rt: &impl Print) -> io::Result<()> {
-    run::part(rt, b"four rows, room 7, scratch 12", &FOUR_ROWS, 16, 7, 12)?;
+    run::words(rt, "four rows, room 7, scratch 12", &FOUR_ROWS, 7, 12)?;
     // 11 by document 01; planned since 02, P8.
-    run::part(rt, b"four rows, room 8, scratch 13", &FOUR_ROWS, 16, 8, 13)?;
-    run::part(rt, b"four rows, room 8, scratch 8", &FOUR_ROWS, 16, 8, 8)?;
-    run::part(rt, b"four rows, room 8, scratch 7", &FOUR_ROWS, 16, 8, 7)?;
-    run::part(rt, b"four rows, room 0, scratch 8", &FOUR_ROWS, 16, 0, 8)?;
-    run::part(rt, b"four rows, room 0, scratch 7", &FOUR_ROWS, 16, 0, 7)?;
-    run::part(rt, b"four rows, room 0, scratch 0", &FOUR_ROWS, 16, 0, 0)?;
+    run::words(rt, "four rows, room 8, scratch 13", &FOUR_ROWS, 8, 13)?;
+    run::words(rt, "four rows, room 8, scratch 8", &FOUR_ROWS, 8, 8)?;
+    run::words(rt, "four rows, room 8, scratch 7", &FOUR_ROWS, 8, 7)?;
+    run::words(rt, "four rows, room 0, scratch 8", &FOUR_ROWS, 0, 8)?;
+    run::words(rt, "four rows, room 0, scratch 7", &FOUR_ROWS, 0, 7)?;
+    run::words(rt, "four rows, room 0, scratch 0", &FOUR_ROWS, 0, 0)?;
     // planned by the rule of document 01; 11 since 02, P8.
-    run::part(
-        rt,
-        b"four skips, room 8, scratch 19",
-        &FOUR_SKIPS,
-        40,
-        8,
-        19,
-    )?;
-    run::part(
-        rt,
-        b"four skips, room 8, scratch 20",
-        &FOUR_SKIPS,
-        40,
-        8,
-        20,
-    )
+    run::words(rt, "four skips, room 8, scratch 19", &FOUR_SKIPS, 8, 19)?;
+    run::words(rt, "four skips, room 8, scratch 20", &FOUR_SKIPS, 8, 20)
 }
 
 pub fn list(rt: &impl Print) -> io::Result<()> {
@@ -44,16 +30,16 @@ pub fn list(rt: &impl Print) -> io::Result<()> {
     let mut scratch = [7; 8];
     run::say(
         rt,
-        b"four rows",
+        "four rows",
         generator::generate(&FOUR_ROWS, &mut list, &mut scratch),
     )?;
-    output::list(rt, b"four rows", &list, 8)
+    output::list(rt, "four rows", &list)
 }
 
 // All words are 0: where their number passes, row 0 has a kind that is not listed.
 pub fn lengths(rt: &impl Print) -> io::Result<()> {
     let words = [0; 8196];
-    run::part(rt, b"no words", &words, 0, 512, 5120)?;
-    run::part(rt, b"8192 words", &words, 8192, 512, 5120)?;
-    run::part(rt, b"8196 words", &words, 8196, 512, 5120)
+    run::words(rt, "no words", &words[..0], 512, 5120)?;
+    run::words(rt, "8192 words", &words[..8192], 512, 5120)?;
+    run::words(rt, "8196 words", &words, 512, 5120)
 }

@@ -2,62 +2,63 @@
 // text is read and planned.
 
 use crate::run;
+use script_reader::TextAnswer;
 use std::io;
-use trial_words::output;
 
 // Says what a text gets with so many words: at most 512.
-fn read(rt: &impl Print, text: &[u8], room: usize) -> io::Result<()> {
+fn read(rt: &impl Print, text: &str, room: usize) -> io::Result<()> {
     let mut words = [7; 512];
     if room <= 512 {
-        let answer = script_reader::read_text(text, &mut words[..room]);
-        rt.write_all(text)?;
-        if answer.number == 0 {
-            rt.write_all(b": read")?;
-            output::number(rt, answer.used)?;
+        let answer = script_reader::read_text(text.as_bytes(), &mut words[..room]);
+        let TextAnswer {
+            number,
+            place,
+            used,
+        } = answer;
+        if number == 0 {
+            println!(rt; "{text}: read {used}")?;
         } else {
-            rt.write_all(b": refused")?;
-            output::number(rt, answer.number)?;
-            output::number(rt, answer.place)?;
+            println!(rt; "{text}: refused {number} {place}")?;
         }
-        rt.write_all(b"\n")?;
     }
     Ok(())
 }
 
 fn example(rt: &impl Print) -> io::Result<()> {
-    let text = b"pre 0 <= v0; while 0 < v0 keep 0 <= v0 fall v0 do v0 := v0 - 1 end; post v0 = 0";
+    let text = "pre 0 <= v0; while 0 < v0 keep 0 <= v0 fall v0 do v0 := v0 - 1 end; post v0 = 0";
     let mut words = [7; 80];
-    let answer = script_reader::read_text(text, &mut words);
-    if answer.number == 0 {
-        run::part(rt, b"A as text", &words, answer.used, 512, 5120)?;
+    let answer = script_reader::read_text(text.as_bytes(), &mut words);
+    let used = answer.used;
+    if answer.number == 0 && used <= 80 {
+        run::words(rt, "A as text", &words[..used], 512, 5120)?;
     }
     Ok(())
 }
 
 pub fn all(rt: &impl Print) -> io::Result<()> {
     example(rt)?;
-    read(rt, b"pre true; skip; post true", 16)?;
-    read(rt, b"pre true; skip; post true", 15)?;
-    read(rt, b"pre true; skip; skip; skip; post true", 512)?;
+    read(rt, "pre true; skip; post true", 16)?;
+    read(rt, "pre true; skip; post true", 15)?;
+    read(rt, "pre true; skip; skip; skip; post true", 512)?;
     read(
         rt,
-        b"pre v0 = 1 implies true implies false; v1 := 1 - 2 * v0; post not true or false",
+        "pre v0 = 1 implies true implies false; v1 := 1 - 2 * v0; post not true or false",
         512,
     )?;
-    read(rt, b"pre (v0) < 1; assert (1 < 2) and true; post true", 512)?;
-    read(rt, b"pre true; v0 := when(true, --5, -(5)); post true", 512)?;
-    read(rt, b"pre (v0) and true; skip; post true", 512)?;
-    read(rt, b"pre true; v0 := (1 < 2); post true", 512)?;
-    read(rt, b"pre 1 < 2 < 3; skip; post true", 512)?;
-    read(rt, b"pre true; skip;; post true", 512)?;
-    read(rt, b"pre true; skip; post true ;", 512)?;
-    read(rt, b"pre true; skip; post", 512)?;
-    read(rt, b"pre true; foo; post true", 512)?;
-    read(rt, b"pre true; v0 := 1 :; post", 512)?;
-    read(rt, b"pre true; v0 := -2147483648; post true", 512)?;
-    read(rt, b"pre true; v0 := 2147483648; post true", 512)?;
-    read(rt, b"pre true; v1023 := 01; post true", 512)?;
-    read(rt, b"pre true; v1024 := 1; post true", 512)?;
-    read(rt, b"pre true; assert mark(1) = 0; post true", 512)?;
-    read(rt, b"pre v1024 = 0; skip; post true true", 512)
+    read(rt, "pre (v0) < 1; assert (1 < 2) and true; post true", 512)?;
+    read(rt, "pre true; v0 := when(true, --5, -(5)); post true", 512)?;
+    read(rt, "pre (v0) and true; skip; post true", 512)?;
+    read(rt, "pre true; v0 := (1 < 2); post true", 512)?;
+    read(rt, "pre 1 < 2 < 3; skip; post true", 512)?;
+    read(rt, "pre true; skip;; post true", 512)?;
+    read(rt, "pre true; skip; post true ;", 512)?;
+    read(rt, "pre true; skip; post", 512)?;
+    read(rt, "pre true; foo; post true", 512)?;
+    read(rt, "pre true; v0 := 1 :; post", 512)?;
+    read(rt, "pre true; v0 := -2147483648; post true", 512)?;
+    read(rt, "pre true; v0 := 2147483648; post true", 512)?;
+    read(rt, "pre true; v1023 := 01; post true", 512)?;
+    read(rt, "pre true; v1024 := 1; post true", 512)?;
+    read(rt, "pre true; assert mark(1) = 0; post true", 512)?;
+    read(rt, "pre v1024 = 0; skip; post true true", 512)
 }
