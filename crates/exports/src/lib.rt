@@ -22,7 +22,6 @@ ghost use Rattle.exports.specs.Sides.{side_number};
 
 use editor::Record;
 use script::Answer;
-use table::Verdict;
 
 // The verdict on a table: number and row, both 0 where it is accepted.
 #[unsafe(no_mangle)]
@@ -30,15 +29,14 @@ pub extern "C" fn leqwarti_check(table: &[i32], number: &mut usize, row: &mut us
     ensures number { number.new ≡ number_of (verdict table.now) }
     ensures row { row.new ≡ row_of (verdict table.now) }
 {
-    let answer = table::check(table);
-    match answer {
-        Verdict::Accepted => {
+    match table::check(table) {
+        Ok(()) => {
             *number = 0;
             *row = 0;
         }
-        Verdict::Refused(n, r) => {
-            *number = n;
-            *row = r.0;
+        Err(refused) => {
+            *number = refused.fault.number();
+            *row = refused.row.0;
         }
     }
 }

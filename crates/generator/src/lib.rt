@@ -10,7 +10,6 @@ ghost use Rattle.generator.specs.Outcomes.{Fitted, Answered};
 
 use clearing::clear;
 use script::Answer;
-use table::Verdict;
 
 fn refuse(number: usize, row: usize) -> Answer
     ensures { result ≡ refusal number row }
@@ -69,10 +68,9 @@ fn answer(table: &[i32], list: &mut [i32], scratch: &mut [i32]) -> Answer
     ensures scratch_len_unchanged { length scratch.new ≡ length scratch.old }
 {
     clear(list);
-    let verdict = table::check(table);
-    match verdict {
-        Verdict::Accepted => plan(table, list, scratch),
-        Verdict::Refused(number, row) => refuse(number, row.0),
+    match table::check(table) {
+        Ok(()) => plan(table, list, scratch),
+        Err(refused) => refuse(refused.fault.number(), refused.row.0),
     }
 }
 

@@ -11,7 +11,6 @@ ghost use Rattle.machine.specs.Playing.{Begun, Told, answer, played};
 use script::field;
 use stepper::steps::Outcome;
 use stepper::{stack, steps};
-use table::Verdict;
 
 // The number of 02, P11; the row of the statement that is due, or of a refusal; the whole steps done, and the height of the stack.
 #[derive(Clone, Copy)]
@@ -114,10 +113,9 @@ pub fn run(
     ensures variables { variables.new ≡ (machine_run mode_64 table.now stack.old variables.old marks.old limit).vars }
     ensures marks { marks.new ≡ (machine_run mode_64 table.now stack.old variables.old marks.old limit).marks }
 {
-    let verdict = table::check(table);
-    match verdict {
-        Verdict::Refused(n, r) => refusal(n, r.0),
-        Verdict::Accepted => {
+    match table::check(table) {
+        Err(refused) => refusal(refused.fault.number(), refused.row.0),
+        Ok(()) => {
             let rows = table.len() / 4;
             if too_short(stack.len(), 0, rows, variables.len(), marks.len()) {
                 return refusal(51, 0);
@@ -146,10 +144,9 @@ pub fn go_on(
     ensures variables { variables.new ≡ (machine_on mode_64 table.now stack.old variables.old marks.old limit height).vars }
     ensures marks { marks.new ≡ (machine_on mode_64 table.now stack.old variables.old marks.old limit height).marks }
 {
-    let verdict = table::check(table);
-    match verdict {
-        Verdict::Refused(n, r) => refusal(n, r.0),
-        Verdict::Accepted => {
+    match table::check(table) {
+        Err(refused) => refusal(refused.fault.number(), refused.row.0),
+        Ok(()) => {
             if too_short(
                 stack.len(),
                 height,

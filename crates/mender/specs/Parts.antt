@@ -1,12 +1,14 @@
 -- The loop over the rows that looks for 2 to 5 (`PartsAt`); what a table has that passes 1 to 5 (`checked_of`).
 -- Assumes nothing.
-use Rattle.std.specs.Prelude.{ℕ, ◌+◌, ◌≤◌, ◌<◌, ◌≡◌, ◌≢◌, cond, List, eqb, ℤ, length}
+use Rattle.std.specs.Prelude.{ℕ, ◌+◌, ◌≤◌, ◌<◌, ◌≡◌, cond, List, eqb, ℤ, length, Option, Some, None}
 use Rattle.std.proofs.Common.{sym, ◌∙◌, inl, inr, add-one, ne_eqb}
 use Rattle.std.proofs.Math.Path.{ap}
 use Rattle.std.proofs.Math.Decide.{ℕ_discrete}
 use Rattle.script.specs.Rows.{fields, row, rows}
 use Rattle.script.specs.Refusals.{accepted, refused, linked, in_range, unused_zero}
 use Rattle.theorems.specs.Accepted.{both}
+use Rattle.rows.specs.declared.Fault.{Fault}
+use Rattle.rows.specs.Numbers.{not_none, number, number_of}
 use Rattle.rows.specs.Faults.{Passed}
 use Rattle.rows.specs.States.{Sized, States, Tested, states_none}
 use Rattle.table.specs.Lowest.{Reached, reached_none, reached_more, reached_fault, reached_all}
@@ -30,20 +32,24 @@ passed_of f e = go (ℕ_discrete f 6)
     go (yes d) = inr d
     go (no d) = inl (rw (ne_eqb f 6 d) at e)
 
-module _ {t : List ℤ} {i f g : ℕ} {s s' : List ℕ} (a : PartsAt t i s) (h : i < rows t) (d : Tested t i f s') (e : g ≡ cond (eqb f 6) 0 f) where
-  fault_is : part_fault t i ≡ g
+module _ {t : List ℤ} {i f : ℕ} (g : Option Fault) {s s' : List ℕ} (a : PartsAt t i s) (h : i < rows t) (d : Tested t i f s') (e : number_of g ≡ cond (eqb f 6) 0 f) where
+  fault_is : part_fault t i ≡ number_of g
   unfolding part_fault
   fault_is = rw (← d.is) (sym e)
 
-  pub parts_more : g ≡ 0 → PartsAt t (i + 1) s'
-  parts_more z = record {
-    reached = reached_more a.reached h (fault_is ∙ z);
-    shown = rw (add-one i) (d.shown (passed_of f (sym e ∙ z)));
-  }
+  pub parts_more : g ≡ None → PartsAt t (i + 1) s'
+  parts_more z =
+      let n = ap number_of z in
+      record {
+        reached = reached_more a.reached h (fault_is ∙ n);
+        shown = rw (add-one i) (d.shown (passed_of f (sym e ∙ n)));
+      }
 
-  pub parts_refused : g ≢ 0 → refused g i ≡ part_test t
+  pub parts_refused : {k : Fault} → g ≡ Some k → refused (number k) i ≡ part_test t
   unfolding part_test
-  parts_refused n = ap (λ (k : ℕ). refused k i) (sym fault_is) ∙ reached_fault a.reached h (λ z. n (sym fault_is ∙ z))
+  parts_refused {k} z =
+      let is : part_fault t i ≡ number k = fault_is ∙ ap number_of z in
+      rw is at (reached_fault a.reached h (λ y. not_none k (sym is ∙ y)))
 
 pub parts_accepted : {t : List ℤ} {i : ℕ} {s : List ℕ} → PartsAt t i s → rows t ≤ i → accepted ≡ part_test t
 unfolding part_test

@@ -15,8 +15,9 @@ ghost use Rattle.mending.specs.Mended.{too_long as Mended·too-long};
 ghost use Rattle.mender.specs.Whole.{Cleared, Counting, Told, refused_answer};
 
 use clearing::clear;
+use rows::Fault;
 use script::RowNumber;
-use table::{Verdict, tests};
+use table::{Refusal, tests};
 
 // What is answered beside the new table and the old row of each of its rows: the number and the row of a refusal; how many words
 // the new table has, how many old rows were dropped, and how many new rows are copies of a row that was copied before.
@@ -42,17 +43,17 @@ fn refusal(number: usize, row: usize) -> MendAnswer
 }
 
 // 1 to 5, then 7 for a last row that is no script.
-fn check(table: &[i32]) -> Verdict
+fn check(table: &[i32]) -> Result<(), Refusal>
     ensures { verdict_of result ≡ length_test table.now and_then part_test table.now and_then script_test table.now }
 {
     if tests::bad_length(table.len()) {
-        return Verdict::Refused(1, RowNumber(0));
+        return Err(Refusal {
+            fault: Fault::BadLength,
+            row: RowNumber(0),
+        });
     }
-    let parts = parts::check_parts(table);
-    match parts {
-        Verdict::Refused(n, r) => Verdict::Refused(n, r),
-        Verdict::Accepted => tests::check_script(table),
-    }
+    parts::check_parts(table)?;
+    tests::check_script(table)
 }
 
 // 14: whether so many rows are more than a table has, or than fit into so many words and places.
@@ -104,10 +105,9 @@ pub fn mend(table: &[i32], new: &mut [i32], origins: &mut [i32]) -> MendAnswer
 {
     clear(new);
     clear(origins);
-    let checked = check(table);
-    match checked {
-        Verdict::Refused(n, r) => refusal(n, r.0),
-        Verdict::Accepted => {
+    match check(table) {
+        Err(refused) => refusal(refused.fault.number(), refused.row.0),
+        Ok(()) => {
             let swept = loops::sweep(table);
             if swept.escaped < table.len() / 4 {
                 return refusal(13, swept.escaped);

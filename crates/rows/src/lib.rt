@@ -7,6 +7,40 @@ ghost use Rattle.rows.specs.Patterns.{blank, cell, limited};
 ghost use Rattle.rows.specs.Patterns.{patterns as Patterns·patterns};
 ghost use Rattle.rows.specs.States.{Ready, Tested, Tried};
 ghost use Rattle.rows.specs.Faults.{first as Faults·first};
+ghost use Rattle.rows.specs.Numbers.{number, number_of};
+
+// What a table is refused for, with 01's numbers.
+#[derive(Clone, Copy, PartialEq, Eq, PartialOrd, Ord, Debug)]
+pub enum Fault {
+    // no words, not four to a row, or over 2,048 rows
+    BadLength = 1,
+    // a kind that is not listed
+    UnlistedKind = 2,
+    // a variable's number or a mark's row out of range, or an unused field not 0
+    OutOfRange = 3,
+    // a link to a row that is not lower
+    LinkNotLower = 4,
+    // a linked row of the wrong sort
+    WrongSort = 5,
+    // a row linked twice
+    LinkedTwice = 6,
+    // a last row that is no script, or another that nothing links to
+    Loose = 7,
+    // an assignment to a frozen name
+    FrozenTarget = 8,
+    // a frozen name or a mark where it may not stand
+    Misplaced = 9,
+    // ifs and whiles nested too deep
+    TooDeep = 10,
+}
+
+impl Fault {
+    pub fn number(self) -> usize
+        ensures { result ≡ number self }
+    {
+        self as usize
+    }
+}
 
 // The kinds of 01, four letters to each number from 0 to 48: the sort of its rows, then what their three fields hold. A capital
 // is a sort (X: script, U: a kind that is not listed), and of a field a link to a row of that sort; `_` is a field that is not
@@ -34,59 +68,67 @@ fn in_range(letter: u8, n: usize, rows: usize) -> bool
     }
 }
 
-// 3 to 6: the fault of a field of row r, or 0. The state of a row is the letter of its sort, a small one once it is linked.
-fn field_fault(states: &mut [u8; 2048], r: usize, rows: usize, letter: u8, n: usize) -> usize
+// 3 to 6: the fault of a field of row r. The state of a row is the letter of its sort, a small one once it is linked.
+fn field_fault(
+    states: &mut [u8; 2048],
+    r: usize,
+    rows: usize,
+    letter: u8,
+    n: usize,
+) -> Option<Fault>
     requires { r ≤ 2048 }
-    ensures { Tried states.old r rows letter n result states.new }
+    ensures { Tried states.old r rows letter n (number_of result) states.new }
 {
     if b'_' <= letter {
         if in_range(letter, n, rows) {
-            return 0;
+            return None;
         }
-        return 3;
+        return Some(Fault::OutOfRange);
     }
     if r <= n {
-        return 4;
+        return Some(Fault::LinkNotLower);
     }
     let linked = letter + 32;
     if states[n] == letter {
         states[n] = linked;
-        return 0;
+        return None;
     }
     if states[n] == linked {
-        return 6;
+        return Some(Fault::LinkedTwice);
     }
-    5
+    Some(Fault::WrongSort)
 }
 
-// The first of two faults, where 0 is none.
-fn first(a: usize, b: usize) -> usize
-    ensures { result ≡ Faults·first a b }
+// The first of two faults.
+fn first(a: Option<Fault>, b: Option<Fault>) -> Option<Fault>
+    ensures { number_of result ≡ Faults·first (number_of a) (number_of b) }
 {
-    if a == 0 {
-        return b;
+    match (a, b) {
+        (Some(x), Some(y)) => Some(x.min(y)),
+        _ => a.or(b),
     }
-    if b == 0 {
-        return a;
-    }
-    if a < b { a } else { b }
 }
 
-// The first fault of row r, or 0; where it has none but 6, its links are in the states.
-pub fn row_fault(table: &[i32], kinds: &[u8; 196], r: usize, states: &mut [u8; 2048]) -> usize
+// The first fault of row r; where it has none but 6, its links are in the states.
+pub fn row_fault(
+    table: &[i32],
+    kinds: &[u8; 196],
+    r: usize,
+    states: &mut [u8; 2048],
+) -> Option<Fault>
     requires { Ready table.now r states.old × (kinds.now ≡ Patterns·patterns) }
-    ensures { Tested table.now r result states.new }
+    ensures { Tested table.now r (number_of result) states.new }
 {
     let kind = script::field(table, r, 0);
     if 48 < kind {
-        return 2;
+        return Some(Fault::UnlistedKind);
     }
     let of = 4 * kind;
     let sort = kinds[of];
     if sort == b'U' {
-        return 2;
+        return Some(Fault::UnlistedKind);
     }
-    let rows = table.len() / 4;
+    let rows = script::row_count(table);
     let a = field_fault(states, r, rows, kinds[of + 1], script::field(table, r, 1));
     let b = field_fault(states, r, rows, kinds[of + 2], script::field(table, r, 2));
     let c = field_fault(states, r, rows, kinds[of + 3], script::field(table, r, 3));

@@ -1,6 +1,6 @@
 -- The verdict from the tests in their order: a test decides where those before it accept. What the tests before give to those
 -- after: the size of the table, and the order, sorts and ranges of its rows. Assumes nothing.
-use Rattle.std.specs.Prelude.{ℕ, ◌≤◌, ◌<◌, ◌≡◌, refl, Bool, true, false, List, ℤ, length}
+use Rattle.std.specs.Prelude.{ℕ, ◌≤◌, ◌<◌, ◌≡◌, refl, Bool, true, false, List, ℤ, length, Result, Ok, Err}
 use borrow.Author.Tests.{le-leb, lt-leb}
 use Rattle.std.proofs.Common.{sym, ◌∙◌, arith as linear}
 use Rattle.script.specs.Rows.{fields, row, rows}
@@ -8,8 +8,8 @@ use Rattle.script.specs.Refusals.{Verdict, ◌and_then◌, accepted, refused, ba
 use Rattle.theorems.specs.Lowest.{lowest_accepts}
 use Rattle.script.specs.Trees.{tree, nesting}
 use Rattle.theorems.specs.Accepted.{SoundRow, sound_row, sound_length, both}
-use Rattle.script.specs.declared.RowNumber.{RowNumber}
-use Rattle.table.specs.declared.Verdict.{Verdict as Answer}
+use Rattle.table.specs.declared.Refusal.{Refusal}
+use Rattle.rows.specs.Numbers.{number}
 use Rattle.table.specs.Verdicts.{verdict_of}
 use Rattle.rows.specs.States.{Sized}
 use Rattle.table.specs.Misread.{Sound}
@@ -60,19 +60,19 @@ module _ (t : List ℤ) {q : Bool} (e : q ≡ bad_length (length t)) where
 
 -- ---- a test that accepts leaves the verdict to the others, and one that refuses gives it
 
-module _ {x : Answer} (v w : Verdict) {u : Verdict} (e : verdict_of x ≡ v) (k : u ≡ v and_then w) where
-  pub goes_on : x ≡ Answer.Accepted → u ≡ w
+module _ {x : Result (Unit {0}) Refusal} (v w : Verdict) {u : Verdict} (e : verdict_of x ≡ v) (k : u ≡ v and_then w) where
+  pub goes_on : {y : Unit {0}} → x ≡ Ok y → u ≡ w
   goes_on h = rw (← e, h) at k
 
-  pub decides : {n : ℕ} {r : RowNumber} → x ≡ Answer.Refused n r → u ≡ refused n r.0
+  pub decides : {r : Refusal} → x ≡ Err r → u ≡ refused (number r.fault) r.row.0
   decides h = rw (← e, h) at k
 
 -- the verdict of two tests, where the first has the answer x
-module _ {x : Answer} (v w : Verdict) (e : verdict_of x ≡ v) where
-  pub first_refuses : {n : ℕ} {r : RowNumber} → x ≡ Answer.Refused n r → verdict_of x ≡ v and_then w
-  first_refuses {n} {r} h = rw (← e, h)
+module _ {x : Result (Unit {0}) Refusal} (v w : Verdict) (e : verdict_of x ≡ v) where
+  pub first_refuses : {r : Refusal} → x ≡ Err r → verdict_of x ≡ v and_then w
+  first_refuses h = rw (← e, h)
 
-  pub second_decides : x ≡ Answer.Accepted → w ≡ v and_then w
+  pub second_decides : {y : Unit {0}} → x ≡ Ok y → w ≡ v and_then w
   second_decides h = rw (← e, h)
 
 -- ---- 10

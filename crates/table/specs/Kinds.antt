@@ -2,12 +2,14 @@
 -- assigned to, and its nesting from those of its links. Argument: each of the 49 numbers up to 48 computes. Assumes nothing.
 use Rattle.std.specs.Prelude.{ℕ, suc, ◌<◌, max, ◌≡◌, Bool, true, false, cond, ◌&&◌, ◌||◌, List, eqb, ℤ}
 use Rattle.std.proofs.Math.Path.{refl}
-use Rattle.std.proofs.Common.{ap, arith as linear, ne_eqb}
+use Rattle.std.proofs.Common.{ap, arith as linear, eq-eqb, ne_eqb}
 use Rattle.script.specs.declared.ExpressionRow.{ExpressionRow}
 use Rattle.script.specs.declared.ExpressionRow.TheVariants.{Constant, Variable, Arithmetic, Negate, Mark, Choose}
 use Rattle.script.specs.declared.StatementRow.{StatementRow}
 use Rattle.script.specs.declared.StatementRow.TheVariants.{Skip, Assign, Sequence, If, While, Assert}
 use Rattle.script.specs.declared.Row.{Row}
+use Rattle.script.specs.declared.kinds.Kind.{Kind}
+use Rattle.script.specs.Kinds.{kind_of, number, number_read, other_read}
 use Rattle.script.specs.declared.Sort.TheVariants.{Script}
 use Rattle.script.specs.Laws.{row_is}
 use Rattle.script.specs.Rows.{field_number, fields, row, row_of, sort_of, word}
@@ -68,6 +70,14 @@ kind_assigns n a = cond (eqb n 33) (frozen a || false) false
 abbrev pub kind_nesting : (ℕ → ℕ) → ℕ → ℕ → ℕ → ℕ → ℕ
 kind_nesting D n a b c =
     cond (eqb n 34) (max (D a) (D b)) (cond (eqb n 35) (suc (max (D b) (D c))) (cond (eqb n 36) (suc (D c)) 0))
+
+-- ---- the number of a kind that was read
+
+pub is_kind : {k j : Kind} (n : ℕ) {m : ℕ} → k ≡ kind_of n → k ≡ j → number j ≡ suc m → eqb n (suc m) ≡ true
+is_kind n {m} e h q = eq-eqb n (suc m) (number_read e h q)
+
+pub no_kind : {k j : Kind} (n m : ℕ) → k ≡ kind_of n → (k ≡ j → ⊥) → kind_of m ≡ j → eqb n m ≡ false
+no_kind n m e h q = ne_eqb n m (other_read e h q)
 
 module _ (t : List ℤ) (D : ℕ → ℕ) where
   record Asked : Type 0 where
@@ -134,3 +144,36 @@ module _ (t : List ℤ) (r : ℕ) where
 
   pub assigns_at : assigns_frozen t (fields (row t r)) ≡ kind_assigns (field_number (word t r 0)) (field_number (word t r 1))
   assigns_at = ap (λ (q : Asked t (λ k. k)). q.assigns) (at_row t (λ k. k) r)
+
+  -- the same by the kind k, where a is the number in the first field and q whether that is a frozen name
+  module _ {k : Kind} (e : k ≡ kind_of (field_number (word t r 0))) where
+    pub mark_named : k ≡ Kind.Mark → true ≡ named (row t r)
+    mark_named h = rw (named_at, is_kind _ e h refl)
+
+    pub other_unnamed : (k ≡ Kind.Mark → ⊥) → (k ≡ Kind.Variable → ⊥) → (k ≡ Kind.Assign → ⊥) → false ≡ named (row t r)
+    unfolding kind_of
+    other_unnamed h₁ h₂ h₃ = rw (named_at, no_kind _ 9 e h₁ refl, no_kind _ 2 e h₂ refl, no_kind _ 33 e h₃ refl)
+
+    pub other_assigns : (k ≡ Kind.Assign → ⊥) → false ≡ assigns_frozen t (fields (row t r))
+    unfolding kind_of
+    other_assigns h = rw (assigns_at, no_kind _ 33 e h refl)
+
+    module _ {a : ℕ} {q : Bool} (ea : a ≡ field_number (word t r 1)) (eq : q ≡ frozen a) where
+      pub variable_named : k ≡ Kind.Variable → q ≡ named (row t r)
+      variable_named h =
+          let n = number_read e h refl in
+          rw (named_at, n, ← ea, ← eq)
+
+      pub assign_named : k ≡ Kind.Assign → q ≡ named (row t r)
+      assign_named h =
+          let n = number_read e h refl in
+          rw (named_at, n, ← ea, ← eq)
+
+      pub assign_frozen : k ≡ Kind.Assign → q ≡ assigns_frozen t (fields (row t r))
+      assign_frozen h =
+          let n = number_read e h refl in
+          rw (assigns_at, n, ← ea, ← eq) (or_false q)
+        where
+          or_false : (b : Bool) → b ≡ (b || false)
+          or_false true = refl
+          or_false false = refl

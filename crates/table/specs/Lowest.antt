@@ -1,17 +1,21 @@
 -- Loops that look for the lowest row with a fault, and what they give to the tests 1 to 8.
 -- Argument: while no row below i has a fault, the test from row i up is the whole test. Assumes nothing.
-use Rattle.std.specs.Prelude.{ℕ, suc, ◌+◌, ◌-◌, ◌%◌, ◌≤◌, ◌<◌, ◌≡◌, refl, ◌≢◌, Bool, true, false, ◌||◌, List, eqb, ltb, length, get_or, ℤ}
+use Rattle.std.specs.Prelude.{ℕ, suc, ◌+◌, ◌-◌, ◌%◌, ◌≤◌, ◌<◌, ◌≡◌, refl, ◌≢◌, Bool, true, false, List, eqb, ltb, length, get_or, ℤ, Option, Some, None, Result, Ok, Err}
 use Rattle.std.proofs.Math.Path.{sym}
-use Rattle.std.proofs.Common.{ap, ◌∙◌, inl, arith as linear, add-one}
+use Rattle.std.proofs.Common.{ap, ◌∙◌, inl, true≢false, arith as linear, add-one}
 use Rattle.std.proofs.Math.Decide.{ℕ_discrete}
 use borrow.Author.Tests.{eq-eqb, ne_eqb}
 use Rattle.script.specs.Rows.{field_number, fields, rows, row, word}
 use Rattle.script.specs.Refusals.{bad_length, Verdict, accepted, refused, lowest, assigns_frozen, linked, unlinked_fault, target_fault, row_fault, row_test, row_test_within, script_test, unlinked_test, target_test}
 use Rattle.theorems.specs.Accepted.{clash}
-use Rattle.table.specs.declared.Verdict.{Verdict as Answer}
+use Rattle.table.specs.declared.Refusal.{Refusal}
+use Rattle.rows.specs.declared.Fault.{Fault}
+use Rattle.rows.specs.Numbers.{not_none, number_of}
 use Rattle.table.specs.Verdicts.{verdict_of}
 use Rattle.rows.specs.States.{Sized, States, Tested, states_none, small_letter, capital_letter}
-use Rattle.table.specs.Kinds.{kind_assigns, kind_named, named, assigns_at, named_at, script_at}
+use Rattle.script.specs.declared.kinds.Kind.{Kind}
+use Rattle.script.specs.Kinds.{kind_of}
+use Rattle.table.specs.Kinds.{named, script_at, is_kind, no_kind}
 
 -- ---- a loop over the rows below n, at row i
 
@@ -65,7 +69,7 @@ pub record RowsAt (t : List ℤ) (i : ℕ) (s : List ℕ) : Type 0 where
   pub reached : Reached (row_fault t) (rows t) i
   pub shown : States t i (linked t i) s
 
-pub record RowsTested (t : List ℤ) (v : Answer) (s : List ℕ) : Type 0 where
+pub record RowsTested (t : List ℤ) (v : Result (Unit {0}) Refusal) (s : List ℕ) : Type 0 where
   pub is : verdict_of v ≡ row_test t
   pub shown : verdict_of v ≡ accepted → States t (rows t) (linked t (rows t)) s
 
@@ -73,15 +77,20 @@ pub rows_none : {t : List ℤ} {s : List ℕ} → length s ≡ 2048 → RowsAt t
 unfolding linked
 rows_none h = record { reached = reached_none; shown = states_none h }
 
-pub rows_more : {t : List ℤ} {i f : ℕ} {s s' : List ℕ} → RowsAt t i s → i < rows t → Tested t i f s' → f ≡ 0 → RowsAt t (i + 1) s'
-rows_more {i} a h d e = record { reached = reached_more a.reached h (sym d.is ∙ e); shown = rw (add-one i) (d.shown (inl e)) }
+pub rows_more : {t : List ℤ} {i : ℕ} {f : Option Fault} {s s' : List ℕ} → RowsAt t i s → i < rows t → Tested t i (number_of f) s' → f ≡ None
+    → RowsAt t (i + 1) s'
+rows_more {i} a h d e =
+    let z = ap number_of e in
+    record { reached = reached_more a.reached h (sym d.is ∙ z); shown = rw (add-one i) (d.shown (inl z)) }
 
-pub rows_refused : {t : List ℤ} {i f : ℕ} {s s' : List ℕ} → RowsAt t i s → i < rows t → Tested t i f s' → f ≢ 0
-    → RowsTested t (Answer.Refused f (record { 0 = i })) s'
+pub rows_refused : {t : List ℤ} {i : ℕ} {f : Option Fault} {g : Fault} {s s' : List ℕ} → RowsAt t i s → i < rows t → Tested t i (number_of f) s'
+    → f ≡ Some g → RowsTested t (Err (record { fault = g; row = record { 0 = i } })) s'
 unfolding row_test_within
-rows_refused {i} a h d e = record { is = ap (λ (k : ℕ). refused k i) d.is ∙ reached_fault a.reached h (λ z. e (d.is ∙ z)); shown = clash }
+rows_refused {i} {g = g} a h d e =
+    let z = sym (ap number_of e) ∙ d.is in
+    record { is = ap (λ (k : ℕ). refused k i) z ∙ reached_fault a.reached h (λ y. not_none g (z ∙ y)); shown = clash }
 
-pub rows_accepted : {t : List ℤ} {i : ℕ} {s : List ℕ} → RowsAt t i s → rows t ≤ i → RowsTested t Answer.Accepted s
+pub rows_accepted : {t : List ℤ} {i : ℕ} {s : List ℕ} {u : Unit {0}} → RowsAt t i s → rows t ≤ i → RowsTested t (Ok u) s
 unfolding row_test_within
 rows_accepted {t} {i} {s} a h =
     let w = a.reached.within in
@@ -104,29 +113,26 @@ pub unlinked_accepted : (t : List ℤ) {i : ℕ} → Reached (unlinked_fault t) 
 unfolding unlinked_test
 unlinked_accepted t r h = reached_all r h
 
-module _ (t : List ℤ) {n : ℕ} (e : n ≡ field_number (word t (rows t - 1) 0)) where
-  pub script_refused : n ≢ 48 → refused 7 (rows t - 1) ≡ script_test t
+module _ (t : List ℤ) {n : ℕ} {k : Kind} (e : n ≡ rows t - 1) (h : k ≡ kind_of (field_number (word t n 0))) where
+  pub script_refused : (k ≡ Kind.Script → ⊥) → refused 7 n ≡ script_test t
+  unfolding script_test kind_of
+  script_refused g = rw (script_at t (rows t - 1), ← e, no_kind _ 48 h g refl)
+
+  pub script_accepted : k ≡ Kind.Script → accepted ≡ script_test t
   unfolding script_test
-  script_refused h = rw (script_at t (rows t - 1), ← e, ne_eqb n 48 h)
+  script_accepted g = rw (script_at t (rows t - 1), ← e, is_kind _ h g refl)
 
-  pub script_accepted : n ≡ 48 → accepted ≡ script_test t
-  unfolding script_test
-  script_accepted h = rw (script_at t (rows t - 1), ← e, eq-eqb n 48 h)
+-- ---- 8
 
--- ---- 8: n is the kind of row i, a its first number
-
-module _ (t : List ℤ) {i n a : ℕ} {q : Bool} (r : Reached (target_fault t) (rows t) i) (h : i < rows t) (en : n ≡ field_number (word t i 0)) (ea : a ≡ field_number (word t i 1)) (k : q ≡ kind_assigns n a) where
-  assigns : assigns_frozen t (fields (row t i)) ≡ q
-  assigns = rw (k, en, ea) (assigns_at t i)
-
+module _ (t : List ℤ) {i n : ℕ} {q : Bool} (r : Reached (target_fault t) (rows t) i) (e : n ≡ rows t) (h : i < n) (k : q ≡ assigns_frozen t (fields (row t i))) where
   pub targets_more : q ≡ false → Reached (target_fault t) (rows t) (i + 1)
-  targets_more z = reached_more r h (rw (assigns, z))
+  targets_more z = reached_more r (omega linear) (rw (← k, z))
 
   pub targets_refused : q ≡ true → refused 8 i ≡ target_test t
   unfolding target_test
   targets_refused z =
-      let f : target_fault t i ≡ 8 = rw (assigns, z) in
-      rw f at (reached_fault r h (λ m. omega (linear, sym f ∙ m)))
+      let f : target_fault t i ≡ 8 = rw (← k, z) in
+      rw f at (reached_fault r (omega linear) (λ m. omega (linear, sym f ∙ m)))
 
 pub targets_accepted : (t : List ℤ) {i : ℕ} → Reached (target_fault t) (rows t) i → rows t ≤ i → accepted ≡ target_test t
 unfolding target_test
@@ -143,17 +149,16 @@ Nameless t = (k : ℕ) → k < rows t → named (row t k) ≡ false
 pub nameless_none : {t : List ℤ} → NamelessAt t 0 false
 nameless_none = record { at = λ e k l. absurd (omega linear) }
 
-pub nameless_more : {t : List ℤ} {i n a : ℕ} {found here found' : Bool} → NamelessAt t i found → n ≡ field_number (word t i 0)
-    → a ≡ field_number (word t i 1) → here ≡ kind_named n a → found' ≡ (found || here) → NamelessAt t (i + 1) found'
-nameless_more {t} {i} {n} {a} {found} {here} x en ea h e = record { at = λ z k l. go (neither found here (sym e ∙ z)) k l (ℕ_discrete k i) }
-  where
-    neither : (p q : Bool) → p || q ≡ false → (p ≡ false) × (q ≡ false)
-    neither true q d = absurd (let z : ◌≡◌ {A = ℕ} 0 1 = cc in omega linear)
-    neither false q d = (refl, d)
+pub nameless_found : {t : List ℤ} {i : ℕ} → NamelessAt t i true
+nameless_found = record { at = λ e k l. absurd (true≢false e) }
 
-    go : (found ≡ false) × (here ≡ false) → (k : ℕ) → k < i + 1 → Dec (k ≡ i) → named (row t k) ≡ false
-    go f k l (yes d) = rw (d, named_at t i, ← en, ← ea, ← h) f.1
-    go f k l (no d) = x.at f.0 k (omega linear)
+pub nameless_more : {t : List ℤ} {i : ℕ} {here : Bool} → NamelessAt t i false → here ≡ named (row t i) → here ≡ false
+    → NamelessAt t (i + 1) false
+nameless_more {t} {i} x h e = record { at = λ z k l. go k l (ℕ_discrete k i) }
+  where
+    go : (k : ℕ) → k < i + 1 → Dec (k ≡ i) → named (row t k) ≡ false
+    go k l (yes d) = rw (d, ← h) e
+    go k l (no d) = x.at refl k (omega linear)
 
 pub nameless_all : {t : List ℤ} {i : ℕ} {found : Bool} → i ≤ rows t → rows t ≤ i → NamelessAt t i found → NamelessAt t (rows t) found
 nameless_all {t} {i} h l x = let e : i ≡ rows t = omega linear in rw e at x

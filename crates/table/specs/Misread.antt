@@ -73,6 +73,10 @@ module _ {t : List ℤ} {r : ℕ} {code : Bool} {s : List Bool} {low : ℕ} wher
       → q ≡ frozen v.0 → p ≡ code && q → m ≡ least (cond p (r ∷ []) []) low → Misread t r code s low m s
   variable_read v e f g h = by_node refl (λ inside sh n l. rw (e, ← f, ← g) h)
 
+  pub variable_unread : {m : ℕ} {p : Bool} (v : VariableNumber) → reads_of code (row t r) ≡ Reads.Variable v
+      → code ≡ false → p ≡ code → m ≡ least (cond p (r ∷ []) []) low → Misread t r code s low m s
+  variable_unread v e f g h = by_node refl (λ inside sh n l. rw (e, f) (rw (g, f) at h))
+
   pub mark_read : {m : ℕ} {p : Bool} (k : RowNumber) → k.0 < 2048 → reads_of code (row t r) ≡ Reads.Mark k
       → p ≡ (code || not (get_or s k.0 false)) → m ≡ least (cond p (r ∷ []) []) low → Misread t r code s low m s
   mark_read k b e g h = by_node refl (λ inside sh n l. rw (e, ← sh.at k.0 b, ← g) h)

@@ -83,6 +83,11 @@ pub record Of (t : List ℤ) (r : ℕ) (ds : List ℕ) (n a b c : ℕ) : Type 0 
   pub second : b ≡ field_number (word t r 2)
   pub third : c ≡ field_number (word t r 3)
 
+pub of_row : {t : List ℤ} {r : ℕ} {ds : List ℕ} {a b c : ℕ} → Sound t × ((r < rows t) × Nestings t r ds) → a ≡ field_number (word t r 1)
+    → b ≡ field_number (word t r 2) → c ≡ field_number (word t r 3) → Of t r ds (field_number (word t r 0)) a b c
+of_row h ea eb ec =
+    record { sound = h.0; inside = h.1.0; nested = h.1.1; kind = refl; first = ea; second = eb; third = ec }
+
 module _ {t : List ℤ} {r : ℕ} {ds : List ℕ} {n a b c : ℕ} (f : Of t r ds n a b c) where
   lower : T (all_below t r (parts (row_of n (word t r 1) (word t r 2) (word t r 3))))
   lower = rw (f.kind, row_is t r) (f.sound.ordered r f.inside)

@@ -1,18 +1,18 @@
--- What the answer of the check says: 01's number and row for each of its cases; and what a caller learns of the verdict by a
+-- What the answer of the check says: 01's number and row for a refusal; and what a caller learns of the verdict by a
 -- match on the answer. Assumes nothing.
-use Rattle.std.specs.Prelude.{ℕ, ◌≡◌}
+use Rattle.std.specs.Prelude.{◌≡◌, Result, Ok, Err}
 use Rattle.std.proofs.Common.{sym, ap, ◌∙◌}
-use Rattle.script.specs.declared.RowNumber.{RowNumber}
 use Rattle.script.specs.Refusals.{Verdict, accepted, refused}
-use Rattle.table.specs.declared.Verdict.{Verdict as Answer}
+use Rattle.rows.specs.Numbers.{number}
+use Rattle.table.specs.declared.Refusal.{Refusal}
 
-abbrev pub verdict_of : Answer → Verdict
-verdict_of Answer.Accepted = accepted
-verdict_of (Answer.Refused n r) = refused n r.0
+abbrev pub verdict_of : Result (Unit {0}) Refusal → Verdict
+verdict_of (Ok u) = accepted
+verdict_of (Err e) = refused (number e.fault) e.row.0
 
 -- v is the answer, w the verdict that it is shown to say
-pub passes : {v : Answer} {w : Verdict} → verdict_of v ≡ w → v ≡ Answer.Accepted → w ≡ accepted
+pub passes : {v : Result (Unit {0}) Refusal} {w : Verdict} {u : Unit {0}} → verdict_of v ≡ w → v ≡ Ok u → w ≡ accepted
 passes e h = sym e ∙ ap verdict_of h
 
-pub refuses : {v : Answer} {w : Verdict} {n : ℕ} {r : RowNumber} → verdict_of v ≡ w → v ≡ Answer.Refused n r → w ≡ refused n r.0
+pub refuses : {v : Result (Unit {0}) Refusal} {w : Verdict} {r : Refusal} → verdict_of v ≡ w → v ≡ Err r → w ≡ refused (number r.fault) r.row.0
 refuses e h = sym e ∙ ap verdict_of h

@@ -7,7 +7,8 @@ ghost use Rattle.table.specs.Verdicts.{verdict_of};
 ghost use Rattle.table.specs.Reads.{expression_reads, formula_reads, reads_of, statement_reads};
 ghost use Rattle.table.specs.Misread.{Misread, Sound, least};
 
-use crate::{Reads, Verdict, tests};
+use crate::{Reads, Refusal, tests};
+use rows::Fault;
 use script::{ExpressionRow, FormulaRow, Row, RowNumber, StatementRow};
 
 fn expression_reads(code: bool, row: ExpressionRow) -> Reads
@@ -66,10 +67,7 @@ fn reads(code: bool, row: Row) -> Reads
 fn lower(r: RowNumber, misplaced: bool, low: usize) -> usize
     ensures { result ≡ least (cond misplaced (r.0 ∷ []) []) low }
 {
-    if !misplaced {
-        return low;
-    }
-    if r.0 < low { r.0 } else { low }
+    if misplaced { low.min(r.0) } else { low }
 }
 
 // Whether the mark of a loop may not stand here: in code, or outside the loop's body. `around` says which bodies are around.
@@ -77,11 +75,7 @@ fn mark_misplaced(code: bool, around: &[bool; 2048], m: RowNumber) -> bool
     requires { m.0 < 2048 }
     ensures { result ≡ (code || not (get_or around.now m.0 false)) }
 {
-    let at = m.0;
-    if code {
-        return true;
-    }
-    !around[at]
+    code || !around[m.0]
 }
 
 // The lower of `low` and the lowest name at row r or below it that stands where it may not.
@@ -98,7 +92,7 @@ fn lowest_misread(
     let next = reads(code, script::row_at(table, r));
     match next {
         Reads::Nothing => low,
-        Reads::Variable(v) => lower(r, tests::both(code, script::is_frozen(v)), low),
+        Reads::Variable(v) => lower(r, code && script::is_frozen(v), low),
         Reads::Mark(m) => lower(r, mark_misplaced(code, around, m), low),
         Reads::One(c, a) => lowest_misread(table, a, c, around, low),
         Reads::Two(c, a, b) => {
@@ -124,31 +118,30 @@ fn lowest_misread(
 }
 
 // 9: each frozen name and each mark stands where it may.
-fn check_reading(table: &[i32]) -> Verdict
+fn check_reading(table: &[i32]) -> Result<(), Refusal>
     requires { Sound table.now }
     ensures { verdict_of result ≡ reading_test table.now }
 {
     let mut around = [false; 2048];
-    let rows = table.len() / 4;
+    let rows = script::row_count(table);
     let m = lowest_misread(table, RowNumber(rows - 1), false, &mut around, rows);
     if m < rows {
-        Verdict::Refused(9, RowNumber(m))
-    } else {
-        Verdict::Accepted
+        return Err(Refusal {
+            fault: Fault::Misplaced,
+            row: RowNumber(m),
+        });
     }
+    Ok(())
 }
 
 // 8 and 9.
-pub fn check_names(table: &[i32]) -> Verdict
+pub fn check_names(table: &[i32]) -> Result<(), Refusal>
     requires { Sound table.now × (row_test table.now ≡ accepted) }
     ensures { verdict_of result ≡ target_test table.now and_then reading_test table.now }
 {
     if !tests::any_named(table) {
-        return Verdict::Accepted;
+        return Ok(());
     }
-    let targets = tests::check_targets(table);
-    match targets {
-        Verdict::Refused(_, _) => targets,
-        Verdict::Accepted => check_reading(table),
-    }
+    tests::check_targets(table)?;
+    check_reading(table)
 }

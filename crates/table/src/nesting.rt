@@ -8,13 +8,7 @@ ghost use Rattle.script.specs.Refusals.{accepted, script_test};
 ghost use Rattle.table.specs.Misread.{Sound};
 ghost use Rattle.table.specs.Nesting.{Nested, Nestings};
 
-use kind_numbers as kinds;
-
-fn larger(a: u16, b: u16) -> u16
-    ensures { result ≡ max a b }
-{
-    if a < b { b } else { a }
-}
+use script::Kind;
 
 fn nesting_at(nestings: &[u16; 2048], r: usize) -> u16
     requires { r < 2048 }
@@ -28,14 +22,13 @@ fn row_nesting(table: &[i32], nestings: &[u16; 2048], r: usize) -> u16
     requires { Sound table.now × ((r < rows table.now) × Nestings table.now r nestings.now) }
     ensures { Nested table.now r result }
 {
-    let kind = script::field(table, r, 0);
     let a = script::field(table, r, 1);
     let b = script::field(table, r, 2);
     let c = script::field(table, r, 3);
-    match kind {
-        kinds::SEQUENCE => larger(nesting_at(nestings, a), nesting_at(nestings, b)),
-        kinds::IF => larger(nesting_at(nestings, b), nesting_at(nestings, c)) + 1,
-        kinds::WHILE => nesting_at(nestings, c) + 1,
+    match script::kind_at(table, r) {
+        Kind::Sequence => nesting_at(nestings, a).max(nesting_at(nestings, b)),
+        Kind::If => nesting_at(nestings, b).max(nesting_at(nestings, c)) + 1,
+        Kind::While => nesting_at(nestings, c) + 1,
         _ => 0,
     }
 }
@@ -46,11 +39,9 @@ pub fn script_nesting(table: &[i32]) -> usize
     ensures { result ≡ Trees·nesting (tree table.now).body }
 {
     let mut nestings: [u16; 2048] = [0; 2048];
-    let rows = table.len() / 4;
-    let mut r: usize = 0;
-    while r < rows {
+    let rows = script::row_count(table);
+    for r in 0..rows {
         nestings[r] = row_nesting(table, &nestings, r);
-        r += 1;
     }
     let body = script::field(table, rows - 1, 2);
     nesting_at(&nestings, body) as usize

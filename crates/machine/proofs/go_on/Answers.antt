@@ -9,12 +9,12 @@ use Rattle.machine.proofs.go_on.Goals as goal
 
 -- ---- 1 to 10 and 51
 
-pub returns-in-Refused : goal.returns-in-Refused
-returns-in-Refused c =
+pub returns-in-Err : goal.returns-in-Err
+returns-in-Err c =
     let a = c.args in
     let told : Told (machine_on mode_64 a.table.now a.stack.now a.variables.now a.marks.now a.limit a.height) c.refusal.result
     a.stack.now a.variables.now a.marks.now =
-    on_refused _ _ _ _ _ _ (refuses c.check-verdict.ensures c.in-Refused.is) c.refusal.ensures in
+    on_refused _ _ _ _ _ _ (refuses c.check.ensures c.in-Err.is) (rw c.number.ensures at c.refusal.ensures) in
     record {
       number = told.number;
       row = told.row;
@@ -29,7 +29,7 @@ pub returns-then-too_short : goal.returns-then-too_short
 returns-then-too_short c =
     let a = c.args in
     let tested : Tested a.table.now a.stack.now a.variables.now a.marks.now a.height true =
-    record { checked = passes c.check-verdict.ensures c.in-Accepted.is; tested = sym c.if-too_short.true ∙ c.too_short.ensures } in
+    record { checked = passes c.check.ensures c.in-Ok.is; tested = sym c.if-too_short.true ∙ c.too_short.ensures } in
     let told : Told (machine_on mode_64 a.table.now a.stack.now a.variables.now a.marks.now a.limit a.height) c.refusal-then-too_short.result
     a.stack.now a.variables.now a.marks.now =
     on_short _ _ _ _ _ _ tested c.refusal-then-too_short.ensures in
@@ -49,14 +49,14 @@ pub play-requires : goal.play-requires
 play-requires c =
     let a = c.args in
     let tested : Tested a.table.now a.stack.now a.variables.now a.marks.now a.height false =
-    record { checked = passes c.check-verdict.ensures c.in-Accepted.is; tested = sym c.if-too_short.false ∙ c.too_short.ensures } in
+    record { checked = passes c.check.ensures c.in-Ok.is; tested = sym c.if-too_short.false ∙ c.too_short.ensures } in
     on_begun tested c.clear.ensures
 
 pub returns-else-too_short : goal.returns-else-too_short
 returns-else-too_short c =
     let a = c.args in
     let tested : Tested a.table.now a.stack.now a.variables.now a.marks.now a.height false =
-    record { checked = passes c.check-verdict.ensures c.in-Accepted.is; tested = sym c.if-too_short.false ∙ c.too_short.ensures } in
+    record { checked = passes c.check.ensures c.in-Ok.is; tested = sym c.if-too_short.false ∙ c.too_short.ensures } in
     let told : Told (machine_on mode_64 a.table.now a.stack.now a.variables.now a.marks.now a.limit a.height) c.play.result
     c.play.new.stack c.play.new.variables c.play.new.marks =
     told_on tested c.clear.ensures a.limit c.play.ensures in

@@ -10,12 +10,12 @@ use Rattle.machine.proofs.run.Goals as goal
 
 -- ---- 1 to 10 and 51
 
-pub returns-in-Refused : goal.returns-in-Refused
-returns-in-Refused c =
+pub returns-in-Err : goal.returns-in-Err
+returns-in-Err c =
     let a = c.args in
     let told : Told (machine_run mode_64 a.table.now a.stack.now a.variables.now a.marks.now a.limit) c.refusal.result
     a.stack.now a.variables.now a.marks.now =
-    run_refused _ _ _ _ _ (refuses c.check-verdict.ensures c.in-Refused.is) c.refusal.ensures in
+    run_refused _ _ _ _ _ (refuses c.check.ensures c.in-Err.is) (rw c.number.ensures at c.refusal.ensures) in
     record {
       number = told.number;
       row = told.row;
@@ -30,7 +30,7 @@ pub returns-then-too_short : goal.returns-then-too_short
 returns-then-too_short c =
     let a = c.args in
     let tested : Tested a.table.now a.stack.now a.variables.now a.marks.now 0 true =
-    record { checked = passes c.check-verdict.ensures c.in-Accepted.is; tested = sym c.if-too_short.true ∙ c.too_short.ensures } in
+    record { checked = passes c.check.ensures c.in-Ok.is; tested = sym c.if-too_short.true ∙ c.too_short.ensures } in
     let told : Told (machine_run mode_64 a.table.now a.stack.now a.variables.now a.marks.now a.limit) c.refusal-then-too_short.result
     a.stack.now a.variables.now a.marks.now =
     run_short _ _ _ _ _ tested c.refusal-then-too_short.ensures in
@@ -48,15 +48,15 @@ returns-then-too_short c =
 
 pub overflow_sub-rows : goal.overflow_sub-rows
 overflow_sub-rows c =
-    let f = (script_parts _ (passes c.check-verdict.ensures c.in-Accepted.is)).filled in
+    let f = (script_parts _ (passes c.check.ensures c.in-Ok.is)).filled in
     omega arith
 
 pub field-requires : goal.field-requires
-field-requires c = ((script_parts _ (passes c.check-verdict.ensures c.in-Accepted.is)).read, search rules)
+field-requires c = ((script_parts _ (passes c.check.ensures c.in-Ok.is)).read, search rules)
 
 pub overflow_cast-stack : goal.overflow_cast-stack
 overflow_cast-stack c =
-    let s = (script_parts _ (passes c.check-verdict.ensures c.in-Accepted.is)).statement in
+    let s = (script_parts _ (passes c.check.ensures c.in-Ok.is)).statement in
     let e = c.field.ensures in
     omega arith
 
@@ -64,21 +64,21 @@ pub bounds-stack-0 : goal.bounds-stack-0
 bounds-stack-0 c =
     let a = c.args in
     let tested : Tested a.table.now a.stack.now a.variables.now a.marks.now 0 false =
-    record { checked = passes c.check-verdict.ensures c.in-Accepted.is; tested = sym c.if-too_short.false ∙ c.too_short.ensures } in
+    record { checked = passes c.check.ensures c.in-Ok.is; tested = sym c.if-too_short.false ∙ c.too_short.ensures } in
     run_room tested c.clear.ensures
 
 pub play-requires : goal.play-requires
 play-requires c =
     let a = c.args in
     let tested : Tested a.table.now a.stack.now a.variables.now a.marks.now 0 false =
-    record { checked = passes c.check-verdict.ensures c.in-Accepted.is; tested = sym c.if-too_short.false ∙ c.too_short.ensures } in
+    record { checked = passes c.check.ensures c.in-Ok.is; tested = sym c.if-too_short.false ∙ c.too_short.ensures } in
     run_begun tested c.clear.ensures c.field.ensures
 
 pub returns-else-too_short : goal.returns-else-too_short
 returns-else-too_short c =
     let a = c.args in
     let tested : Tested a.table.now a.stack.now a.variables.now a.marks.now 0 false =
-    record { checked = passes c.check-verdict.ensures c.in-Accepted.is; tested = sym c.if-too_short.false ∙ c.too_short.ensures } in
+    record { checked = passes c.check.ensures c.in-Ok.is; tested = sym c.if-too_short.false ∙ c.too_short.ensures } in
     let told : Told (machine_run mode_64 a.table.now a.stack.now a.variables.now a.marks.now a.limit) c.play.result
     c.play.new.stack c.play.new.variables c.play.new.marks =
     told_run tested c.clear.ensures c.field.ensures a.limit c.play.ensures in

@@ -6,18 +6,18 @@ use Rattle.mender.specs.Whole.{all_passed, counting, first_refused, marks_refuse
 use Rattle.mender.proofs.mend.Goals as goal
 
 pub sweep-swept-requires : goal.sweep-swept-requires
-sweep-swept-requires c = passed_checked _ (all_passed _ (passes c.check-checked.ensures c.in-Accepted.is))
+sweep-swept-requires c = passed_checked _ (all_passed _ (passes c.check.ensures c.in-Ok.is))
 
 pub returns-then-swept-table : goal.returns-then-swept-table
 returns-then-swept-table c =
-    let p = all_passed _ (passes c.check-checked.ensures c.in-Accepted.is) in
+    let p = all_passed _ (passes c.check.ensures c.in-Ok.is) in
     let v = marks_refused _ p c.sweep-swept.ensures c.if-swept-table.true _ _ in
     let T = told_refused _ _ _ 13 _ v c.refusal-then-swept-table.ensures c.clear.ensures c.clear-2.ensures in
     record { number = T.number; row = T.row; words = T.words; dropped = T.dropped; copied = T.copied; table = T.table; origins = T.run }
 
 pub write-requires : goal.write-requires
 write-requires c =
-    let p = all_passed _ (passes c.check-checked.ensures c.in-Accepted.is) in (
+    let p = all_passed _ (passes c.check.ensures c.in-Ok.is) in (
       counting _ p c.sweep-swept.ensures c.if-swept-table.false,
       (
         all_cleared (pos 0) (length c.args.new.now) c.clear.ensures,
@@ -25,8 +25,8 @@ write-requires c =
       ),
     )
 
-pub returns-in-Refused : goal.returns-in-Refused
-returns-in-Refused c =
-    let v = first_refused _ _ _ (refuses c.check-checked.ensures c.in-Refused.is) in
-    let T = told_refused _ _ _ _ _ v c.refusal.ensures c.clear.ensures c.clear-2.ensures in
+pub returns-in-Err : goal.returns-in-Err
+returns-in-Err c =
+    let v = first_refused _ _ _ (refuses c.check.ensures c.in-Err.is) in
+    let T = told_refused _ _ _ _ _ v (rw c.number.ensures at c.refusal.ensures) c.clear.ensures c.clear-2.ensures in
     record { number = T.number; row = T.row; words = T.words; dropped = T.dropped; copied = T.copied; table = T.table; origins = T.run }

@@ -15,7 +15,7 @@ pub returns : goal.returns
 returns c =
     row_tested c.args.table.now c.args.r c.field-kind.ensures (omega (arith, c.if-kind-gt48.false))
     c.requires.0 (sort_letter _ c.requires.1) c.if-sort-eq85.false refl
-    (rw (c.requires.1, c.field.ensures) at c.field_fault-a.ensures)
-    (rw (c.requires.1, c.field-2.ensures) at c.field_fault-b.ensures)
-    (rw (c.requires.1, c.field-3.ensures) at c.field_fault-c.ensures)
+    (rw (c.requires.1, c.row_count-rows.ensures, c.field.ensures) at c.field_fault-a.ensures)
+    (rw (c.requires.1, c.row_count-rows.ensures, c.field-2.ensures) at c.field_fault-b.ensures)
+    (rw (c.requires.1, c.row_count-rows.ensures, c.field-3.ensures) at c.field_fault-c.ensures)
     c.first.ensures c.first-2.ensures

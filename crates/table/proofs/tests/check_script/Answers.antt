@@ -1,8 +1,8 @@
 use Rattle.table.specs.Lowest.{script_accepted, script_refused}
 use Rattle.table.proofs.tests.check_script.Goals as goal
 
-pub returns-then-field-eq-SCRIPT : goal.returns-then-field-eq-SCRIPT
-returns-then-field-eq-SCRIPT c = script_accepted _ c.field.ensures c.if-field-eq-SCRIPT.true
+pub returns-in-Script : goal.returns-in-Script
+returns-in-Script c = script_accepted _ (rw c.row_count-last.ensures) c.kind_at.ensures c.in-Script.is
 
-pub returns-else-field-eq-SCRIPT : goal.returns-else-field-eq-SCRIPT
-returns-else-field-eq-SCRIPT c = script_refused _ c.field.ensures c.if-field-eq-SCRIPT.false
+pub returns-in_default : goal.returns-in_default
+returns-in_default c = script_refused _ (rw c.row_count-last.ensures) c.kind_at.ensures c.in_default.not-Script

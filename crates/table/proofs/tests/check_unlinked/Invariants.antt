@@ -1,11 +1,9 @@
 -- Each row below r is linked.
 use Rattle.std.proofs.Common.{◌-◌}
+use Rattle.script.specs.Rows.{rows}
 use Rattle.script.specs.Refusals.{unlinked_fault}
 use Rattle.table.specs.Lowest.{Reached}
 use Rattle.table.proofs.tests.check_unlinked.Given as goal
 
 abbrev pub invariant-loop-r : goal.invariant-loop-r
-invariant-loop-r l = Reached (unlinked_fault l.fn.table) l.last l.r
-
-abbrev pub decreases-loop-r : goal.decreases-loop-r
-decreases-loop-r l = l.last - l.r
+invariant-loop-r l = Reached (unlinked_fault l.fn.table) (rows l.fn.table - 1) l.r
