@@ -1,6 +1,6 @@
 -- A word's number tells the keyword; where there is none with that number, the word is a variable or no token.
 -- Assumes nothing.
-use Prim.Native.Nat.{ℕ, suc, ◌+◌, ◌<◌}
+use Prim.Native.Nat.{ℕ, zero, suc, ◌+◌, ◌<◌}
 use mathlib.Core.Path.{◌≡◌, refl, ap, sym, ◌∙◌}
 use mathlib.Core.List.{List, [], ◌∷◌}
 use mathlib.Core.Option.{Option, some}
@@ -8,12 +8,13 @@ use mathlib.Core.Bool.{Bool, true, false, cond, not, ◌&&◌}
 use native.Mathlib.Omega.{arith}
 use lib.Dec.{eqb, ltb}
 use borrow.Author.Tests.{eqb-true, eqb-false, not-true, lt-ltb, ltb-true}
+use Rattle.std.specs.Prelude.{Option as Option', None, Some}
 use lib.ListN.{length, take}
 use Rattle.grammar.specs.Scanning.{is_word_byte, front, keywords, Spelling, Found, variable_of, word_of}
 use Rattle.grammar.specs.Numbers.{token_number, token_value}
 use Rattle.grammar.specs.Fronts.{run, word_byte_range, length_run}
-use Rattle.scanner.specs.Words.{packed, longest, word_number, keyword_number}
-use Rattle.scanner.specs.Lexed.{lexed, word_at}
+use Rattle.scanner.specs.Words.{packed, longest, word_number, keyword_number, numbered, keyword_told}
+use Rattle.scanner.specs.Lexed.{lexed, told_at, word_at}
 use Rattle.scanner.proofs.Packing.{proper, same_packed}
 use Rattle.grammar.specs.Tests.{both}
 
@@ -65,7 +66,7 @@ tellable s e =
 -- what a number tells of a word and what is found for it
 record Tells (w : List ℕ) (number : ℕ) (o : Option Found) : Type 0 where
   no_keyword : number ≡ 0 → o ≡ variable_of w
-  keyword : (at : ℕ) → (number ≡ 0 → ⊥) → lexed at o ≡ record { kind = number; value = 0; end = at + length w }
+  keyword : (at : ℕ) → (number ≡ 0 → ⊥) → told_at at o ≡ Some (record { kind = number; value = 0; end = at + length w })
 
 tells : (w : List ℕ) → proper w ≡ true → (ss : List Spelling) → all_tellable ss ≡ true
     → Tells w (keyword_number ss (word_number w)) (word_of ss w)
@@ -90,12 +91,26 @@ keywords_tell : (bs : List ℕ)
 unfolding word_at token_number token_value
 keywords_tell bs = tells (run is_word_byte bs) (proper_run bs) keywords refl
 
-module _ (bs : List ℕ) {number : ℕ} (is : number ≡ keyword_number keywords (word_number (run is_word_byte bs))) where
-  pub no_word : number ≡ 0 → word_at bs ≡ variable_of (run is_word_byte bs)
-  no_word e = (keywords_tell bs).no_keyword (sym is ∙ e)
+numbered_none : (n : ℕ) → numbered n ≡ None → n ≡ 0
+numbered_none zero e = refl
+numbered_none (suc n) e = cc
 
-  pub word_told : (at : ℕ) {end : ℕ} → (number ≡ 0 → ⊥) → end ≡ at + front is_word_byte bs
-      → record { kind = number; value = 0; end = end } ≡ lexed at (word_at bs)
-  word_told at n e =
-      rw (is, e ∙ ap (λ k. at + k) (sym (length_run is_word_byte bs)))
-      (sym ((keywords_tell bs).keyword at (λ z. n (is ∙ z))))
+numbered_some : (n k : ℕ) → numbered n ≡ Some k → (n ≡ k) × (n ≡ 0 → ⊥)
+numbered_some zero k e = cc
+numbered_some (suc n) k e = (cc, λ z. omega (arith, z))
+
+module _ (bs : List ℕ) {told : Option' ℕ} (is : told ≡ keyword_told keywords (word_number (run is_word_byte bs))) where
+  unfoldable number : ℕ
+  number = keyword_number keywords (word_number (run is_word_byte bs))
+
+  pub no_word : told ≡ None → word_at bs ≡ variable_of (run is_word_byte bs)
+  unfolding number
+  no_word e = (keywords_tell bs).no_keyword (numbered_none number (sym is ∙ e))
+
+  pub word_told : (at : ℕ) {end k : ℕ} → told ≡ Some k → end ≡ at + front is_word_byte bs
+      → Some (record { kind = k; value = 0; end = end }) ≡ told_at at (word_at bs)
+  unfolding number
+  word_told at {end} {k} s e =
+      let n = numbered_some number k (sym is ∙ s) in
+      rw (← n.0, e ∙ ap (λ k. at + k) (sym (length_run is_word_byte bs)))
+      (sym ((keywords_tell bs).keyword at n.1))

@@ -8,6 +8,7 @@ use native.Mathlib.Nat.{add-zero}
 use native.Mathlib.Numerals.{add-one}
 use native.Mathlib.Omega.{arith}
 use borrow.Author.Tests.{eq-eqb, ne_eqb}
+use Rattle.std.specs.Prelude.{Some}
 use lib.ListN.{length, get_or, take, drop}
 use lib.Seq.{drop-cons, get_or-drop}
 use Rattle.grammar.specs.Tests.{false_is_not}
@@ -15,7 +16,7 @@ use Rattle.grammar.specs.Tokens.{variable}
 use Rattle.grammar.specs.Scanning.{is_digit, is_word_byte, front, number, variable_of}
 use Rattle.grammar.specs.Numbers.{token_number, token_value, most}
 use Rattle.grammar.specs.Fronts.{run, length_run}
-use Rattle.scanner.specs.Lexed.{lexed, word_at}
+use Rattle.scanner.specs.Lexed.{lexed, told_at, word_at}
 
 -- ---- digits at the front of a word
 
@@ -122,7 +123,7 @@ module _ (text : List ℕ) (at : ℕ) (h : at < length text) (v : get_or text at
   pub all_digits : {end value : ℕ} → end ≡ at + 1 + front is_digit (drop (at + 1) text)
       → value ≡ min (number (run is_digit (drop (at + 1) text))) most → is_word_byte (get_or text end 0) ≡ false
       → 0 < front is_digit (drop (at + 1) text)
-      → record { kind = 2; value = value; end = end } ≡ lexed at (word_at (drop at text))
+      → Some (record { kind = 2; value = value; end = end }) ≡ told_at at (word_at (drop at text))
   unfolding lexed token_number token_value
   all_digits {end} {value} e n w h =
       let bs = drop (at + 1) text in

@@ -1,6 +1,6 @@
 -- What the scanner tells of a token: its number, the value of a numeral or a variable up to `most`, and the place
 -- after it. Then the words and the symbols that `token_at` knows, by themselves. Assumes nothing.
-use Rattle.std.specs.Prelude.{ℕ, ◌+◌, List}
+use Rattle.std.specs.Prelude.{ℕ, ◌+◌, List, Option as Option', None, Some}
 use Rattle.std.proofs.Math.Option.{Option, none, some}
 use Rattle.grammar.specs.Scanning.{Found, is_word_byte, keywords, word_of, symbols, symbol_of}
 use Rattle.grammar.specs.Fronts.{run}
@@ -15,6 +15,11 @@ none_at at = record { kind = 0; value = 0; end = at }
 unfoldable pub lexed : ℕ → Option Found → Token
 lexed at none = none_at at
 lexed at (some f) = record { kind = token_number f.token; value = token_value f.token; end = at + f.size }
+
+-- what is told of it: nothing where there is no token
+abbrev pub told_at : ℕ → Option Found → Option' Token
+told_at at none = None
+told_at at (some f) = Some (lexed at (some f))
 
 -- the word at the front, where that begins with a letter
 unfoldable pub word_at : List ℕ → Option Found

@@ -1,3 +1,4 @@
 pub mod Words
 pub mod Lexed
 pub mod Progress
+pub mod Folds

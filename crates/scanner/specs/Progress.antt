@@ -1,9 +1,9 @@
 -- What a caller needs of a token that is told. Its kind is not 0 just where a token begins (`told`, `not_told`), and then
 -- the token ends after its place and within the text (`told_end`). Assumes nothing.
-use Rattle.std.specs.Prelude.{ℕ, ◌≤◌, ◌<◌, ◌≡◌, List, true, false, drop}
-use Rattle.std.proofs.Math.Path.{refl}
+use Rattle.std.specs.Prelude.{ℕ, ◌≤◌, ◌<◌, ◌≡◌, List, true, false, drop, None, Some}
+use Rattle.std.proofs.Math.Path.{refl, ap}
 use Rattle.std.proofs.Math.Option.{Option, none, some}
-use Rattle.std.proofs.Common.{arith as linear}
+use Rattle.std.proofs.Common.{sym, ◌∙◌, arith as linear}
 use Rattle.std.proofs.Math.ListN.{length, length-drop}
 use Rattle.script.specs.declared.Operator.TheVariants.{Plus, Minus, Times, Div, Mod}
 use Rattle.script.specs.declared.Relation.TheVariants.{Less, AtMost, Equal, Unequal}
@@ -15,7 +15,7 @@ use Rattle.grammar.specs.Numbers.{infix_number, form_number, closer_number, toke
 use Rattle.grammar.specs.Scanning.{Found, token_at}
 use Rattle.grammar.specs.Longest.{Begun, begun, begins_some}
 use Rattle.scanner.specs.declared.Token.{Token as Token'}
-use Rattle.scanner.specs.Lexed.{lexed}
+use Rattle.scanner.specs.Lexed.{lexed, told_at}
 
 -- ---- no token has the number 0
 
@@ -98,3 +98,32 @@ module _ (text : List ℕ) (at : ℕ) where
           → (at < (lexed at o).end) × ((lexed at o).end ≤ length text)
       by_found none h n = absurd (n refl)
       by_found (some f) h n = omega (linear, begins_some h, h.longest.within, length-drop at text)
+
+  -- the same, of what `token_at` tells
+  pub record Told (t : Token') : Type 0 where
+    pub is : t ≡ here
+    pub numbered : t.kind ≡ 0 → ⊥
+    pub goes_on : at < t.end
+    pub within : t.end ≤ length text
+
+  pub told_none : told_at at (token_at (drop at text)) ≡ None → here.kind ≡ 0
+  unfolding lexed
+  told_none e = by_found (token_at (drop at text)) e
+    where
+      by_found : (o : Option Found) → told_at at o ≡ None → (lexed at o).kind ≡ 0
+      by_found none e = refl
+      by_found (some f) e = cc
+
+  pub told_some : {t : Token'} → told_at at (token_at (drop at text)) ≡ Some t → Told t
+  unfolding lexed
+  told_some {t} e =
+      let s = by_found (token_at (drop at text)) e in
+      let w = told_end (λ z. s.1 (ap (λ (x : Token'). x.kind) s.0 ∙ z)) in
+      let q = ap (λ (x : Token'). x.end) s.0 in
+      record { is = s.0; numbered = s.1; goes_on = omega (linear, w.0, q); within = omega (linear, w.1, q) }
+    where
+      by_found : (o : Option Found) → told_at at o ≡ Some t → (t ≡ lexed at o) × (t.kind ≡ 0 → ⊥)
+      by_found none e = cc
+      by_found (some f) e =
+          let s : t ≡ lexed at (some f) = cc in
+          (s, λ z. omega (linear, token_some f.token, sym (ap (λ (x : Token'). x.kind) s) ∙ z))

@@ -1,5 +1,5 @@
 -- A word as a number: its bytes as digits to the base 256. The keywords are told by these numbers. Assumes nothing.
-use Rattle.std.specs.Prelude.{ℕ, ◌+◌, ◌*◌, min, List, [], ◌∷◌, cond, eqb}
+use Rattle.std.specs.Prelude.{ℕ, zero, suc, ◌+◌, ◌*◌, min, List, [], ◌∷◌, cond, eqb, Option, None, Some}
 use Rattle.grammar.specs.Scanning.{Spelling}
 use Rattle.grammar.specs.Numbers.{token_number}
 
@@ -20,3 +20,12 @@ word_number w = min (packed 0 w) longest
 unfoldable pub keyword_number : List Spelling → ℕ → ℕ
 keyword_number [] n = 0
 keyword_number (s ∷ ss) n = cond (eqb n (packed 0 s.bytes)) (token_number s.token) (keyword_number ss n)
+
+-- a token's number, if it is no 0
+abbrev pub numbered : ℕ → Option ℕ
+numbered zero = None
+numbered (suc n) = Some (suc n)
+
+-- that token, if there is one
+abbrev pub keyword_told : List Spelling → ℕ → Option ℕ
+keyword_told ss n = numbered (keyword_number ss n)

@@ -6,17 +6,13 @@ ghost use Rattle.grammar.specs.Scanning.{is_digit, is_letter, is_word_byte};
 pub fn is_digit(byte: u8) -> bool
     ensures { result ≡ is_digit byte }
 {
-    b'0' <= byte && byte <= b'9'
+    byte.is_ascii_digit()
 }
 
 pub fn is_letter(byte: u8) -> bool
     ensures { result ≡ is_letter byte }
 {
-    if byte < b'a' {
-        b'A' <= byte && byte <= b'Z'
-    } else {
-        byte <= b'z'
-    }
+    byte.is_ascii_alphabetic()
 }
 
 // Whether a byte can stand in a word, after its first letter.
@@ -30,5 +26,5 @@ pub fn is_word_byte(byte: u8) -> bool
 pub fn byte_at(text: &[u8], at: usize) -> u8
     ensures { result ≡ get_or text.now at 0 }
 {
-    if at < text.len() { text[at] } else { 0 }
+    text.get(at).copied().unwrap_or(0)
 }

@@ -8,13 +8,14 @@ mod runs;
 pub mod tokens;
 mod words;
 
-ghost use Rattle.std.specs.Prelude.{◌≡◌, [], ◌∷◌, ◌+◌, ◌^◌, ◌<◌, length, drop, get_or};
+ghost use Rattle.std.specs.Prelude.{◌≡◌, [], ◌∷◌, ◌+◌, ◌^◌, ◌<◌, ◌≤◌, length, drop, get_or};
 ghost use Rattle.grammar.specs.Scanning.{is_blank, is_digit, numeral_of, token_at};
 ghost use Rattle.grammar.specs.Fronts.{run};
-ghost use Rattle.scanner.specs.Lexed.{lexed, none_at, word_at, symbol_at};
+ghost use Rattle.scanner.specs.Lexed.{lexed, told_at, word_at, symbol_at};
+
+use runs::{WordBytes, number_at, run_at};
 
 // A token by its number in `tokens`, the value of a numeral or a variable, else 0, and the place after the token.
-// Where no token begins, the kind is `tokens::NONE`, and the end is the place itself.
 #[derive(Clone, Copy)]
 pub struct Token {
     pub kind: usize,
@@ -26,7 +27,7 @@ pub struct Token {
 pub fn is_blank(byte: u8) -> bool
     ensures { result ≡ is_blank byte }
 {
-    byte == b' ' || byte == b'\t' || byte == b'\r' || byte == b'\n'
+    matches!(byte, b' ' | b'\t' | b'\r' | b'\n')
 }
 
 // A token with no value.
@@ -34,125 +35,84 @@ fn plain(kind: usize, end: usize) -> Token
     ensures { result ≡ record { kind = kind; value = 0; end = end } }
 {
     Token {
-        kind: kind,
+        kind,
         value: 0,
-        end: end,
+        end,
     }
-}
-
-// No token at a place.
-fn no_token(at: usize) -> Token
-    ensures { result ≡ none_at at }
-{
-    plain(tokens::NONE, at)
 }
 
 // A numeral.
 #[tactic(auto, using(grammar::specs::Fronts::length_run), unfolding(crate::specs::Lexed::lexed, grammar::specs::Numbers::token_number, grammar::specs::Numbers::token_value))]
 fn numeral_at(text: &[u8], at: usize) -> Token
+    requires { at ≤ length text.now }
     ensures { result ≡ lexed at (numeral_of (run is_digit (drop at text.now))) }
 {
-    let number = runs::number_at(text, at);
+    let digits = number_at(text, at);
     Token {
         kind: tokens::NUMERAL,
-        value: number.value,
-        end: number.end,
+        value: digits.number,
+        end: digits.end,
     }
 }
 
 // A word that begins with v: no keyword does.
-fn variable_at(text: &[u8], at: usize) -> Token
+fn variable_at(text: &[u8], at: usize) -> Option<Token>
     requires { (at < length text.now) × (get_or text.now at 0 ≡ 118) }
-    ensures { result ≡ lexed at (word_at (drop at text.now)) }
+    ensures { result ≡ told_at at (word_at (drop at text.now)) }
 {
-    let number = runs::number_at(text, at + 1);
-    let end = number.end;
-    if end == at + 1 {
-        return no_token(at);
+    let digits = number_at(text, at + 1);
+    let end = digits.end;
+    if end == at + 1 || bytes::is_word_byte(bytes::byte_at(text, end)) {
+        return None;
     }
-    if bytes::is_word_byte(bytes::byte_at(text, end)) {
-        return no_token(at);
-    }
-    Token {
+    Some(Token {
         kind: tokens::VARIABLE,
-        value: number.value,
-        end: end,
-    }
+        value: digits.number,
+        end,
+    })
 }
 
 // A word that begins with another letter: a keyword, or no token.
-fn keyword_at(text: &[u8], at: usize) -> Token
+fn keyword_at(text: &[u8], at: usize) -> Option<Token>
     requires { (at < length text.now) × (get_or text.now at 0 ≡ 118 → ⊥) }
-    ensures { result ≡ lexed at (word_at (drop at text.now)) }
+    ensures { result ≡ told_at at (word_at (drop at text.now)) }
 {
-    let word = runs::word_at(text, at);
-    let kind = words::keyword(word.number);
-    if kind == tokens::NONE {
-        return no_token(at);
-    }
-    plain(kind, word.end)
-}
-
-// A symbol that begins with a colon, by the byte after it.
-#[tactic(auto, unfolding(crate::specs::Lexed::lexed, crate::specs::Lexed::symbol_at, grammar::specs::Numbers::token_number, grammar::specs::Numbers::token_value))]
-fn colon_at(next: u8, at: usize) -> Token
-    requires { at + 2 < 2 ^ 64 }
-    ensures { result ≡ lexed at (symbol_at (58 ∷ next ∷ [])) }
-{
-    if next == b'=' {
-        plain(tokens::BECOMES, at + 2)
-    } else {
-        no_token(at)
-    }
-}
-
-// A symbol that begins with <, by the byte after it.
-#[tactic(auto, unfolding(crate::specs::Lexed::lexed, crate::specs::Lexed::symbol_at, grammar::specs::Numbers::token_number, grammar::specs::Numbers::token_value))]
-fn less_at(next: u8, at: usize) -> Token
-    requires { at + 2 < 2 ^ 64 }
-    ensures { result ≡ lexed at (symbol_at (60 ∷ next ∷ [])) }
-{
-    match next {
-        b'=' => plain(tokens::AT_MOST, at + 2),
-        b'>' => plain(tokens::UNEQUAL, at + 2),
-        _ => plain(tokens::LESS, at + 1),
-    }
+    let word = run_at::<WordBytes>(text, at);
+    let kind = words::keyword(word.number)?;
+    Some(plain(kind, word.end))
 }
 
 // A symbol, by its first byte and the byte after it.
 #[tactic(auto, unfolding(crate::specs::Lexed::lexed, crate::specs::Lexed::symbol_at, grammar::specs::Numbers::token_number, grammar::specs::Numbers::token_value))]
-fn symbol_at(byte: u8, next: u8, at: usize) -> Token
+fn symbol_at(byte: u8, next: u8, at: usize) -> Option<Token>
     requires { at + 2 < 2 ^ 64 }
-    ensures { result ≡ lexed at (symbol_at (byte ∷ next ∷ [])) }
+    ensures { result ≡ told_at at (symbol_at (byte ∷ next ∷ [])) }
 {
-    let end = at + 1;
-    match byte {
-        b':' => colon_at(next, at),
-        b'<' => less_at(next, at),
-        b'=' => plain(tokens::EQUAL, end),
-        b'+' => plain(tokens::PLUS, end),
-        b'-' => plain(tokens::MINUS, end),
-        b'*' => plain(tokens::TIMES, end),
-        b'(' => plain(tokens::OPEN, end),
-        b')' => plain(tokens::CLOSE, end),
-        b',' => plain(tokens::COMMA, end),
-        b';' => plain(tokens::SEMICOLON, end),
-        _ => no_token(at),
-    }
+    let token = match (byte, next) {
+        (b':', b'=') => plain(tokens::BECOMES, at + 2),
+        (b'<', b'=') => plain(tokens::AT_MOST, at + 2),
+        (b'<', b'>') => plain(tokens::UNEQUAL, at + 2),
+        (b'<', _) => plain(tokens::LESS, at + 1),
+        (b'=', _) => plain(tokens::EQUAL, at + 1),
+        (b'+', _) => plain(tokens::PLUS, at + 1),
+        (b'-', _) => plain(tokens::MINUS, at + 1),
+        (b'*', _) => plain(tokens::TIMES, at + 1),
+        (b'(', _) => plain(tokens::OPEN, at + 1),
+        (b')', _) => plain(tokens::CLOSE, at + 1),
+        (b',', _) => plain(tokens::COMMA, at + 1),
+        (b';', _) => plain(tokens::SEMICOLON, at + 1),
+        _ => return None,
+    };
+    Some(token)
 }
 
-// The token that begins at a place. No token begins past the end of the text.
-pub fn token_at(text: &[u8], at: usize) -> Token
-    ensures kind { result.kind ≡ (lexed at (token_at (drop at text.now))).kind }
-    ensures value { result.value ≡ (lexed at (token_at (drop at text.now))).value }
-    ensures end { result.end ≡ (lexed at (token_at (drop at text.now))).end }
+// The token that begins at a place, if one does. None begins past the end of the text.
+pub fn token_at(text: &[u8], at: usize) -> Option<Token>
+    ensures { result ≡ told_at at (token_at (drop at text.now)) }
 {
-    if text.len() <= at {
-        return no_token(at);
-    }
-    let byte = text[at];
+    let byte = *text.get(at)?;
     if bytes::is_digit(byte) {
-        return numeral_at(text, at);
+        return Some(numeral_at(text, at));
     }
     if byte == b'v' {
         return variable_at(text, at);

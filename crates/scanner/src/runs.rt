@@ -1,10 +1,11 @@
 // The longest run of digits, or of letters and digits, from a place on: where it ends, and the number that it makes.
 
-ghost use Rattle.std.specs.Prelude.{◌≡◌, true, ◌+◌, ◌*◌, ◌-◌, ◌≤◌, min, drop};
+ghost use Rattle.std.specs.Prelude.{◌≡◌, true, ℕ, Bool, List, ◌+◌, ◌*◌, ◌-◌, ◌≤◌, min, drop, length};
 ghost use Rattle.grammar.specs.Scanning.{is_digit, is_word_byte, front, decimal, number};
 ghost use Rattle.grammar.specs.Fronts.{run};
 ghost use Rattle.grammar.specs.Numbers.{most};
-ghost use Rattle.scanner.specs.Words.{longest, word_number};
+ghost use Rattle.scanner.specs.Words.{packed, longest};
+ghost use Rattle.scanner.specs.Folds.{Folds, decimal_folds, packed_folds};
 
 use crate::bytes;
 
@@ -12,103 +13,115 @@ use crate::bytes;
 const MOST: usize = 4294967295;
 
 // The largest number of seven bytes. No word has it, and a longer word is told as it.
-const LONGEST: u64 = 0xff_ff_ff_ff_ff_ff_ff;
+const LONGEST: usize = 0xff_ff_ff_ff_ff_ff_ff;
 
-// Where digits end, and their number up to the most.
+// Where a run ends, and the number that its bytes make, up to the largest that is told.
 #[derive(Clone, Copy)]
-pub struct Number {
+pub struct Run {
     pub end: usize,
-    pub value: usize,
+    pub number: usize,
 }
 
-// Where a word ends, and its bytes as digits to the base 256, up to the longest.
-#[derive(Clone, Copy)]
-pub struct Word {
-    pub end: usize,
-    pub number: u64,
+// Which bytes a run has, and the number that they make, a step for each byte.
+pub trait Bytes {
+    ghost passes: { ℕ → Bool };
+
+    ghost fold: { ℕ → List ℕ → ℕ };
+
+    ghost step: { ℕ → ℕ → ℕ };
+
+    ghost top: { ℕ };
+
+    fn passes(byte: u8) -> bool
+        ensures { result ≡ passes byte };
+
+    // A number with one byte more.
+    fn with_byte(number: usize, byte: u8) -> usize
+        requires { (number ≤ top) × (passes byte ≡ true) }
+        ensures { result ≡ min (step number byte) top };
+
+    ghost laws: { Folds fold step top };
 }
 
-// A number with one digit more, up to the most.
-fn with_digit(value: usize, byte: u8) -> usize
-    requires { (value ≤ most) × (is_digit byte ≡ true) }
-    ensures { result ≡ min (10 * value + (byte - 48)) most }
+pub struct Digits;
+
+impl Bytes for Digits {
+    ghost passes = { is_digit };
+
+    ghost fold = { decimal };
+
+    ghost step = { λ n d. 10 * n + (d - 48) };
+
+    ghost top = { most };
+
+    ghost laws = { decimal_folds };
+
+    fn passes(byte: u8) -> bool {
+        bytes::is_digit(byte)
+    }
+
+    fn with_byte(number: usize, byte: u8) -> usize {
+        (10 * number + (byte - b'0') as usize).min(MOST)
+    }
+}
+
+// Letters and digits, as digits to the base 256.
+pub struct WordBytes;
+
+impl Bytes for WordBytes {
+    ghost passes = { is_word_byte };
+
+    ghost fold = { packed };
+
+    ghost step = { λ n b. 256 * n + b };
+
+    ghost top = { longest };
+
+    ghost laws = { packed_folds };
+
+    fn passes(byte: u8) -> bool {
+        bytes::is_word_byte(byte)
+    }
+
+    fn with_byte(number: usize, byte: u8) -> usize {
+        (256 * number + byte as usize).min(LONGEST)
+    }
+}
+
+// The run of such bytes from a place on.
+pub fn run_at<B: Bytes>(text: &[u8], at: usize) -> Run
+    requires { at ≤ length text.now }
+    ensures end { result.end ≡ at + front B.passes (drop at text.now) }
+    ensures number { result.number ≡ min (B.fold 0 (run B.passes (drop at text.now))) B.top }
 {
-    let next = 10 * value + (byte - 48) as usize;
-    if next < MOST { next } else { MOST }
-}
-
-// The digits from a place on, and their number.
-fn digits_at(text: &[u8], at: usize) -> Number
-    ensures end { result.end ≡ at + front is_digit (drop at text.now) }
-    ensures value { result.value ≡ min (decimal 0 (run is_digit (drop at text.now))) most }
-{
-    let mut end = at;
-    let mut value = 0;
-    while end < text.len() {
-        let byte = text[end];
-        if !bytes::is_digit(byte) {
-            return Number {
-                end: end,
-                value: value,
+    let mut number = 0;
+    for (passed, byte) in text[at..].iter().enumerate() {
+        if !B::passes(*byte) {
+            return Run {
+                end: at + passed,
+                number,
             };
         }
-        value = with_digit(value, byte);
-        end += 1;
+        number = B::with_byte(number, *byte);
     }
-    Number {
-        end: end,
-        value: value,
+    Run {
+        end: text.len(),
+        number,
     }
 }
 
 // The digits from a place on as the number of a numeral or a variable: one with a leading zero is beyond every range.
-pub fn number_at(text: &[u8], at: usize) -> Number
+pub fn number_at(text: &[u8], at: usize) -> Run
+    requires { at ≤ length text.now }
     ensures end { result.end ≡ at + front is_digit (drop at text.now) }
-    ensures value { result.value ≡ min (number (run is_digit (drop at text.now))) most }
+    ensures number { result.number ≡ min (number (run is_digit (drop at text.now))) most }
 {
-    let digits = digits_at(text, at);
-    let end = digits.end;
-    if end - at < 2 {
+    let digits = run_at::<Digits>(text, at);
+    if digits.end - at < 2 || text[at] != b'0' {
         return digits;
     }
-    if text[at] == b'0' {
-        return Number {
-            end: end,
-            value: MOST,
-        };
-    }
-    digits
-}
-
-// A word's number with one byte more, up to the longest.
-fn with_byte(number: u64, byte: u8) -> u64
-    requires { number ≤ longest }
-    ensures { result ≡ min (256 * number + byte) longest }
-{
-    let next = 256 * number + byte as u64;
-    if next < LONGEST { next } else { LONGEST }
-}
-
-// The letters and digits from a place on, as a word.
-pub fn word_at(text: &[u8], at: usize) -> Word
-    ensures end { result.end ≡ at + front is_word_byte (drop at text.now) }
-    ensures number { result.number ≡ word_number (run is_word_byte (drop at text.now)) }
-{
-    let mut end = at;
-    let mut number = 0;
-    while end < text.len() {
-        let byte = text[end];
-        if !bytes::is_word_byte(byte) {
-            return Word {
-                end: end,
-                number: number,
-            };
-        }
-        number = with_byte(number, byte);
-        end += 1;
-    }
-    Word {
-        end: end,
-        number: number,
+    Run {
+        end: digits.end,
+        number: MOST,
     }
 }

@@ -1,59 +1,57 @@
 // The numbers of tokens. A token that makes a row has the kind of that row; the numbers of the others are no kinds.
+// No enum: the machine that takes tokens (`Machine.take` in `parser`) takes any number.
 
-use kind_numbers as kinds;
+use script::Kind;
 
-// no token begins here
-pub const NONE: usize = 0;
+pub const NUMERAL: usize = Kind::Constant as usize;
 
-pub const NUMERAL: usize = kinds::CONSTANT;
+pub const VARIABLE: usize = Kind::Variable as usize;
 
-pub const VARIABLE: usize = kinds::VARIABLE;
+pub const PLUS: usize = Kind::Plus as usize;
 
-pub const PLUS: usize = kinds::PLUS;
+pub const MINUS: usize = Kind::Minus as usize;
 
-pub const MINUS: usize = kinds::MINUS;
+pub const TIMES: usize = Kind::Times as usize;
 
-pub const TIMES: usize = kinds::TIMES;
+pub const DIV: usize = Kind::Div as usize;
 
-pub const DIV: usize = kinds::DIV;
+pub const MOD: usize = Kind::Mod as usize;
 
-pub const MOD: usize = kinds::MOD;
+pub const MARK: usize = Kind::Mark as usize;
 
-pub const MARK: usize = kinds::MARK;
+pub const WHEN: usize = Kind::Choose as usize;
 
-pub const WHEN: usize = kinds::CHOOSE;
+pub const TRUE: usize = Kind::True as usize;
 
-pub const TRUE: usize = kinds::TRUE;
+pub const FALSE: usize = Kind::False as usize;
 
-pub const FALSE: usize = kinds::FALSE;
+pub const LESS: usize = Kind::Less as usize;
 
-pub const LESS: usize = kinds::LESS;
+pub const AT_MOST: usize = Kind::AtMost as usize;
 
-pub const AT_MOST: usize = kinds::AT_MOST;
+pub const EQUAL: usize = Kind::Equal as usize;
 
-pub const EQUAL: usize = kinds::EQUAL;
+pub const UNEQUAL: usize = Kind::Unequal as usize;
 
-pub const UNEQUAL: usize = kinds::UNEQUAL;
+pub const NOT: usize = Kind::Not as usize;
 
-pub const NOT: usize = kinds::NOT;
+pub const AND: usize = Kind::And as usize;
 
-pub const AND: usize = kinds::AND;
+pub const OR: usize = Kind::Or as usize;
 
-pub const OR: usize = kinds::OR;
+pub const IMPLIES: usize = Kind::Implies as usize;
 
-pub const IMPLIES: usize = kinds::IMPLIES;
+pub const SKIP: usize = Kind::Skip as usize;
 
-pub const SKIP: usize = kinds::SKIP;
+pub const BECOMES: usize = Kind::Assign as usize;
 
-pub const BECOMES: usize = kinds::ASSIGN;
+pub const SEMICOLON: usize = Kind::Sequence as usize;
 
-pub const SEMICOLON: usize = kinds::SEQUENCE;
+pub const IF: usize = Kind::If as usize;
 
-pub const IF: usize = kinds::IF;
+pub const WHILE: usize = Kind::While as usize;
 
-pub const WHILE: usize = kinds::WHILE;
-
-pub const ASSERT: usize = kinds::ASSERT;
+pub const ASSERT: usize = Kind::Assert as usize;
 
 pub const OPEN: usize = 40;
 
@@ -71,7 +69,7 @@ pub const KEEP: usize = 46;
 
 pub const FALL: usize = 47;
 
-pub const PRE: usize = kinds::SCRIPT;
+pub const PRE: usize = Kind::Script as usize;
 
 pub const DO: usize = 49;
 

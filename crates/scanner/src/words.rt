@@ -2,60 +2,60 @@
 
 ghost use Rattle.std.specs.Prelude.{◌≡◌};
 ghost use Rattle.grammar.specs.Scanning.{keywords};
-ghost use Rattle.scanner.specs.Words.{keyword_number};
+ghost use Rattle.scanner.specs.Words.{keyword_told};
 
 use crate::tokens;
 
-pub const PRE: u64 = 0x70_72_65;
+pub const PRE: usize = 0x70_72_65;
 
-pub const POST: u64 = 0x70_6f_73_74;
+pub const POST: usize = 0x70_6f_73_74;
 
-pub const SKIP: u64 = 0x73_6b_69_70;
+pub const SKIP: usize = 0x73_6b_69_70;
 
-pub const ASSERT: u64 = 0x61_73_73_65_72_74;
+pub const ASSERT: usize = 0x61_73_73_65_72_74;
 
-pub const IF: u64 = 0x69_66;
+pub const IF: usize = 0x69_66;
 
-pub const THEN: u64 = 0x74_68_65_6e;
+pub const THEN: usize = 0x74_68_65_6e;
 
-pub const ELSE: u64 = 0x65_6c_73_65;
+pub const ELSE: usize = 0x65_6c_73_65;
 
-pub const END: u64 = 0x65_6e_64;
+pub const END: usize = 0x65_6e_64;
 
-pub const WHILE: u64 = 0x77_68_69_6c_65;
+pub const WHILE: usize = 0x77_68_69_6c_65;
 
-pub const KEEP: u64 = 0x6b_65_65_70;
+pub const KEEP: usize = 0x6b_65_65_70;
 
-pub const FALL: u64 = 0x66_61_6c_6c;
+pub const FALL: usize = 0x66_61_6c_6c;
 
-pub const DO: u64 = 0x64_6f;
+pub const DO: usize = 0x64_6f;
 
-pub const IMPLIES: u64 = 0x69_6d_70_6c_69_65_73;
+pub const IMPLIES: usize = 0x69_6d_70_6c_69_65_73;
 
-pub const OR: u64 = 0x6f_72;
+pub const OR: usize = 0x6f_72;
 
-pub const AND: u64 = 0x61_6e_64;
+pub const AND: usize = 0x61_6e_64;
 
-pub const NOT: u64 = 0x6e_6f_74;
+pub const NOT: usize = 0x6e_6f_74;
 
-pub const DIV: u64 = 0x64_69_76;
+pub const DIV: usize = 0x64_69_76;
 
-pub const MOD: u64 = 0x6d_6f_64;
+pub const MOD: usize = 0x6d_6f_64;
 
-pub const MARK: u64 = 0x6d_61_72_6b;
+pub const MARK: usize = 0x6d_61_72_6b;
 
-pub const WHEN: u64 = 0x77_68_65_6e;
+pub const WHEN: usize = 0x77_68_65_6e;
 
-pub const TRUE: u64 = 0x74_72_75_65;
+pub const TRUE: usize = 0x74_72_75_65;
 
-pub const FALSE: u64 = 0x66_61_6c_73_65;
+pub const FALSE: usize = 0x66_61_6c_73_65;
 
-// The token of the keyword with this number, or none.
-#[tactic(auto, unfolding(crate::specs::Words::keyword_number, grammar::specs::Numbers::token_number))]
-pub fn keyword(number: u64) -> usize
-    ensures { result ≡ keyword_number keywords number }
+// The token of the keyword with this number.
+#[tactic(auto, unfolding(crate::specs::Words::keyword_number, crate::specs::Words::keyword_told, grammar::specs::Numbers::token_number))]
+pub fn keyword(number: usize) -> Option<usize>
+    ensures { result ≡ keyword_told keywords number }
 {
-    match number {
+    let token = match number {
         PRE => tokens::PRE,
         POST => tokens::POST,
         SKIP => tokens::SKIP,
@@ -78,6 +78,7 @@ pub fn keyword(number: u64) -> usize
         WHEN => tokens::WHEN,
         TRUE => tokens::TRUE,
         FALSE => tokens::FALSE,
-        _ => tokens::NONE,
-    }
+        _ => return None,
+    };
+    Some(token)
 }
