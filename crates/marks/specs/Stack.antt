@@ -29,7 +29,7 @@ dropped ls (suc n) = let e : suc n - 1 ≡ n = omega linear in rw e
 
 -- ---- the loop that a number names
 
-how_many : (ls : List ℕ) (n : ℕ) → length (stacked ls n) ≡ n
+pub how_many : (ls : List ℕ) (n : ℕ) → length (stacked ls n) ≡ n
 unfolding stacked
 how_many ls zero = refl
 how_many ls (suc n) = ap suc (how_many ls n)

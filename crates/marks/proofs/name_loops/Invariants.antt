@@ -3,7 +3,4 @@ use Rattle.marks.specs.Going.{Going}
 use Rattle.marks.proofs.name_loops.Given as goal
 
 abbrev pub invariant-loop-r : goal.invariant-loop-r
-invariant-loop-r l = Going l.fn.words l.rows l.r l.count l.words l.loops
-
-abbrev pub decreases-loop-r : goal.decreases-loop-r
-decreases-loop-r l = l.r
+invariant-loop-r l = Going l.fn.words l.rows l.r l.words l.loops
