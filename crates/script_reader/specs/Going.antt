@@ -1,7 +1,7 @@
 -- The loop over a text's tokens: at each place, what is left of the text comes to what the whole text comes to
 -- (`Going`). A blank and a token keep that; a byte that begins no token and the end of the text give what is asked.
 -- Assumes nothing.
-use Rattle.std.specs.Prelude.{ℕ, ◌+◌, ◌≤◌, ◌<◌, ◌≡◌, refl, true, false, List, ℤ, get_or, drop}
+use Rattle.std.specs.Prelude.{ℕ, ◌+◌, ◌≤◌, ◌<◌, ◌≡◌, refl, true, false, List, ℤ, get_or, drop, Ok, Err}
 use Rattle.std.proofs.Math.Path.{sym, ap}
 use Rattle.std.proofs.Common.{◌∙◌, arith as linear}
 use Rattle.std.proofs.Math.Option.{Option, none, some}
@@ -13,7 +13,7 @@ use Rattle.scanner.specs.Lexed.{lexed}
 use Rattle.scanner.specs.Progress.{not_told, told, told_end}
 use Rattle.parser.specs.declared.State.{State}
 use Rattle.parser.specs.Machine.{Config, config, take, run}
-use Rattle.script_reader.specs.declared.tokens.Passage.{Passage}
+use Rattle.script_reader.specs.declared.refusals.Fault.TheVariants.{NoToken}
 use Rattle.script_reader.specs.Takes.{Takes}
 use Rattle.script_reader.specs.Rests.{rest, rest_start, rest_end, rest_blank, rest_none, rest_token, after_scan, bad_place, with_first_after, with_first_bad}
 
@@ -81,34 +81,34 @@ module _ (bs : List ℕ) (c₀ c : Config) (p : ℕ) (g : Going bs c₀ c p) (in
             stack_kept = m ∙ g.stack_kept;
           }
 
-  pub stuck : kind ≡ 0 → (r : Passage) → r.whole ≡ false → r.place ≡ p → Takes (scan bs) c₀ r c.words
+  pub stuck : kind ≡ 0 → Takes (scan bs) c₀ (Err (record { fault = NoToken; place = p })) c.words
   unfolding bad_place
-  stuck e r w q = at_scan (scan bs) (sym g.bad ∙ ap bad_place (rest_none bs p inside other (not_told bs p e)))
+  stuck e = at_scan (scan bs) (sym g.bad ∙ ap bad_place (rest_none bs p inside other (not_told bs p e)))
     where
-      at_scan : (s : Scanned) → bad_place s ≡ bad_place (no_token p) → Takes s c₀ r c.words
+      at_scan : (s : Scanned) → bad_place s ≡ bad_place (no_token p) → Takes s c₀ (Err (record { fault = NoToken; place = p })) c.words
       at_scan s b =
           record {
-            stops = λ k z. (w, q ∙ some_inj (sym b ∙ ap bad_place z));
+            stops = λ k z. ap (λ (n : ℕ). Err (record { fault = NoToken; place = n })) (some_inj (sym b ∙ ap bad_place z));
             goes = λ ls z. none_is_not (sym (ap bad_place z) ∙ b);
             size = g.words_kept;
           }
 
 -- the end of the text
 pub ended : (bs : List ℕ) (c₀ c : Config) (p : ℕ) → Going bs c₀ c p → length bs ≤ p → (d : Config) → d ≡ take c 51 0 p
-    → length d.words ≡ length c.words → (r : Passage) → r.whole ≡ true → r.state ≡ d.state → Takes (scan bs) c₀ r d.words
+    → length d.words ≡ length c.words → Takes (scan bs) c₀ (Ok d.state) d.words
 unfolding after_scan bad_place run token_number token_value
-ended bs c₀ c p g h d e l r w q = at_scan (scan bs) (sym g.comes ∙ ap (λ (s : Scanned). after_scan s c) last) (sym g.bad ∙ ap bad_place last)
+ended bs c₀ c p g h d e l = at_scan (scan bs) (sym g.comes ∙ ap (λ (s : Scanned). after_scan s c) last) (sym g.bad ∙ ap bad_place last)
   where
     last : rest bs p ≡ at_end p
     last = rest_end bs p h
 
-    at_scan : (s : Scanned) → after_scan s c₀ ≡ some (take c 51 0 p) → bad_place s ≡ none → Takes s c₀ r d.words
+    at_scan : (s : Scanned) → after_scan s c₀ ≡ some (take c 51 0 p) → bad_place s ≡ none → Takes s c₀ (Ok d.state) d.words
     at_scan s a b =
         record {
           stops = λ k z. none_is_not (sym b ∙ ap bad_place z);
           goes = λ ls z.
               let m : run c₀ ls ≡ d = some_inj (ap (λ (x : Scanned). after_scan x c₀) (sym z) ∙ a) ∙ sym e in
-              (w, (q ∙ ap (λ (x : Config). x.state) (sym m), ap (λ (x : Config). x.words) (sym m)));
+              (ap (λ (x : Config). Ok x.state) (sym m), ap (λ (x : Config). x.words) (sym m));
           size = l ∙ g.words_kept;
         }
 
@@ -128,6 +128,6 @@ module _ (bs : List ℕ) (c₀ c : Config) (p : ℕ) (g : Going bs c₀ c p) whe
       rw m (past_token bs c₀ c p g inside other (λ z. n (i ∙ z)) (config s st ws) q l o)
 
   pub end_taken : length bs ≤ p → (s : State) (st : List ℕ) (ws : List ℤ) → s ≡ (take c 51 0 p).state → st ≡ (take c 51 0 p).stack
-      → ws ≡ (take c 51 0 p).words → length ws ≡ length c.words → Takes (scan bs) c₀ (record { whole = true; place = 0; state = s }) ws
+      → ws ≡ (take c 51 0 p).words → length ws ≡ length c.words → Takes (scan bs) c₀ (Ok s) ws
   end_taken h s st ws a b d l =
-      ended bs c₀ c p g h (config s st ws) (config_is s st ws (take c 51 0 p) a b d) l (record { whole = true; place = 0; state = s }) refl refl
+      ended bs c₀ c p g h (config s st ws) (config_is s st ws (take c 51 0 p) a b d) l

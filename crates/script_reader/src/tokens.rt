@@ -5,16 +5,9 @@ ghost use Rattle.grammar.specs.Scanning.{scan};
 ghost use Rattle.parser.specs.Machine.{start, start_state};
 ghost use Rattle.script_reader.specs.Takes.{Takes};
 
+use crate::{Fault, Refusal};
 use parser::{State, take};
 use scanner::{is_blank, token_at, tokens};
-
-// What a text's tokens come to: the state after the last, or the place of the first byte that begins none.
-#[derive(Clone, Copy)]
-pub struct Passage {
-    pub whole: bool,
-    pub place: usize,
-    pub state: State,
-}
 
 fn first_state() -> State
     ensures { result ≡ start_state }
@@ -31,8 +24,9 @@ fn first_state() -> State
     }
 }
 
+// The state after a text's last token, unless a byte begins none.
 #[tactic(auto, using(scanner::specs::Progress::told_end))]
-pub fn take_tokens(text: &[u8], stack: &mut [u32], words: &mut [i32]) -> Passage
+pub fn take_tokens(text: &[u8], stack: &mut [u32], words: &mut [i32]) -> Result<State, Refusal>
     ensures { Takes (scan text.now) (start stack.old words.old) result words.new }
 {
     let mut s = first_state();
@@ -41,23 +35,13 @@ pub fn take_tokens(text: &[u8], stack: &mut [u32], words: &mut [i32]) -> Passage
         if is_blank(text[at]) {
             at += 1;
         } else {
-            let token = token_at(text, at);
-            let kind = token.kind;
-            if kind == tokens::NONE {
-                return Passage {
-                    whole: false,
-                    place: at,
-                    state: s,
-                };
-            }
-            s = take(stack, words, s, kind, token.value, at);
+            let token = token_at(text, at).ok_or(Refusal {
+                fault: Fault::NoToken,
+                place: at,
+            })?;
+            s = take(stack, words, s, token.kind, token.value, at);
             at = token.end;
         }
     }
-    let last = take(stack, words, s, tokens::END_OF_TEXT, 0, at);
-    Passage {
-        whole: true,
-        place: 0,
-        state: last,
-    }
+    Ok(take(stack, words, s, tokens::END_OF_TEXT, 0, at))
 }
