@@ -202,10 +202,18 @@ pub extern "C" fn leqwarti_read(
     ensures used { used.new ≡ (answer text.now (length words.old)).used }
     ensures words { words.new ≡ (answer text.now (length words.old)).words }
 {
-    let reading = script_reader::read_text(text, words);
-    *number = reading.number;
-    *place = reading.place;
-    *used = reading.used;
+    match script_reader::read_text(text, words) {
+        Ok(read) => {
+            *number = 0;
+            *place = 0;
+            *used = read;
+        }
+        Err(refusal) => {
+            *number = refusal.fault.number();
+            *place = refusal.place;
+            *used = 0;
+        }
+    }
 }
 
 // Writes a list whose conditions are shortened: number, and how many words of the new list were used.

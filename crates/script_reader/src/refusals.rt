@@ -1,5 +1,8 @@
 // The refusals of a text.
 
+ghost use Rattle.std.specs.Prelude.{◌≡◌};
+ghost use Rattle.script_reader.specs.Results.{fault_number};
+
 // Why a text gives no table, with the number that is answered.
 #[derive(Clone, Copy, PartialEq, Eq, Debug)]
 pub enum Fault {
@@ -13,6 +16,14 @@ pub enum Fault {
     NoRoom = 43,
     // over 32,768 bytes
     TooLong = 44,
+}
+
+impl Fault {
+    pub fn number(self) -> usize
+        ensures { result ≡ fault_number self }
+    {
+        self as usize
+    }
 }
 
 // A fault and its place; that of 43 and 44 is 0.

@@ -94,9 +94,9 @@ fn generated(rt: &impl Print, name: &str, table: &[i32]) -> io::Result<()> {
 // The script of a text.
 fn depths(rt: &impl Print, name: &str, text: &str) -> io::Result<()> {
     let mut table = [7; 512];
-    let answer = script_reader::read_text(text.as_bytes(), &mut table);
-    let used = answer.used;
-    if answer.number == 0 && used <= 512 {
+    if let Ok(used) = script_reader::read_text(text.as_bytes(), &mut table)
+        && used <= 512
+    {
         generated(rt, name, &table[..used])?;
     }
     Ok(())

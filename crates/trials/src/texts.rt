@@ -2,23 +2,19 @@
 // text is read and planned.
 
 use crate::run;
-use script_reader::TextAnswer;
+use script_reader::Refusal;
 use std::io;
 
 // Says what a text gets with so many words: at most 512.
 fn read(rt: &impl Print, text: &str, room: usize) -> io::Result<()> {
     let mut words = [7; 512];
     if room <= 512 {
-        let answer = script_reader::read_text(text.as_bytes(), &mut words[..room]);
-        let TextAnswer {
-            number,
-            place,
-            used,
-        } = answer;
-        if number == 0 {
-            println!(rt; "{text}: read {used}")?;
-        } else {
-            println!(rt; "{text}: refused {number} {place}")?;
+        match script_reader::read_text(text.as_bytes(), &mut words[..room]) {
+            Ok(used) => println!(rt; "{text}: read {used}")?,
+            Err(Refusal { fault, place }) => {
+                let number = fault.number();
+                println!(rt; "{text}: refused {number} {place}")?
+            }
         }
     }
     Ok(())
@@ -27,9 +23,9 @@ fn read(rt: &impl Print, text: &str, room: usize) -> io::Result<()> {
 fn example(rt: &impl Print) -> io::Result<()> {
     let text = "pre 0 <= v0; while 0 < v0 keep 0 <= v0 fall v0 do v0 := v0 - 1 end; post v0 = 0";
     let mut words = [7; 80];
-    let answer = script_reader::read_text(text.as_bytes(), &mut words);
-    let used = answer.used;
-    if answer.number == 0 && used <= 80 {
+    if let Ok(used) = script_reader::read_text(text.as_bytes(), &mut words)
+        && used <= 80
+    {
         run::words(rt, "A as text", &words[..used], 512, 5120)?;
     }
     Ok(())
