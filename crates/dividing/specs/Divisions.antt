@@ -1,8 +1,10 @@
 -- Div and mod: the kinds that have a divisor (`division`), and D of one by its kind (`divisor_of`), which is that of its operator;
 -- relations and connectives have none. Assumes nothing.
-use Rattle.std.specs.Prelude.{ℕ, ◌≡◌, refl, Bool, true, false, ◌||◌, eqb, pos}
-use Rattle.std.proofs.Common.{sym}
+use Rattle.std.specs.Prelude.{ℕ, ◌≡◌, ◌⊎◌, refl, Bool, true, false, ◌||◌, eqb, pos}
+use Rattle.std.proofs.Common.{sym, ap, ⊎_elim, ne_eqb}
 use Rattle.std.proofs.Math.Option.{Option, none, some}
+use Rattle.script.specs.declared.kinds.Kind.{Kind}
+use Rattle.script.specs.Kinds.{kind_of, number_read, other_read}
 use Rattle.script.specs.declared.Operator.{Operator}
 use Rattle.script.specs.declared.Operator.TheVariants.{Plus, Minus, Times, Div, Mod}
 use Rattle.script.specs.declared.Relation.{Relation}
@@ -18,6 +20,18 @@ use Rattle.theorems.specs.Unchanged.{stands}
 -- whether a kind is div or mod
 abbrev pub division : ℕ → Bool
 division n = eqb n 6 || eqb n 7
+
+-- by the kind that was read
+
+pub division_kind : {k : Kind} (n : ℕ) → k ≡ kind_of n → (k ≡ Kind.Div) ⊎ (k ≡ Kind.Mod) → division n ≡ true
+division_kind n e h = ⊎_elim (λ i. ap division (number_read e i refl)) (λ i. ap division (number_read e i refl)) h
+
+pub other_kind : {k : Kind} (n : ℕ) → k ≡ kind_of n → (k ≡ Kind.Div → ⊥) → (k ≡ Kind.Mod → ⊥) → division n ≡ false
+unfolding kind_of
+other_kind n e a b =
+    let not_div : n ≡ 6 → ⊥ = other_read e a refl in
+    let not_mod : n ≡ 7 → ⊥ = other_read e b refl in
+    rw (ne_eqb n 6 not_div, ne_eqb n 7 not_mod) refl
 
 -- the answer of its two tests
 

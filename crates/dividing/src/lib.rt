@@ -14,8 +14,7 @@ ghost use Rattle.dividing.specs.Divisions.{division};
 ghost use Rattle.dividing.specs.Entries.{RowReady};
 ghost use Rattle.dividing.specs.Filling.{Filled};
 
-use kind_numbers as kinds;
-use script::{RowNumber, field};
+use script::{Kind, RowNumber, field};
 
 // The entry of the node at row r.
 fn entry(follow: &[i32], r: RowNumber) -> usize
@@ -46,7 +45,7 @@ pub fn source(follow: &[i32], r: RowNumber) -> RowNumber
 pub fn is_division(kind: usize) -> bool
     ensures { result ≡ division kind }
 {
-    kind == kinds::DIV || kind == kinds::MOD
+    kind == Kind::Div as usize || kind == Kind::Mod as usize
 }
 
 // What the entry of the node at row r must be, from those of its parts.
@@ -54,41 +53,31 @@ fn find_entry(table: &[i32], follow: &[i32], r: usize) -> usize
     requires { RowReady table.now follow.now r }
     ensures { Entry table.now r result }
 {
-    let kind = field(table, r, 0);
-    match kind {
-        kinds::CONSTANT => 0,
-        kinds::VARIABLE => 0,
-        kinds::NEGATE => entry(follow, RowNumber(field(table, r, 1))),
-        kinds::MARK => 0,
-        kinds::CHOOSE => {
+    match script::kind_at(table, r) {
+        Kind::Constant | Kind::Variable | Kind::Mark | Kind::True | Kind::False => 0,
+        Kind::Negate | Kind::Not => entry(follow, RowNumber(field(table, r, 1))),
+        Kind::Choose => {
             let f = RowNumber(field(table, r, 1));
             let a = RowNumber(field(table, r, 2));
             let b = RowNumber(field(table, r, 3));
-            if divides(follow, a) {
-                return r + 1;
+            if divides(follow, a) || divides(follow, b) {
+                r + 1
+            } else {
+                entry(follow, f)
             }
-            if divides(follow, b) {
-                return r + 1;
-            }
-            entry(follow, f)
         }
-        kinds::TRUE => 0,
-        kinds::FALSE => 0,
-        kinds::NOT => entry(follow, RowNumber(field(table, r, 1))),
-        // an operator, a relation or a connective
+        Kind::Div | Kind::Mod => r + 1,
+        // another operator, a relation or a connective
         _ => {
             let a = RowNumber(field(table, r, 1));
             let b = RowNumber(field(table, r, 2));
-            if is_division(kind) {
-                return r + 1;
+            if !divides(follow, a) {
+                entry(follow, b)
+            } else if divides(follow, b) {
+                r + 1
+            } else {
+                entry(follow, a)
             }
-            if divides(follow, a) {
-                if divides(follow, b) {
-                    return r + 1;
-                }
-                return entry(follow, a);
-            }
-            entry(follow, b)
         }
     }
 }
@@ -98,20 +87,17 @@ fn pass_undivided(table: &[i32], follow: &mut [i32]) -> usize
     requires { (verdict table.now ≡ accepted) × Followed table.now follow.old }
     ensures { Filled table.now follow.new result }
 {
-    let rows = table.len() / 4;
-    let mut r = 0;
-    while r < rows {
-        let row = r;
-        let kind = field(table, row, 0);
+    let rows = script::row_count(table);
+    for r in 0..rows {
+        let kind = field(table, r, 0);
         if is_division(kind) {
-            return row;
+            return r;
         }
-        r = r + 1;
-        if kind < kinds::SKIP {
-            follow[row] = 0;
+        if kind < Kind::Skip as usize {
+            follow[r] = 0;
         }
     }
-    r
+    rows
 }
 
 // Fills in the entries of expressions and formulas, from the first row up, so that a node's parts are known before it.
@@ -119,13 +105,10 @@ pub fn find_divisions(table: &[i32], follow: &mut [i32])
     requires { (verdict table.now ≡ accepted) × Followed table.now follow.old }
     ensures { Followed table.now follow.new × Divided table.now follow.new }
 {
-    let rows = table.len() / 4;
-    let mut r = pass_undivided(table, follow);
-    while r < rows {
-        let row = r;
-        r = r + 1;
-        if field(table, row, 0) < kinds::SKIP {
-            follow[row] = find_entry(table, follow, row) as i32;
+    let first = pass_undivided(table, follow);
+    for r in first..script::row_count(table) {
+        if field(table, r, 0) < Kind::Skip as usize {
+            follow[r] = find_entry(table, follow, r) as i32;
         }
     }
 }

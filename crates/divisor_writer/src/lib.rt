@@ -18,15 +18,14 @@ ghost use Rattle.divisor_writer.specs.Under.{ands, lead, premise, unequal_zero};
 
 use dividing::divides;
 use formula_writer::push_kind;
-use kind_numbers as kinds;
-use script::{RowNumber, field};
+use script::{Kind, RowNumber, field};
 
 // Writes the and of two items, where both stand.
 fn push_and_if_both(list: &mut [i32], at: usize, first: bool, second: bool) -> usize
     ensures { Wrote list.old at (and_if_both first second) result list.new }
 {
     if first && second {
-        return push_kind(list, at, kinds::AND);
+        return push_kind(list, at, Kind::And as usize);
     }
     at
 }
@@ -71,9 +70,9 @@ fn write_premise(
         result list.new }
 {
     if divides(follow, a) {
-        let p = push_kind(list, at, kinds::IMPLIES);
+        let p = push_kind(list, at, Kind::Implies as usize);
         if denied {
-            let q = push_kind(list, p, kinds::NOT);
+            let q = push_kind(list, p, Kind::Not as usize);
             return formula_writer::write_formula(table, f, list, path, j, q);
         }
         return formula_writer::write_formula(table, f, list, path, j, p);
@@ -95,7 +94,7 @@ fn write_nonzero(
         (unequal_zero (expr_under table.now path.now j b.0))
         result list.new }
 {
-    let p = push_kind(list, at, kinds::UNEQUAL);
+    let p = push_kind(list, at, Kind::Unequal as usize);
     let q = formula_writer::write_expression(table, b, list, path, j, p);
     formula_writer::push_constant(list, q, 0)
 }
@@ -123,30 +122,34 @@ pub fn write_divisors(
             return p;
         }
         row = dividing::source(follow, RowNumber(row)).0;
-        let kind = field(table, row, 0);
-        if kind == kinds::CHOOSE {
-            let f = RowNumber(field(table, row, 1));
-            let a = RowNumber(field(table, row, 2));
-            row = field(table, row, 3);
-            let last = divides(follow, RowNumber(row));
-            p = push_ands(follow, f, a, last, list, p);
-            p = write_divisors(table, f, follow, list, path, j, p);
-            p = write_premise(table, f, false, a, follow, list, path, j, p);
-            p = write_divisors(table, a, follow, list, path, j, p);
-            p = write_premise(table, f, true, RowNumber(row), follow, list, path, j, p);
-        } else {
-            // an operator, a relation or a connective
-            let a = RowNumber(field(table, row, 1));
-            let b = RowNumber(field(table, row, 2));
-            if dividing::is_division(kind) {
+        match script::kind_at(table, row) {
+            Kind::Choose => {
+                let f = RowNumber(field(table, row, 1));
+                let a = RowNumber(field(table, row, 2));
+                row = field(table, row, 3);
+                let last = divides(follow, RowNumber(row));
+                p = push_ands(follow, f, a, last, list, p);
+                p = write_divisors(table, f, follow, list, path, j, p);
+                p = write_premise(table, f, false, a, follow, list, path, j, p);
+                p = write_divisors(table, a, follow, list, path, j, p);
+                p = write_premise(table, f, true, RowNumber(row), follow, list, path, j, p);
+            }
+            Kind::Div | Kind::Mod => {
+                let a = RowNumber(field(table, row, 1));
+                let b = RowNumber(field(table, row, 2));
                 p = push_ands(follow, a, b, true, list, p);
                 p = write_divisors(table, a, follow, list, path, j, p);
                 p = write_divisors(table, b, follow, list, path, j, p);
                 return write_nonzero(table, b, list, path, j, p);
             }
-            p = push_ands(follow, a, b, false, list, p);
-            p = write_divisors(table, a, follow, list, path, j, p);
-            row = b.0;
+            // another operator, a relation or a connective
+            _ => {
+                let a = RowNumber(field(table, row, 1));
+                let b = RowNumber(field(table, row, 2));
+                p = push_ands(follow, a, b, false, list, p);
+                p = write_divisors(table, a, follow, list, path, j, p);
+                row = b.0;
+            }
         }
     }
     p
@@ -167,10 +170,10 @@ pub fn write_conjunct(
         (conjunct_words table.now scratch.now j r.0)
         result list.new }
 {
-    let rows = table.len() / 4;
+    let rows = script::row_count(table);
     let follow = &scratch[rows..];
     if divides(follow, r) {
-        let p = push_kind(list, at, kinds::AND);
+        let p = push_kind(list, at, Kind::And as usize);
         write_divisors(table, r, follow, list, scratch, j, p)
     } else {
         at

@@ -1,8 +1,10 @@
 -- The row of a node by its kind, where n is the number in its first word (`of_kind`); and the kinds that are left once those
 -- with other parts were passed over: an operator (`operation`), a relation (`comparison`) or a connective (`junction`).
 -- Assumes nothing.
-use Rattle.std.specs.Prelude.{ℕ, ◌≤◌, ◌<◌, ◌≡◌, ◌⊎◌, List, T, ℤ, pos}
+use Rattle.std.specs.Prelude.{ℕ, ◌≤◌, ◌<◌, ◌≡◌, refl, ◌⊎◌, List, T, ℤ, pos}
 use Rattle.std.proofs.Common.{sym, ap, ◌∙◌, inl, inr, ⊎_elim, arith as linear}
+use Rattle.script.specs.declared.kinds.Kind.{Kind}
+use Rattle.script.specs.Kinds.{kind_of, number_read, other_read}
 use Rattle.script.specs.declared.Operator.{Operator}
 use Rattle.script.specs.declared.Operator.TheVariants.{Plus, Minus, Times, Div, Mod}
 use Rattle.script.specs.declared.Relation.{Relation}
@@ -48,6 +50,34 @@ PastExpressions n =
 
 abbrev pub PastFormulas : ℕ → Type 0
 PastFormulas n = ((Unit {0} × (n ≡ 16 → ⊥)) × (n ≡ 17 → ⊥)) × (n ≡ 22 → ⊥)
+
+-- by the kind that was read
+
+pub past_expressions : {k : Kind} {n : ℕ} → k ≡ kind_of n → (k ≡ Kind.Constant → ⊥) → (k ≡ Kind.Variable → ⊥) → (k ≡ Kind.Negate → ⊥)
+    → (k ≡ Kind.Mark → ⊥) → (k ≡ Kind.Choose → ⊥) → PastExpressions n
+unfolding kind_of
+past_expressions e a b c d f = (((((tt, other_read e a refl), other_read e b refl), other_read e c refl), other_read e d refl), other_read e f refl)
+
+pub past_formulas : {k : Kind} {n : ℕ} → k ≡ kind_of n → (k ≡ Kind.True → ⊥) → (k ≡ Kind.False → ⊥) → (k ≡ Kind.Not → ⊥) → PastFormulas n
+unfolding kind_of
+past_formulas e a b c = (((tt, other_read e a refl), other_read e b refl), other_read e c refl)
+
+pub relation_kind : {k : Kind} {n : ℕ} → k ≡ kind_of n
+    → (k ≡ Kind.Less) ⊎ ((k ≡ Kind.AtMost) ⊎ ((k ≡ Kind.Equal) ⊎ (k ≡ Kind.Unequal))) → PastFormulas n × (n < 22)
+relation_kind e h =
+    within
+    (⊎_elim (λ i. let q = number_read e i refl in omega linear)
+    (⊎_elim (λ i. let q = number_read e i refl in omega linear)
+    (⊎_elim (λ i. let q = number_read e i refl in omega linear) (λ i. let q = number_read e i refl in omega linear))) h)
+  where
+    within : {n : ℕ} → (18 ≤ n) × (n < 22) → PastFormulas n × (n < 22)
+    within h = ((((tt, λ q. omega linear), λ q. omega linear), λ q. omega linear), h.1)
+
+unrelated : (o : Relation) {n : ℕ} → pos n ≡ rel_word o → (n ≡ 18 → ⊥) → (n ≡ 19 → ⊥) → (n ≡ 20 → ⊥) → (n ≡ 21 → ⊥) → ⊥
+unrelated Less e a b c d = a (pos_inj e)
+unrelated AtMost e a b c d = b (pos_inj e)
+unrelated Equal e a b c d = c (pos_inj e)
+unrelated Unequal e a b c d = d (pos_inj e)
 
 module _ (n : ℕ) (a : ℤ) where
   operator_left : (w : Row) → Fits (pos n) a w → T (same_sort (sort_of w) Expression) → PastExpressions n
@@ -122,6 +152,15 @@ module _ (t : List ℤ) (r n : ℕ) where
 
       pub pair_small : n < 64
       pair_small = ⊎_elim (λ f. let l = relation_below f.0 f.1 in omega linear) (λ f. let l = connective_within f.0 f.1 in omega linear) pair
+
+      -- no relation is left either
+      pub past_relations : {k : Kind} → k ≡ kind_of n → (k ≡ Kind.Less → ⊥) → (k ≡ Kind.AtMost → ⊥) → (k ≡ Kind.Equal → ⊥)
+          → (k ≡ Kind.Unequal → ⊥) → 22 ≤ n
+      unfolding kind_of
+      past_relations e a b c d =
+          ⊎_elim (λ f. absurd (unrelated f.0 f.1 (other_read e a refl) (other_read e b refl) (other_read e c refl) (other_read e d refl)))
+          (λ f. (connective_within f.0 f.1).0)
+          pair
 
       pub comparison : n < 22 → Compared
       comparison h =

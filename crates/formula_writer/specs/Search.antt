@@ -1,6 +1,6 @@
 -- The latest assignment to a variable on a path (`Latest`), by the entries alone, and the laws of going back to it. Assumes
 -- nothing.
-use Rattle.std.specs.Prelude.{ℕ, suc, ◌+◌, ◌-◌, ◌≤◌, ◌<◌, ◌≡◌, refl, Bool, true, false, List, T, ltb, ℤ, pos, negsuc, nat_abs, length, get_or}
+use Rattle.std.specs.Prelude.{ℕ, suc, ◌+◌, ◌-◌, ◌≤◌, ◌<◌, ◌≡◌, refl, Bool, true, false, List, T, ltb, ℤ, pos, negsuc, nat_abs, length, get_or, Option, Some, None}
 use Rattle.std.proofs.Common.{sym, subst, ap, ◌∙◌, arith as linear, ltb-true, ltb-false}
 use Rattle.std.specs.Int.Signed.{non_neg}
 use Rattle.script.specs.Rows.{field_number}
@@ -38,6 +38,11 @@ pub record Latest (path : List ℤ) (v j k : ℕ) : Type 0 where
   pub within : k ≤ j
   pub none_after : Unassigned path v k j
   pub there : (i : ℕ) → k ≡ suc i → passed_variable path i ≡ v
+
+-- how many are left, where the latest to v stands at this place
+abbrev pub left_of : Option ℕ → ℕ
+left_of None = 0
+left_of (Some i) = suc i
 
 -- ---- an entry that is read
 

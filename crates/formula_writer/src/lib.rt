@@ -2,7 +2,7 @@
 // under a path of assignments: a variable is written as the latest assignment to it says, under the path before that one.
 // Once there is no room, a call returns at once, so the cost goes by the words written, not by those that would have been.
 // A node's last part is a turn of the loop; a call is for the parts before it. A row is not taken apart: the writers go by
-// the number in its first word, and each arm that ends returns its own answer, since a value that arms share is copied.
+// its kind, and each arm that ends returns its own answer, since a value that arms share is copied.
 
 #![tactic(auto)]
 
@@ -17,8 +17,7 @@ ghost use Rattle.formula_writer.specs.Paths.{expr_under, formula_under};
 ghost use Rattle.formula_writer.specs.Nodes.{OnPath, Ready};
 ghost use Rattle.formula_writer.specs.Replacing.{Replaced};
 
-use kind_numbers as kinds;
-use script::{RowNumber, VariableNumber, field};
+use script::{Kind, RowNumber, VariableNumber, field};
 
 // Writes one word. A place is where the next word goes; past the end of the list it says that there was no room.
 pub fn push(list: &mut [i32], at: usize, word: i32) -> usize
@@ -52,7 +51,7 @@ pub fn push_kind(list: &mut [i32], at: usize, kind: usize) -> usize
 pub fn push_constant(list: &mut [i32], at: usize, value: i32) -> usize
     ensures { Wrote list.old at (pos 1 ∷ value ∷ []) result list.new }
 {
-    push_two(list, at, kinds::CONSTANT as i32, value)
+    push_two(list, at, Kind::Constant as i32, value)
 }
 
 // Writes a variable.
@@ -60,7 +59,7 @@ pub fn push_variable(list: &mut [i32], at: usize, v: VariableNumber) -> usize
     requires { v.0 < variables }
     ensures { Wrote list.old at (pos 2 ∷ pos v.0 ∷ []) result list.new }
 {
-    push_two(list, at, kinds::VARIABLE as i32, v.0 as i32)
+    push_two(list, at, Kind::Variable as i32, v.0 as i32)
 }
 
 // Writes the mark of the loop at row r.
@@ -68,7 +67,7 @@ pub fn push_mark(list: &mut [i32], at: usize, r: RowNumber) -> usize
     requires { r.0 < 2048 }
     ensures { Wrote list.old at (pos 9 ∷ pos r.0 ∷ []) result list.new }
 {
-    push_two(list, at, kinds::MARK as i32, r.0 as i32)
+    push_two(list, at, Kind::Mark as i32, r.0 as i32)
 }
 
 // What stands in the place of a variable.
@@ -94,13 +93,13 @@ fn replace_variable(
     ensures { Replaced table.now path.now v.0 j
         list.old at list.new result }
 {
-    let k = path::latest(v, path, j);
-    if k == 0 {
-        return Replacement::Itself(push_variable(list, at, v));
+    match path::latest(v, path, j) {
+        None => Replacement::Itself(push_variable(list, at, v)),
+        Some(i) => {
+            let r = path::row_at(path, i);
+            Replacement::Value(RowNumber(field(table, r.0, 2)), i)
+        }
     }
-    let i = k - 1;
-    let r = path::row_at(path, i);
-    Replacement::Value(RowNumber(field(table, r.0, 2)), i)
 }
 
 // Writes the expression at row r, under the first j assignments of the path.
@@ -122,10 +121,10 @@ pub fn write_expression(
     let mut seen = j;
     let mut p = at;
     while p <= list.len() {
-        let kind = field(table, row, 0);
-        match kind {
-            kinds::CONSTANT => return push_constant(list, p, table[4 * row + 1]),
-            kinds::VARIABLE => {
+        let number = field(table, row, 0);
+        match Kind::from(number) {
+            Kind::Constant => return push_constant(list, p, table[4 * row + 1]),
+            Kind::Variable => {
                 let v = VariableNumber(field(table, row, 1));
                 let replacement = replace_variable(table, v, list, path, seen, p);
                 match replacement {
@@ -136,20 +135,20 @@ pub fn write_expression(
                     }
                 }
             }
-            kinds::NEGATE => {
-                p = push_kind(list, p, kinds::NEGATE);
+            Kind::Negate => {
+                p = push_kind(list, p, Kind::Negate as usize);
                 row = field(table, row, 1);
             }
-            kinds::MARK => return push_mark(list, p, RowNumber(field(table, row, 1))),
-            kinds::CHOOSE => {
-                p = push_kind(list, p, kinds::CHOOSE);
+            Kind::Mark => return push_mark(list, p, RowNumber(field(table, row, 1))),
+            Kind::Choose => {
+                p = push_kind(list, p, Kind::Choose as usize);
                 p = write_formula(table, RowNumber(field(table, row, 1)), list, path, seen, p);
                 p = write_expression(table, RowNumber(field(table, row, 2)), list, path, seen, p);
                 row = field(table, row, 3);
             }
             // an operator
             _ => {
-                p = push_kind(list, p, kind);
+                p = push_kind(list, p, number);
                 p = write_expression(table, RowNumber(field(table, row, 1)), list, path, seen, p);
                 row = field(table, row, 2);
             }
@@ -176,24 +175,24 @@ pub fn write_formula(
     let mut row = r.0;
     let mut p = at;
     while p <= list.len() {
-        let kind = field(table, row, 0);
-        match kind {
-            kinds::TRUE => return push_kind(list, p, kinds::TRUE),
-            kinds::FALSE => return push_kind(list, p, kinds::FALSE),
-            kinds::NOT => {
-                p = push_kind(list, p, kinds::NOT);
+        let number = field(table, row, 0);
+        match Kind::from(number) {
+            Kind::True => return push_kind(list, p, Kind::True as usize),
+            Kind::False => return push_kind(list, p, Kind::False as usize),
+            Kind::Not => {
+                p = push_kind(list, p, Kind::Not as usize);
                 row = field(table, row, 1);
             }
-            // a relation, whose parts are expressions, or a connective
+            Kind::Less | Kind::AtMost | Kind::Equal | Kind::Unequal => {
+                p = push_kind(list, p, number);
+                p = write_expression(table, RowNumber(field(table, row, 1)), list, path, j, p);
+                return write_expression(table, RowNumber(field(table, row, 2)), list, path, j, p);
+            }
+            // a connective
             _ => {
-                p = push_kind(list, p, kind);
-                let first = RowNumber(field(table, row, 1));
+                p = push_kind(list, p, number);
+                p = write_formula(table, RowNumber(field(table, row, 1)), list, path, j, p);
                 row = field(table, row, 2);
-                if kind < kinds::NOT {
-                    p = write_expression(table, first, list, path, j, p);
-                    return write_expression(table, RowNumber(row), list, path, j, p);
-                }
-                p = write_formula(table, first, list, path, j, p);
             }
         }
     }

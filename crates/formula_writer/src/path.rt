@@ -6,7 +6,7 @@ ghost use Rattle.script.specs.Rows.{variables};
 ghost use Rattle.theorems.specs.Accepted.{Accepted};
 ghost use Rattle.formula_writer.specs.Paths.{entry as Paths·entry, passed_row, passed_variable};
 ghost use Rattle.formula_writer.specs.Nodes.{Assignment};
-ghost use Rattle.formula_writer.specs.Search.{Entries, Between, Blocks, Latest};
+ghost use Rattle.formula_writer.specs.Search.{Entries, Between, Blocks, Latest, left_of};
 
 use script::{RowNumber, VariableNumber, field};
 
@@ -43,12 +43,10 @@ fn is_in_block(v: VariableNumber, path: &[i32], k: usize) -> bool
 {
     let target = v.0 as u32;
     let mut found = false;
-    let mut i = 0;
-    while i < 8 {
+    for i in 0..8 {
         if target_at(path, k + i) == target {
             found = true;
         }
-        i += 1;
     }
     found
 }
@@ -68,18 +66,16 @@ fn pass_blocks(v: VariableNumber, path: &[i32], j: usize) -> usize
     k
 }
 
-// How many of the first j assignments are left, going back to the latest to v; 0 where none is.
-pub fn latest(v: VariableNumber, path: &[i32], j: usize) -> usize
+// The place of the latest of the first j assignments that is to v.
+pub fn latest(v: VariableNumber, path: &[i32], j: usize) -> Option<usize>
     requires { Entries path.now j × (v.0 < variables) }
-    ensures { Latest path.now v.0 j result }
+    ensures { Latest path.now v.0 j (left_of result) }
 {
     let target = v.0 as u32;
-    let mut k = pass_blocks(v, path, j);
-    while 0 < k {
-        if target_at(path, k - 1) == target {
-            return k;
+    for i in (0..pass_blocks(v, path, j)).rev() {
+        if target_at(path, i) == target {
+            return Some(i);
         }
-        k -= 1;
     }
-    0
+    None
 }

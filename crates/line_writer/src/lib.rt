@@ -16,8 +16,7 @@ ghost use Rattle.line_writer.specs.Spelled.{Finishing, Finished, Counted};
 ghost use Rattle.line_writer.specs.Guards.{GuardReady, guard_lines};
 ghost use Rattle.line_writer.specs.Loops.{Lined, StepReady, MainReady, exit_line, floor_line, step_line, main_line};
 
-use kind_numbers as kinds;
-use script::{RowNumber, Rule, field};
+use script::{Kind, RowNumber, Rule, field};
 
 // Where the next word goes, with the number of conditions before it; a place past the end of the list says that there was no
 // room.
@@ -30,13 +29,7 @@ pub struct Progress {
 fn rule_word(rule: Rule) -> i32
     ensures { result ≡ pos (rule_number rule) }
 {
-    match rule {
-        Rule::Exit => 1,
-        Rule::Floor => 2,
-        Rule::Step => 3,
-        Rule::Main => 4,
-        Rule::Guard => 5,
-    }
+    rule as i32
 }
 
 // Writes the trailer of the formula that was written from `start` to `past`: rule, row, length, and how many loops enclose the
@@ -52,17 +45,18 @@ fn finish_line(
     requires { Finishing list.old start past row.0 depth }
     ensures { Finished list.old start past rule row.0 depth result list.new }
 {
-    let from = start.at;
-    let count = start.count;
     if list.len() < past {
-        return Progress { at: past, count };
+        return Progress {
+            at: past,
+            count: start.count,
+        };
     }
     let p1 = formula_writer::push_two(list, past, rule_word(rule), row.0 as i32);
-    let length = past - from;
+    let length = past - start.at;
     let p2 = formula_writer::push_two(list, p1, length as i32, depth as i32);
     Progress {
         at: p2,
-        count: count + 1,
+        count: start.count + 1,
     }
 }
 
@@ -79,10 +73,10 @@ pub fn write_guard(
     ensures { Listed list.old at (guard_lines table.now depth k.0) result list.new }
 {
     let guard = RowNumber(field(table, k.0, 1));
-    let rows = table.len() / 4;
+    let rows = script::row_count(table);
     let follow = &scratch[rows..];
     if dividing::divides(follow, guard) {
-        let p1 = formula_writer::push_kind(list, at.at, kinds::IMPLIES);
+        let p1 = formula_writer::push_kind(list, at.at, Kind::Implies as usize);
         let p2 = formula_writer::write_formula(
             table,
             wp_writer::invariant(table, k),
@@ -116,8 +110,8 @@ pub fn write_exit(
     let row = k.0;
     let guard = RowNumber(field(table, row, 1));
     let next = following::next(table, scratch, row);
-    let p1 = formula_writer::push_kind(list, at.at, kinds::IMPLIES);
-    let p2 = formula_writer::push_kind(list, p1, kinds::AND);
+    let p1 = formula_writer::push_kind(list, at.at, Kind::Implies as usize);
+    let p2 = formula_writer::push_kind(list, p1, Kind::And as usize);
     let p3 = formula_writer::write_formula(
         table,
         wp_writer::invariant(table, k),
@@ -126,7 +120,7 @@ pub fn write_exit(
         0,
         p2,
     );
-    let p4 = formula_writer::push_kind(list, p3, kinds::NOT);
+    let p4 = formula_writer::push_kind(list, p3, Kind::Not as usize);
     let p5 = formula_writer::write_formula(table, guard, list, scratch, 0, p4);
     let p6 = wp_writer::write_before(table, next, scratch, 0, list, end, p5);
     finish_line(list, at, p6, Rule::Exit, k, depth)
@@ -140,7 +134,7 @@ fn write_entered(table: &[i32], k: RowNumber, path: &[i32], list: &mut [i32], at
         result list.new }
 {
     let guard = RowNumber(field(table, k.0, 1));
-    let p1 = formula_writer::push_kind(list, at, kinds::AND);
+    let p1 = formula_writer::push_kind(list, at, Kind::And as usize);
     let p2 = formula_writer::write_formula(
         table,
         wp_writer::invariant(table, k),
@@ -164,9 +158,9 @@ pub fn write_floor(
     requires { Loop table.now k.0 × InRoom list.old at × (depth < 2048) }
     ensures { Listed list.old at (floor_line table.now depth k.0 ∷ []) result list.new }
 {
-    let p1 = formula_writer::push_kind(list, at.at, kinds::IMPLIES);
+    let p1 = formula_writer::push_kind(list, at.at, Kind::Implies as usize);
     let p2 = write_entered(table, k, path, list, p1);
-    let p3 = formula_writer::push_kind(list, p2, kinds::AT_MOST);
+    let p3 = formula_writer::push_kind(list, p2, Kind::AtMost as usize);
     let p4 = formula_writer::push_constant(list, p3, 0);
     let p5 = formula_writer::write_expression(
         table,
@@ -193,10 +187,10 @@ pub fn write_step(
         list.old at result list.new scratch.new }
 {
     let body = field(table, k.0, 3);
-    let p1 = formula_writer::push_kind(list, at.at, kinds::IMPLIES);
-    let p2 = formula_writer::push_kind(list, p1, kinds::AND);
+    let p1 = formula_writer::push_kind(list, at.at, Kind::Implies as usize);
+    let p2 = formula_writer::push_kind(list, p1, Kind::And as usize);
     let p3 = write_entered(table, k, scratch, list, p2);
-    let p4 = formula_writer::push_kind(list, p3, kinds::EQUAL);
+    let p4 = formula_writer::push_kind(list, p3, Kind::Equal as usize);
     let p5 = formula_writer::write_expression(
         table,
         wp_writer::variant(table, k),
@@ -224,7 +218,7 @@ pub fn write_main(
 {
     let pre = RowNumber(field(table, row.0, 1));
     let statement = field(table, row.0, 2);
-    let p1 = formula_writer::push_kind(list, at.at, kinds::IMPLIES);
+    let p1 = formula_writer::push_kind(list, at.at, Kind::Implies as usize);
     let p2 = formula_writer::write_formula(table, pre, list, scratch, 0, p1);
     let p3 = wp_writer::write_before(table, statement, scratch, 0, list, row, p2);
     finish_line(list, at, p3, Rule::Main, row, 0)
@@ -235,13 +229,11 @@ pub fn write_count(list: &mut [i32], at: Progress) -> Progress
     requires { InRoom list.old at }
     ensures { Counted list.old at result list.new }
 {
-    let place = at.at;
-    let count = at.count;
-    if list.len() < place {
+    if list.len() < at.at {
         return at;
     }
     Progress {
-        at: formula_writer::push(list, place, 0 - (count as i32)),
-        count,
+        at: formula_writer::push(list, at.at, -(at.count as i32)),
+        count: at.count,
     }
 }

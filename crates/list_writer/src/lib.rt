@@ -15,9 +15,8 @@ ghost use Rattle.line_writer.specs.Spelled.{Whole};
 ghost use Rattle.line_writer.specs.Loops.{Lined};
 ghost use Rattle.list_writer.specs.Walks.{Walking, walk_at};
 
-use kind_numbers as kinds;
 use line_writer::Progress;
-use script::{RowNumber, field};
+use script::{Kind, RowNumber, field};
 
 // Lists the conditions of the statement at row `first`, in the bodies of `depth` loops, met with what follows it and the formula
 // at the end after it.
@@ -41,21 +40,20 @@ fn list_conditions(
         if list.len() < p.at {
             return p;
         }
-        let kind = field(table, s, 0);
-        match kind {
-            kinds::SEQUENCE => {
+        match script::kind_at(table, s) {
+            Kind::Sequence => {
                 let a = field(table, s, 1);
                 let b = field(table, s, 2);
                 p = list_conditions(table, b, depth, scratch, list, end, p);
                 s = a;
             }
-            kinds::IF => {
+            Kind::If => {
                 let x = field(table, s, 2);
                 let y = field(table, s, 3);
                 p = list_conditions(table, x, depth, scratch, list, end, p);
                 s = y;
             }
-            kinds::WHILE => {
+            Kind::While => {
                 let k = RowNumber(s);
                 let body = field(table, s, 3);
                 let p1 = line_writer::write_guard(table, k, depth, scratch, list, p);
@@ -85,7 +83,7 @@ pub fn write_list(table: &[i32], list: &mut [i32], scratch: &mut [i32]) -> Progr
     ensures whole { Whole list.old (conditions (tree table.now)) result list.new }
     ensures scratch_len_unchanged { length scratch.new ≡ length scratch.old }
 {
-    let rows = table.len() / 4;
+    let rows = script::row_count(table);
     fill_run(table, &mut scratch[rows..]);
     let script = RowNumber(rows - 1);
     let statement = field(table, script.0, 2);

@@ -12,8 +12,7 @@ ghost use Rattle.wp_writer.specs.Loops.{Loop, invariant_row, variant_row};
 ghost use Rattle.wp_writer.specs.Ends.{end_formula, EndReady, words_under};
 ghost use Rattle.wp_writer.specs.Walked.{Before, before_end, Walked};
 
-use kind_numbers as kinds;
-use script::{RowNumber, field};
+use script::{Kind, RowNumber, field, kind_at};
 
 // The row of a loop's invariant.
 pub fn invariant(table: &[i32], k: RowNumber) -> RowNumber
@@ -48,15 +47,27 @@ pub fn write_end(
         (words_under table.now path.now j (end_formula table.now end.0))
         result list.new }
 {
-    if field(table, end.0, 0) == kinds::SCRIPT {
-        let post = RowNumber(field(table, end.0, 3));
-        return formula_writer::write_formula(table, post, list, path, j, at);
+    match kind_at(table, end.0) {
+        Kind::Script => {
+            let post = RowNumber(field(table, end.0, 3));
+            formula_writer::write_formula(table, post, list, path, j, at)
+        }
+        // a loop
+        _ => {
+            let p1 = formula_writer::push_kind(list, at, Kind::And as usize);
+            let p2 = formula_writer::write_formula(table, invariant(table, end), list, path, j, p1);
+            let p3 = formula_writer::push_kind(list, p2, Kind::Less as usize);
+            let p4 = formula_writer::write_expression(
+                table,
+                variant(table, end),
+                list,
+                path,
+                j,
+                p3,
+            );
+            formula_writer::push_mark(list, p4, end)
+        }
     }
-    let p1 = formula_writer::push_kind(list, at, kinds::AND);
-    let p2 = formula_writer::write_formula(table, invariant(table, end), list, path, j, p1);
-    let p3 = formula_writer::push_kind(list, p2, kinds::LESS);
-    let p4 = formula_writer::write_expression(table, variant(table, end), list, path, j, p3);
-    formula_writer::push_mark(list, p4, end)
 }
 
 // Writes W of the statement at row `first` and of all that follows it, before the formula at the end; the first `passed`
@@ -82,39 +93,38 @@ pub fn write_before(
         if list.len() < p {
             return p;
         }
-        let kind = field(table, s, 0);
-        match kind {
-            kinds::SKIP => s = following::next(table, scratch, s),
-            kinds::ASSIGN => {
+        match kind_at(table, s) {
+            Kind::Skip => s = following::next(table, scratch, s),
+            Kind::Assign => {
                 let e = RowNumber(field(table, s, 2));
                 p = divisor_writer::write_conjunct(table, e, list, scratch, j, p);
                 scratch[j] = formula_writer::path::entry(table, RowNumber(s));
                 j = j + 1;
                 s = following::next(table, scratch, s);
             }
-            kinds::SEQUENCE => s = field(table, s, 1),
-            kinds::IF => {
+            Kind::Sequence => s = field(table, s, 1),
+            Kind::If => {
                 let b = RowNumber(field(table, s, 1));
                 let x = field(table, s, 2);
                 let y = field(table, s, 3);
                 p = divisor_writer::write_conjunct(table, b, list, scratch, j, p);
-                p = formula_writer::push_kind(list, p, kinds::AND);
-                p = formula_writer::push_kind(list, p, kinds::IMPLIES);
+                p = formula_writer::push_kind(list, p, Kind::And as usize);
+                p = formula_writer::push_kind(list, p, Kind::Implies as usize);
                 p = formula_writer::write_formula(table, b, list, scratch, j, p);
                 p = write_before(table, x, scratch, j, list, end, p);
-                p = formula_writer::push_kind(list, p, kinds::IMPLIES);
-                p = formula_writer::push_kind(list, p, kinds::NOT);
+                p = formula_writer::push_kind(list, p, Kind::Implies as usize);
+                p = formula_writer::push_kind(list, p, Kind::Not as usize);
                 p = formula_writer::write_formula(table, b, list, scratch, j, p);
                 s = y;
             }
-            kinds::WHILE => {
+            Kind::While => {
                 let i = invariant(table, RowNumber(s));
                 return formula_writer::write_formula(table, i, list, scratch, j, p);
             }
             // an assertion
             _ => {
                 let f = RowNumber(field(table, s, 1));
-                p = formula_writer::push_kind(list, p, kinds::AND);
+                p = formula_writer::push_kind(list, p, Kind::And as usize);
                 p = formula_writer::write_formula(table, f, list, scratch, j, p);
                 s = following::next(table, scratch, s);
             }

@@ -1,10 +1,6 @@
 -- What is said of the rows below r holds on, and each turn says it of one row more.
-use Rattle.std.proofs.Common.{◌-◌}
 use Rattle.dividing.specs.Filling.{Filled}
 use Rattle.dividing.proofs.find_divisions.Given as goal
 
 abbrev pub invariant-loop-r : goal.invariant-loop-r
 invariant-loop-r l = Filled l.table l.follow l.r
-
-abbrev pub decreases-loop-r : goal.decreases-loop-r
-decreases-loop-r l = l.rows - l.r

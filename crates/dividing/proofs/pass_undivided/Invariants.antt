@@ -1,10 +1,6 @@
 -- No D stands below the row at hand, and each turn says it of one row more.
-use Rattle.std.proofs.Common.{◌-◌}
 use Rattle.dividing.specs.Undivided.{Undivided}
 use Rattle.dividing.proofs.pass_undivided.Given as goal
 
 abbrev pub invariant-loop-r : goal.invariant-loop-r
 invariant-loop-r l = Undivided l.table l.follow l.r
-
-abbrev pub decreases-loop-r : goal.decreases-loop-r
-decreases-loop-r l = l.rows - l.r

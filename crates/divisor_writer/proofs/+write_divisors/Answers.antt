@@ -1,4 +1,8 @@
 -- Each turn goes on from the node's source by the law of its kind.
+use Rattle.std.proofs.Common.{◌≡◌, ◌⊎◌, ℕ, refl, ⊎_elim, arith}
+use Rattle.script.specs.declared.kinds.Kind.{Kind}
+use Rattle.script.specs.Kinds.{kind_of, number_read, other_read}
+use Rattle.dividing.specs.Divisions.{division_kind, other_kind}
 use Rattle.dividing.specs.Parts.{expression_below, formula_below}
 use Rattle.divisor_writer.specs.Ready.{part_in, part_node}
 use Rattle.divisor_writer.specs.Turns.{done, stopped, source_here, at_source, falls_below, part_ready, choice_turn, choice_here, divisor_node, division_written, pair_turn, pair_here}
@@ -19,119 +23,126 @@ returns t c =
 pub divides-last-requires : goal.divides-last-requires
 divides-last-requires t c =
     let g = at_source c.loop-p.invariant c.source-row.ensures in
-    let k = choice_here g c.field-kind.ensures c.if-kind-eq-CHOOSE.true c.field.ensures c.field-then-kind-eq-CHOOSE.ensures c.field-row.ensures in
+    let k = choice_here g refl (number_read c.kind_at.ensures c.in-Choose.is refl) c.field.ensures c.field-in-Choose.ensures c.field-row.ensures in
     part_in g.ready (expression_below _ k.second)
 
 pub push_ands-p-requires : goal.push_ands-p-requires
 push_ands-p-requires t c =
     let g = at_source c.loop-p.invariant c.source-row.ensures in
-    let k = choice_here g c.field-kind.ensures c.if-kind-eq-CHOOSE.true c.field.ensures c.field-then-kind-eq-CHOOSE.ensures c.field-row.ensures in
+    let k = choice_here g refl (number_read c.kind_at.ensures c.in-Choose.is refl) c.field.ensures c.field-in-Choose.ensures c.field-row.ensures in
     (part_in g.ready (formula_below _ k.by), part_in g.ready (expression_below _ k.first))
 
 pub write_divisors-p-requires : goal.write_divisors-p-requires
 write_divisors-p-requires t c =
     let g = at_source c.loop-p.invariant c.source-row.ensures in
-    let k = choice_here g c.field-kind.ensures c.if-kind-eq-CHOOSE.true c.field.ensures c.field-then-kind-eq-CHOOSE.ensures c.field-row.ensures in
+    let k = choice_here g refl (number_read c.kind_at.ensures c.in-Choose.is refl) c.field.ensures c.field-in-Choose.ensures c.field-row.ensures in
     part_ready g c.decreases (formula_below _ k.by)
 
 pub write_premise-p-requires : goal.write_premise-p-requires
 write_premise-p-requires t c =
     let g = at_source c.loop-p.invariant c.source-row.ensures in
-    let k = choice_here g c.field-kind.ensures c.if-kind-eq-CHOOSE.true c.field.ensures c.field-then-kind-eq-CHOOSE.ensures c.field-row.ensures in
+    let k = choice_here g refl (number_read c.kind_at.ensures c.in-Choose.is refl) c.field.ensures c.field-in-Choose.ensures c.field-row.ensures in
     (part_node g.ready k.by, part_in g.ready (expression_below _ k.first))
 
-pub write_divisors-p-requires-then-kind-eq-CHOOSE : goal.write_divisors-p-requires-then-kind-eq-CHOOSE
-write_divisors-p-requires-then-kind-eq-CHOOSE t c =
+pub write_divisors-p-requires-in-Choose : goal.write_divisors-p-requires-in-Choose
+write_divisors-p-requires-in-Choose t c =
     let g = at_source c.loop-p.invariant c.source-row.ensures in
-    let k = choice_here g c.field-kind.ensures c.if-kind-eq-CHOOSE.true c.field.ensures c.field-then-kind-eq-CHOOSE.ensures c.field-row.ensures in
+    let k = choice_here g refl (number_read c.kind_at.ensures c.in-Choose.is refl) c.field.ensures c.field-in-Choose.ensures c.field-row.ensures in
     part_ready g c.decreases (expression_below _ k.first)
 
-pub write_premise-p-requires-then-kind-eq-CHOOSE : goal.write_premise-p-requires-then-kind-eq-CHOOSE
-write_premise-p-requires-then-kind-eq-CHOOSE t c =
+pub write_premise-p-requires-in-Choose : goal.write_premise-p-requires-in-Choose
+write_premise-p-requires-in-Choose t c =
     let g = at_source c.loop-p.invariant c.source-row.ensures in
-    let k = choice_here g c.field-kind.ensures c.if-kind-eq-CHOOSE.true c.field.ensures c.field-then-kind-eq-CHOOSE.ensures c.field-row.ensures in
+    let k = choice_here g refl (number_read c.kind_at.ensures c.in-Choose.is refl) c.field.ensures c.field-in-Choose.ensures c.field-row.ensures in
     (part_node g.ready k.by, part_in g.ready (expression_below _ k.second))
 
-pub loop-p-smaller-then-kind-eq-CHOOSE : goal.loop-p-smaller-then-kind-eq-CHOOSE
-loop-p-smaller-then-kind-eq-CHOOSE t c =
+pub loop-p-smaller-in-Choose : goal.loop-p-smaller-in-Choose
+loop-p-smaller-in-Choose t c =
     let g = at_source c.loop-p.invariant c.source-row.ensures in
-    let k = choice_here g c.field-kind.ensures c.if-kind-eq-CHOOSE.true c.field.ensures c.field-then-kind-eq-CHOOSE.ensures c.field-row.ensures in
+    let k = choice_here g refl (number_read c.kind_at.ensures c.in-Choose.is refl) c.field.ensures c.field-in-Choose.ensures c.field-row.ensures in
     let o = source_here c.loop-p.invariant c.source-row.ensures in
     falls_below o k.second.0
 
-pub loop-p-preserved-then-kind-eq-CHOOSE : goal.loop-p-preserved-then-kind-eq-CHOOSE
-loop-p-preserved-then-kind-eq-CHOOSE t c =
+pub loop-p-preserved-in-Choose : goal.loop-p-preserved-in-Choose
+loop-p-preserved-in-Choose t c =
     let g = at_source c.loop-p.invariant c.source-row.ensures in
-    let k = choice_here g c.field-kind.ensures c.if-kind-eq-CHOOSE.true c.field.ensures c.field-then-kind-eq-CHOOSE.ensures c.field-row.ensures in
+    let k = choice_here g refl (number_read c.kind_at.ensures c.in-Choose.is refl) c.field.ensures c.field-in-Choose.ensures c.field-row.ensures in
     choice_turn g k (rw c.divides-last.ensures at c.push_ands-p.ensures) c.write_divisors-p.ensures c.write_premise-p.ensures
-    c.write_divisors-p-then-kind-eq-CHOOSE.ensures c.write_premise-p-then-kind-eq-CHOOSE.ensures
+    c.write_divisors-p-in-Choose.ensures c.write_premise-p-in-Choose.ensures
 
 -- ---- two parts, with a divisor: that is last, and the writer returns
 
-pub push_ands-p-requires-then-is_division : goal.push_ands-p-requires-then-is_division
-push_ands-p-requires-then-is_division t c =
+no_choice : {k : Kind} {n : ℕ} → k ≡ kind_of n → (k ≡ Kind.Div) ⊎ (k ≡ Kind.Mod) → n ≡ 10 → ⊥
+no_choice e h = ⊎_elim (λ i j. let q = number_read e i refl in omega arith) (λ i j. let q = number_read e i refl in omega arith) h
+
+no_choice_left : {k : Kind} {n : ℕ} → k ≡ kind_of n → (k ≡ Kind.Choose → ⊥) → n ≡ 10 → ⊥
+unfolding kind_of
+no_choice_left e h = other_read e h refl
+
+pub push_ands-p-requires-in-Div : goal.push_ands-p-requires-in-Div
+push_ands-p-requires-in-Div t c =
     let g = at_source c.loop-p.invariant c.source-row.ensures in
     let o = source_here c.loop-p.invariant c.source-row.ensures in
-    let k = pair_here g c.field-kind.ensures o c.if-kind-eq-CHOOSE.false c.field-else-kind-eq-CHOOSE.ensures c.field-else-kind-eq-CHOOSE-2.ensures in
+    let k = pair_here g refl o (no_choice c.kind_at.ensures c.in-Div.is) c.field-in-Div.ensures c.field-in-Div-2.ensures in
     (part_in g.ready k.first, part_in g.ready k.second)
 
-pub write_divisors-p-requires-then-is_division : goal.write_divisors-p-requires-then-is_division
-write_divisors-p-requires-then-is_division t c =
+pub write_divisors-p-requires-in-Div : goal.write_divisors-p-requires-in-Div
+write_divisors-p-requires-in-Div t c =
     let g = at_source c.loop-p.invariant c.source-row.ensures in
     let o = source_here c.loop-p.invariant c.source-row.ensures in
-    let k = pair_here g c.field-kind.ensures o c.if-kind-eq-CHOOSE.false c.field-else-kind-eq-CHOOSE.ensures c.field-else-kind-eq-CHOOSE-2.ensures in
+    let k = pair_here g refl o (no_choice c.kind_at.ensures c.in-Div.is) c.field-in-Div.ensures c.field-in-Div-2.ensures in
     part_ready g c.decreases k.first
 
-pub write_divisors-p-requires-then-is_division-2 : goal.write_divisors-p-requires-then-is_division-2
-write_divisors-p-requires-then-is_division-2 t c =
+pub write_divisors-p-requires-in-Div-2 : goal.write_divisors-p-requires-in-Div-2
+write_divisors-p-requires-in-Div-2 t c =
     let g = at_source c.loop-p.invariant c.source-row.ensures in
     let o = source_here c.loop-p.invariant c.source-row.ensures in
-    let k = pair_here g c.field-kind.ensures o c.if-kind-eq-CHOOSE.false c.field-else-kind-eq-CHOOSE.ensures c.field-else-kind-eq-CHOOSE-2.ensures in
+    let k = pair_here g refl o (no_choice c.kind_at.ensures c.in-Div.is) c.field-in-Div.ensures c.field-in-Div-2.ensures in
     part_ready g c.decreases k.second
 
 pub write_nonzero-requires : goal.write_nonzero-requires
 write_nonzero-requires t c =
     let g = at_source c.loop-p.invariant c.source-row.ensures in
     let o = source_here c.loop-p.invariant c.source-row.ensures in
-    let k = pair_here g c.field-kind.ensures o c.if-kind-eq-CHOOSE.false c.field-else-kind-eq-CHOOSE.ensures c.field-else-kind-eq-CHOOSE-2.ensures in
-    divisor_node g k c.is_division.ensures c.if-is_division.true
+    let k = pair_here g refl o (no_choice c.kind_at.ensures c.in-Div.is) c.field-in-Div.ensures c.field-in-Div-2.ensures in
+    divisor_node g k refl (division_kind _ c.kind_at.ensures c.in-Div.is)
 
-pub returns-then-is_division : goal.returns-then-is_division
-returns-then-is_division t c =
+pub returns-in-Div : goal.returns-in-Div
+returns-in-Div t c =
     let g = at_source c.loop-p.invariant c.source-row.ensures in
     let o = source_here c.loop-p.invariant c.source-row.ensures in
-    let k = pair_here g c.field-kind.ensures o c.if-kind-eq-CHOOSE.false c.field-else-kind-eq-CHOOSE.ensures c.field-else-kind-eq-CHOOSE-2.ensures in
-    division_written g k c.is_division.ensures c.if-is_division.true
-    c.push_ands-p-then-is_division.ensures c.write_divisors-p-then-is_division.ensures c.write_divisors-p-then-is_division-2.ensures
+    let k = pair_here g refl o (no_choice c.kind_at.ensures c.in-Div.is) c.field-in-Div.ensures c.field-in-Div-2.ensures in
+    division_written g k refl (division_kind _ c.kind_at.ensures c.in-Div.is)
+    c.push_ands-p-in-Div.ensures c.write_divisors-p-in-Div.ensures c.write_divisors-p-in-Div-2.ensures
     c.write_nonzero.ensures
 
 -- ---- two parts, with no divisor: D of the second is the next turn
 
-pub push_ands-p-requires-else-kind-eq-CHOOSE : goal.push_ands-p-requires-else-kind-eq-CHOOSE
-push_ands-p-requires-else-kind-eq-CHOOSE t c =
+pub push_ands-p-requires-in_default : goal.push_ands-p-requires-in_default
+push_ands-p-requires-in_default t c =
     let g = at_source c.loop-p.invariant c.source-row.ensures in
     let o = source_here c.loop-p.invariant c.source-row.ensures in
-    let k = pair_here g c.field-kind.ensures o c.if-kind-eq-CHOOSE.false c.field-else-kind-eq-CHOOSE.ensures c.field-else-kind-eq-CHOOSE-2.ensures in
+    let k = pair_here g refl o (no_choice_left c.kind_at.ensures c.in_default.not-Choose) c.field-in_default.ensures c.field-in_default-2.ensures in
     (part_in g.ready k.first, part_in g.ready k.second)
 
-pub write_divisors-p-requires-else-kind-eq-CHOOSE : goal.write_divisors-p-requires-else-kind-eq-CHOOSE
-write_divisors-p-requires-else-kind-eq-CHOOSE t c =
+pub write_divisors-p-requires-in_default : goal.write_divisors-p-requires-in_default
+write_divisors-p-requires-in_default t c =
     let g = at_source c.loop-p.invariant c.source-row.ensures in
     let o = source_here c.loop-p.invariant c.source-row.ensures in
-    let k = pair_here g c.field-kind.ensures o c.if-kind-eq-CHOOSE.false c.field-else-kind-eq-CHOOSE.ensures c.field-else-kind-eq-CHOOSE-2.ensures in
+    let k = pair_here g refl o (no_choice_left c.kind_at.ensures c.in_default.not-Choose) c.field-in_default.ensures c.field-in_default-2.ensures in
     part_ready g c.decreases k.first
 
 pub loop-p-smaller : goal.loop-p-smaller
 loop-p-smaller t c =
     let g = at_source c.loop-p.invariant c.source-row.ensures in
     let o = source_here c.loop-p.invariant c.source-row.ensures in
-    let k = pair_here g c.field-kind.ensures o c.if-kind-eq-CHOOSE.false c.field-else-kind-eq-CHOOSE.ensures c.field-else-kind-eq-CHOOSE-2.ensures in
+    let k = pair_here g refl o (no_choice_left c.kind_at.ensures c.in_default.not-Choose) c.field-in_default.ensures c.field-in_default-2.ensures in
     falls_below o k.second.0
 
 pub loop-p-preserved : goal.loop-p-preserved
 loop-p-preserved t c =
     let g = at_source c.loop-p.invariant c.source-row.ensures in
     let o = source_here c.loop-p.invariant c.source-row.ensures in
-    let k = pair_here g c.field-kind.ensures o c.if-kind-eq-CHOOSE.false c.field-else-kind-eq-CHOOSE.ensures c.field-else-kind-eq-CHOOSE-2.ensures in
-    pair_turn g k c.is_division.ensures c.if-is_division.false
-    c.push_ands-p-else-kind-eq-CHOOSE.ensures c.write_divisors-p-else-kind-eq-CHOOSE.ensures
+    let k = pair_here g refl o (no_choice_left c.kind_at.ensures c.in_default.not-Choose) c.field-in_default.ensures c.field-in_default-2.ensures in
+    pair_turn g k refl (other_kind _ c.kind_at.ensures c.in_default.not-Div c.in_default.not-Mod)
+    c.push_ands-p-in_default.ensures c.write_divisors-p-in_default.ensures

@@ -4,4 +4,4 @@ use Rattle.divisor_writer.proofs.write_conjunct.Goals as goal
 
 pub returns-else-divides : goal.returns-else-divides
 returns-else-divides c =
-    no_conjunct c.requires (rw (lent_whole c.args.table.now c.args.scratch.now) at c.divides.ensures) c.if-divides.false
+    no_conjunct c.requires (rw (c.row_count-rows.ensures, lent_whole c.args.table.now c.args.scratch.now) at c.divides.ensures) c.if-divides.false

@@ -1,6 +1,7 @@
 -- Each turn says of one row more what follows its parts.
 use Rattle.std.proofs.Common.{rules, refl, ◌-◌, ◌<◌, arith, pos, length-set, to_z-of_z}
 use Rattle.script.specs.Rows.{rows}
+use Rattle.script.specs.Kinds.{kind_of, number_read, other_read}
 use Rattle.script.specs.Laws.{back}
 use Rattle.theorems.specs.Accepted.{passed}
 use Rattle.following.specs.Filling.{below_it, first_below, second_fits, second_below, sequence_filled, then_below, else_below, branch_filled, body_below, loop_filled, statement_below, script_filled}
@@ -16,7 +17,7 @@ overflow_cast-follow c =
     let ok = passed t c.requires.0 in
     let h : c.loop-r.r - 1 < rows c.args.table.now = omega arith in
     let f = below_it c.loop-r-test.true c.loop-r.invariant.1 in
-    let e = sequence_row t r c.field-kind.ensures c.in-34.is c.field-first.ensures c.field-second.ensures in
+    let e = sequence_row t r refl (number_read c.kind_at.ensures c.in-Sequence.is refl) c.field-first.ensures c.field-second.ensures in
     second_fits t ok h f e
 
 pub offset_bounds-follow-first : goal.offset_bounds-follow-first
@@ -26,7 +27,7 @@ offset_bounds-follow-first c =
     let ok = passed t c.requires.0 in
     let h : c.loop-r.r - 1 < rows c.args.table.now = omega arith in
     let f = below_it c.loop-r-test.true c.loop-r.invariant.1 in
-    let e = sequence_row t r c.field-kind.ensures c.in-34.is c.field-first.ensures c.field-second.ensures in
+    let e = sequence_row t r refl (number_read c.kind_at.ensures c.in-Sequence.is refl) c.field-first.ensures c.field-second.ensures in
     omega (arith, first_below t ok h f e, f.long, ok.short)
 
 pub bounds-follow-first : goal.bounds-follow-first
@@ -36,7 +37,7 @@ bounds-follow-first c =
     let ok = passed t c.requires.0 in
     let h : c.loop-r.r - 1 < rows c.args.table.now = omega arith in
     let f = below_it c.loop-r-test.true c.loop-r.invariant.1 in
-    let e = sequence_row t r c.field-kind.ensures c.in-34.is c.field-first.ensures c.field-second.ensures in
+    let e = sequence_row t r refl (number_read c.kind_at.ensures c.in-Sequence.is refl) c.field-first.ensures c.field-second.ensures in
     first_below t ok h f e
 
 pub offset_bounds-follow-second : goal.offset_bounds-follow-second
@@ -46,7 +47,7 @@ offset_bounds-follow-second c =
     let ok = passed t c.requires.0 in
     let h : c.loop-r.r - 1 < rows c.args.table.now = omega arith in
     let f = below_it c.loop-r-test.true c.loop-r.invariant.1 in
-    let e = sequence_row t r c.field-kind.ensures c.in-34.is c.field-first.ensures c.field-second.ensures in
+    let e = sequence_row t r refl (number_read c.kind_at.ensures c.in-Sequence.is refl) c.field-first.ensures c.field-second.ensures in
     omega (arith, rw length-set at (second_below t ok h f e (pos 0)), f.long, ok.short)
 
 pub bounds-follow-second : goal.bounds-follow-second
@@ -56,17 +57,17 @@ bounds-follow-second c =
     let ok = passed t c.requires.0 in
     let h : c.loop-r.r - 1 < rows c.args.table.now = omega arith in
     let f = below_it c.loop-r-test.true c.loop-r.invariant.1 in
-    let e = sequence_row t r c.field-kind.ensures c.in-34.is c.field-first.ensures c.field-second.ensures in
+    let e = sequence_row t r refl (number_read c.kind_at.ensures c.in-Sequence.is refl) c.field-first.ensures c.field-second.ensures in
     second_below t ok h f e _
 
-pub loop-r-preserved-in-34 : goal.loop-r-preserved-in-34
-loop-r-preserved-in-34 c =
+pub loop-r-preserved-in-Sequence : goal.loop-r-preserved-in-Sequence
+loop-r-preserved-in-Sequence c =
     let t = c.args.table.now in
     let r = c.loop-r.r - 1 in
     let ok = passed t c.requires.0 in
     let h : c.loop-r.r - 1 < rows c.args.table.now = omega arith in
     let f = below_it c.loop-r-test.true c.loop-r.invariant.1 in
-    let e = sequence_row t r c.field-kind.ensures c.in-34.is c.field-first.ensures c.field-second.ensures in
+    let e = sequence_row t r refl (number_read c.kind_at.ensures c.in-Sequence.is refl) c.field-first.ensures c.field-second.ensures in
     (omega arith, sequence_filled t ok h f e (to_z-of_z (second_fits t ok h f e)) (back (search rules)))
 
 -- ---- a branch
@@ -78,7 +79,7 @@ offset_bounds-follow-true_side c =
     let ok = passed t c.requires.0 in
     let h : c.loop-r.r - 1 < rows c.args.table.now = omega arith in
     let f = below_it c.loop-r-test.true c.loop-r.invariant.1 in
-    let e = if_row t r c.field-kind.ensures c.in-35.is refl c.field-true_side.ensures c.field-false_side.ensures in
+    let e = if_row t r refl (number_read c.kind_at.ensures c.in-If.is refl) refl c.field-true_side.ensures c.field-false_side.ensures in
     omega (arith, then_below t ok h f e, f.long, ok.short)
 
 pub bounds-follow-true_side : goal.bounds-follow-true_side
@@ -88,7 +89,7 @@ bounds-follow-true_side c =
     let ok = passed t c.requires.0 in
     let h : c.loop-r.r - 1 < rows c.args.table.now = omega arith in
     let f = below_it c.loop-r-test.true c.loop-r.invariant.1 in
-    let e = if_row t r c.field-kind.ensures c.in-35.is refl c.field-true_side.ensures c.field-false_side.ensures in
+    let e = if_row t r refl (number_read c.kind_at.ensures c.in-If.is refl) refl c.field-true_side.ensures c.field-false_side.ensures in
     then_below t ok h f e
 
 pub offset_bounds-follow-false_side : goal.offset_bounds-follow-false_side
@@ -98,7 +99,7 @@ offset_bounds-follow-false_side c =
     let ok = passed t c.requires.0 in
     let h : c.loop-r.r - 1 < rows c.args.table.now = omega arith in
     let f = below_it c.loop-r-test.true c.loop-r.invariant.1 in
-    let e = if_row t r c.field-kind.ensures c.in-35.is refl c.field-true_side.ensures c.field-false_side.ensures in
+    let e = if_row t r refl (number_read c.kind_at.ensures c.in-If.is refl) refl c.field-true_side.ensures c.field-false_side.ensures in
     omega (arith, rw length-set at (else_below t ok h f e (pos 0)), f.long, ok.short)
 
 pub bounds-follow-false_side : goal.bounds-follow-false_side
@@ -108,17 +109,17 @@ bounds-follow-false_side c =
     let ok = passed t c.requires.0 in
     let h : c.loop-r.r - 1 < rows c.args.table.now = omega arith in
     let f = below_it c.loop-r-test.true c.loop-r.invariant.1 in
-    let e = if_row t r c.field-kind.ensures c.in-35.is refl c.field-true_side.ensures c.field-false_side.ensures in
+    let e = if_row t r refl (number_read c.kind_at.ensures c.in-If.is refl) refl c.field-true_side.ensures c.field-false_side.ensures in
     else_below t ok h f e _
 
-pub loop-r-preserved-in-35 : goal.loop-r-preserved-in-35
-loop-r-preserved-in-35 c =
+pub loop-r-preserved-in-If : goal.loop-r-preserved-in-If
+loop-r-preserved-in-If c =
     let t = c.args.table.now in
     let r = c.loop-r.r - 1 in
     let ok = passed t c.requires.0 in
     let h : c.loop-r.r - 1 < rows c.args.table.now = omega arith in
     let f = below_it c.loop-r-test.true c.loop-r.invariant.1 in
-    let e = if_row t r c.field-kind.ensures c.in-35.is refl c.field-true_side.ensures c.field-false_side.ensures in
+    let e = if_row t r refl (number_read c.kind_at.ensures c.in-If.is refl) refl c.field-true_side.ensures c.field-false_side.ensures in
     (omega arith, branch_filled t ok h f e (back (search rules)) (back (search rules)))
 
 -- ---- a loop, and the script
@@ -130,7 +131,7 @@ offset_bounds-follow-body c =
     let ok = passed t c.requires.0 in
     let h : c.loop-r.r - 1 < rows c.args.table.now = omega arith in
     let f = below_it c.loop-r-test.true c.loop-r.invariant.1 in
-    let e = while_row t r c.field-kind.ensures c.in-36.is refl refl c.field-body.ensures in
+    let e = while_row t r refl (number_read c.kind_at.ensures c.in-While.is refl) refl refl c.field-body.ensures in
     omega (arith, body_below t ok h f e, f.long, ok.short)
 
 pub slice_set_of-follow : goal.slice_set_of-follow
@@ -140,17 +141,17 @@ slice_set_of-follow c =
     let ok = passed t c.requires.0 in
     let h : c.loop-r.r - 1 < rows c.args.table.now = omega arith in
     let f = below_it c.loop-r-test.true c.loop-r.invariant.1 in
-    let e = while_row t r c.field-kind.ensures c.in-36.is refl refl c.field-body.ensures in
+    let e = while_row t r refl (number_read c.kind_at.ensures c.in-While.is refl) refl refl c.field-body.ensures in
     body_below t ok h f e
 
-pub loop-r-preserved-in-36 : goal.loop-r-preserved-in-36
-loop-r-preserved-in-36 c =
+pub loop-r-preserved-in-While : goal.loop-r-preserved-in-While
+loop-r-preserved-in-While c =
     let t = c.args.table.now in
     let r = c.loop-r.r - 1 in
     let ok = passed t c.requires.0 in
     let h : c.loop-r.r - 1 < rows c.args.table.now = omega arith in
     let f = below_it c.loop-r-test.true c.loop-r.invariant.1 in
-    let e = while_row t r c.field-kind.ensures c.in-36.is refl refl c.field-body.ensures in
+    let e = while_row t r refl (number_read c.kind_at.ensures c.in-While.is refl) refl refl c.field-body.ensures in
     (omega arith, loop_filled t ok h f e)
 
 pub offset_bounds-follow-statement : goal.offset_bounds-follow-statement
@@ -160,35 +161,36 @@ offset_bounds-follow-statement c =
     let ok = passed t c.requires.0 in
     let h : c.loop-r.r - 1 < rows c.args.table.now = omega arith in
     let f = below_it c.loop-r-test.true c.loop-r.invariant.1 in
-    let e = script_row t r c.field-kind.ensures c.in-48.is refl c.field-statement.ensures refl in
+    let e = script_row t r refl (number_read c.kind_at.ensures c.in-Script.is refl) refl c.field-statement.ensures refl in
     omega (arith, statement_below t ok h f e, f.long, ok.short)
 
-pub slice_set_of-follow-in-48 : goal.slice_set_of-follow-in-48
-slice_set_of-follow-in-48 c =
+pub slice_set_of-follow-in-Script : goal.slice_set_of-follow-in-Script
+slice_set_of-follow-in-Script c =
     let t = c.args.table.now in
     let r = c.loop-r.r - 1 in
     let ok = passed t c.requires.0 in
     let h : c.loop-r.r - 1 < rows c.args.table.now = omega arith in
     let f = below_it c.loop-r-test.true c.loop-r.invariant.1 in
-    let e = script_row t r c.field-kind.ensures c.in-48.is refl c.field-statement.ensures refl in
+    let e = script_row t r refl (number_read c.kind_at.ensures c.in-Script.is refl) refl c.field-statement.ensures refl in
     statement_below t ok h f e
 
-pub loop-r-preserved-in-48 : goal.loop-r-preserved-in-48
-loop-r-preserved-in-48 c =
+pub loop-r-preserved-in-Script : goal.loop-r-preserved-in-Script
+loop-r-preserved-in-Script c =
     let t = c.args.table.now in
     let r = c.loop-r.r - 1 in
     let ok = passed t c.requires.0 in
     let h : c.loop-r.r - 1 < rows c.args.table.now = omega arith in
     let f = below_it c.loop-r-test.true c.loop-r.invariant.1 in
-    let e = script_row t r c.field-kind.ensures c.in-48.is refl c.field-statement.ensures refl in
+    let e = script_row t r refl (number_read c.kind_at.ensures c.in-Script.is refl) refl c.field-statement.ensures refl in
     (omega arith, script_filled t ok h f e)
 
 -- ---- rows with no statements as parts
 
 pub loop-r-preserved : goal.loop-r-preserved
+unfolding kind_of
 loop-r-preserved c =
     let t = c.args.table.now in
     let r = c.loop-r.r - 1 in
     let ok = passed t c.requires.0 in
     let f = below_it c.loop-r-test.true c.loop-r.invariant.1 in
-    (omega arith, idle_filled t r ok f c.field-kind.ensures (search rules))
+    (omega arith, idle_filled t r ok f refl ((((tt, other_read c.kind_at.ensures c.in_default.not-Sequence refl), other_read c.kind_at.ensures c.in_default.not-If refl), other_read c.kind_at.ensures c.in_default.not-While refl), other_read c.kind_at.ensures c.in_default.not-Script refl))

@@ -1,92 +1,94 @@
 -- Each turn of the two writers goes on by the law of its kind.
 use Rattle.std.proofs.Common.{rules, refl, ◌+◌, ◌*◌, get_or, pos}
+use Rattle.script.specs.Kinds.{number_read}
 use Rattle.script.specs.Laws.{back}
+use Rattle.formula_writer.specs.Kinds.{past_expressions, past_formulas, relation_kind, past_relations}
 use Rattle.formula_writer.specs.Turns.{full, part_falls, part_ready, constant_written, variable_fits, variable_written, value_falls, value_turn, negated, negate_turn, mark_fits, mark_written, chosen, choose_turn, operator_fits, operands, operator_turn, true_written, false_written, denied, not_turn, pair_fits, compared, relation_written, joined, connective_turn}
 use Rattle.formula_writer.proofs.+write_expression_write_formula.Goals as goal
 
 -- ---- a constant
 
-pub write_expression-returns-in-1 : goal.write_expression-returns-in-1
-write_expression-returns-in-1 t c =
-    constant_written c.loop-p.invariant c.field-kind.ensures c.in-1.is (rw (back {z = get_or c.args.table.now (4 * c.loop-p.row + 1) (pos 0)} (search rules)) at c.push_constant.ensures)
+pub write_expression-returns-in-Constant : goal.write_expression-returns-in-Constant
+write_expression-returns-in-Constant t c =
+    constant_written c.loop-p.invariant c.field-number.ensures (number_read c.from.ensures c.in-Constant.is refl) (rw (back {z = get_or c.args.table.now (4 * c.loop-p.row + 1) (pos 0)} (search rules)) at c.push_constant.ensures)
 
 -- ---- a variable, and the value that stands in its place
 
 pub write_expression-replace_variable-replacement-requires : goal.write_expression-replace_variable-replacement-requires
 write_expression-replace_variable-replacement-requires t c =
     let g = c.loop-p.invariant in
-    (g.ready.table, g.ready.along, variable_fits g c.field-kind.ensures c.in-2.is c.field.ensures)
+    (g.ready.table, g.ready.along, variable_fits g c.field-number.ensures (number_read c.from.ensures c.in-Variable.is refl) c.field.ensures)
 
 pub write_expression-returns-in-Itself : goal.write_expression-returns-in-Itself
 write_expression-returns-in-Itself t c =
-    variable_written c.loop-p.invariant c.field-kind.ensures c.in-2.is c.field.ensures c.replace_variable-replacement.ensures c.in-Itself.is
+    variable_written c.loop-p.invariant c.field-number.ensures (number_read c.from.ensures c.in-Variable.is refl) c.field.ensures c.replace_variable-replacement.ensures c.in-Itself.is
 
 pub write_expression-loop-p-smaller-in-Value : goal.write_expression-loop-p-smaller-in-Value
 write_expression-loop-p-smaller-in-Value t c =
-    value_falls c.loop-p.invariant c.field-kind.ensures c.in-2.is c.field.ensures c.replace_variable-replacement.ensures c.in-Value.is
+    value_falls c.loop-p.invariant c.field-number.ensures (number_read c.from.ensures c.in-Variable.is refl) c.field.ensures c.replace_variable-replacement.ensures c.in-Value.is
 
 pub write_expression-loop-p-preserved-in-Value : goal.write_expression-loop-p-preserved-in-Value
 write_expression-loop-p-preserved-in-Value t c =
-    value_turn c.loop-p.invariant c.field-kind.ensures c.in-2.is c.field.ensures c.replace_variable-replacement.ensures c.in-Value.is
+    value_turn c.loop-p.invariant c.field-number.ensures (number_read c.from.ensures c.in-Variable.is refl) c.field.ensures c.replace_variable-replacement.ensures c.in-Value.is
 
 -- ---- a negation
 
-pub write_expression-loop-p-smaller-in-8 : goal.write_expression-loop-p-smaller-in-8
-write_expression-loop-p-smaller-in-8 t c =
-    let g = c.loop-p.invariant in part_falls g _ (negated g c.field-kind.ensures c.in-8.is c.field-row.ensures).0
+pub write_expression-loop-p-smaller-in-Negate : goal.write_expression-loop-p-smaller-in-Negate
+write_expression-loop-p-smaller-in-Negate t c =
+    let g = c.loop-p.invariant in part_falls g _ (negated g c.field-number.ensures (number_read c.from.ensures c.in-Negate.is refl) c.field-row.ensures).0
 
-pub write_expression-loop-p-preserved-in-8 : goal.write_expression-loop-p-preserved-in-8
-write_expression-loop-p-preserved-in-8 t c =
-    negate_turn c.loop-p.invariant c.field-kind.ensures c.in-8.is c.field-row.ensures c.push_kind-p.ensures
+pub write_expression-loop-p-preserved-in-Negate : goal.write_expression-loop-p-preserved-in-Negate
+write_expression-loop-p-preserved-in-Negate t c =
+    negate_turn c.loop-p.invariant c.field-number.ensures (number_read c.from.ensures c.in-Negate.is refl) c.field-row.ensures c.push_kind-p.ensures
 
 -- ---- a mark
 
 pub write_expression-push_mark-requires : goal.write_expression-push_mark-requires
-write_expression-push_mark-requires t c = mark_fits c.loop-p.invariant c.field-kind.ensures c.in-9.is c.field-in-9.ensures
+write_expression-push_mark-requires t c = mark_fits c.loop-p.invariant c.field-number.ensures (number_read c.from.ensures c.in-Mark.is refl) c.field-in-Mark.ensures
 
-pub write_expression-returns-in-9 : goal.write_expression-returns-in-9
-write_expression-returns-in-9 t c =
-    mark_written c.loop-p.invariant c.field-kind.ensures c.in-9.is c.field-in-9.ensures c.push_mark.ensures
+pub write_expression-returns-in-Mark : goal.write_expression-returns-in-Mark
+write_expression-returns-in-Mark t c =
+    mark_written c.loop-p.invariant c.field-number.ensures (number_read c.from.ensures c.in-Mark.is refl) c.field-in-Mark.ensures c.push_mark.ensures
 
 -- ---- a choice
 
 pub write_expression-write_formula-p-requires : goal.write_expression-write_formula-p-requires
 write_expression-write_formula-p-requires t c =
-    let g = c.loop-p.invariant in part_ready g c.decreases (chosen g c.field-kind.ensures c.in-10.is c.field-in-10.ensures refl refl).0
+    let g = c.loop-p.invariant in part_ready g c.decreases (chosen g c.field-number.ensures (number_read c.from.ensures c.in-Choose.is refl) c.field-in-Choose.ensures refl refl).0
 
 pub write_expression-write_expression-p-requires : goal.write_expression-write_expression-p-requires
 write_expression-write_expression-p-requires t c =
-    let g = c.loop-p.invariant in part_ready g c.decreases (chosen g c.field-kind.ensures c.in-10.is refl c.field-in-10-2.ensures refl).1
+    let g = c.loop-p.invariant in part_ready g c.decreases (chosen g c.field-number.ensures (number_read c.from.ensures c.in-Choose.is refl) refl c.field-in-Choose-2.ensures refl).1
 
-pub write_expression-loop-p-smaller-in-10 : goal.write_expression-loop-p-smaller-in-10
-write_expression-loop-p-smaller-in-10 t c =
-    let g = c.loop-p.invariant in part_falls g _ (chosen g c.field-kind.ensures c.in-10.is refl refl c.field-row-in-10.ensures).2.0
+pub write_expression-loop-p-smaller-in-Choose : goal.write_expression-loop-p-smaller-in-Choose
+write_expression-loop-p-smaller-in-Choose t c =
+    let g = c.loop-p.invariant in part_falls g _ (chosen g c.field-number.ensures (number_read c.from.ensures c.in-Choose.is refl) refl refl c.field-row-in-Choose.ensures).2.0
 
-pub write_expression-loop-p-preserved-in-10 : goal.write_expression-loop-p-preserved-in-10
-write_expression-loop-p-preserved-in-10 t c =
-    choose_turn c.loop-p.invariant c.field-kind.ensures c.in-10.is c.field-in-10.ensures c.field-in-10-2.ensures c.field-row-in-10.ensures
-    c.push_kind-p-in-10.ensures c.write_formula-p.ensures c.write_expression-p.ensures
+pub write_expression-loop-p-preserved-in-Choose : goal.write_expression-loop-p-preserved-in-Choose
+write_expression-loop-p-preserved-in-Choose t c =
+    choose_turn c.loop-p.invariant c.field-number.ensures (number_read c.from.ensures c.in-Choose.is refl) c.field-in-Choose.ensures c.field-in-Choose-2.ensures c.field-row-in-Choose.ensures
+    c.push_kind-p-in-Choose.ensures c.write_formula-p.ensures c.write_expression-p.ensures
 
 -- ---- an operator
 
 pub write_expression-push_kind-p-requires-in_default :
     goal.write_expression-push_kind-p-requires-in_default
 write_expression-push_kind-p-requires-in_default t c =
-    operator_fits c.loop-p.invariant c.field-kind.ensures (search rules)
+    operator_fits c.loop-p.invariant c.field-number.ensures (past_expressions c.from.ensures c.in_default.not-Constant c.in_default.not-Variable c.in_default.not-Negate c.in_default.not-Mark c.in_default.not-Choose)
 
 pub write_expression-write_expression-p-requires-in_default :
     goal.write_expression-write_expression-p-requires-in_default
 write_expression-write_expression-p-requires-in_default t c =
-    let g = c.loop-p.invariant in part_ready g c.decreases (operands g c.field-kind.ensures (search rules) c.field-in_default.ensures refl).0
+    let g = c.loop-p.invariant in part_ready g c.decreases (operands g c.field-number.ensures (past_expressions c.from.ensures c.in_default.not-Constant c.in_default.not-Variable c.in_default.not-Negate c.in_default.not-Mark c.in_default.not-Choose) c.field-in_default.ensures refl).0
 
 pub write_expression-loop-p-smaller : goal.write_expression-loop-p-smaller
 write_expression-loop-p-smaller t c =
     let g = c.loop-p.invariant in
-    part_falls g _ (operands g c.field-kind.ensures (search rules) refl c.field-row-in_default.ensures).1.0
+    part_falls g _ (operands g c.field-number.ensures (past_expressions c.from.ensures c.in_default.not-Constant c.in_default.not-Variable c.in_default.not-Negate c.in_default.not-Mark c.in_default.not-Choose) refl c.field-row-in_default.ensures).1.0
 
 pub write_expression-loop-p-preserved : goal.write_expression-loop-p-preserved
 write_expression-loop-p-preserved t c =
-    operator_turn c.loop-p.invariant c.field-kind.ensures (search rules) c.field-in_default.ensures c.field-row-in_default.ensures
+    operator_turn c.loop-p.invariant c.field-number.ensures (past_expressions c.from.ensures c.in_default.not-Constant c.in_default.not-Variable c.in_default.not-Negate c.in_default.not-Mark c.in_default.not-Choose) c.field-in_default.ensures c.field-row-in_default.ensures
     c.push_kind-p-in_default.ensures c.write_expression-p-in_default.ensures
 
 -- ---- no room is left
@@ -96,65 +98,75 @@ write_expression-returns t c = full c.loop-p.invariant c.loop-p-test.false
 
 -- ---- true and false
 
-pub write_formula-returns-in-16 : goal.write_formula-returns-in-16
-write_formula-returns-in-16 t c = true_written c.loop-p.invariant c.field-kind.ensures c.in-16.is c.push_kind.ensures
+pub write_formula-returns-in-True : goal.write_formula-returns-in-True
+write_formula-returns-in-True t c = true_written c.loop-p.invariant c.field-number.ensures (number_read c.from.ensures c.in-True.is refl) c.push_kind.ensures
 
-pub write_formula-returns-in-17 : goal.write_formula-returns-in-17
-write_formula-returns-in-17 t c = false_written c.loop-p.invariant c.field-kind.ensures c.in-17.is c.push_kind-in-17.ensures
+pub write_formula-returns-in-False : goal.write_formula-returns-in-False
+write_formula-returns-in-False t c = false_written c.loop-p.invariant c.field-number.ensures (number_read c.from.ensures c.in-False.is refl) c.push_kind-in-False.ensures
 
 -- ---- a negation
 
-pub write_formula-loop-p-smaller-in-22 : goal.write_formula-loop-p-smaller-in-22
-write_formula-loop-p-smaller-in-22 t c =
-    let g = c.loop-p.invariant in part_falls g _ (denied g c.field-kind.ensures c.in-22.is c.field-row.ensures).0
+pub write_formula-loop-p-smaller-in-Not : goal.write_formula-loop-p-smaller-in-Not
+write_formula-loop-p-smaller-in-Not t c =
+    let g = c.loop-p.invariant in part_falls g _ (denied g c.field-number.ensures (number_read c.from.ensures c.in-Not.is refl) c.field-row.ensures).0
 
-pub write_formula-loop-p-preserved-in-22 : goal.write_formula-loop-p-preserved-in-22
-write_formula-loop-p-preserved-in-22 t c =
-    not_turn c.loop-p.invariant c.field-kind.ensures c.in-22.is c.field-row.ensures c.push_kind-p.ensures
-
--- ---- a relation or a connective
-
-pub write_formula-push_kind-p-requires-in_default :
-    goal.write_formula-push_kind-p-requires-in_default
-write_formula-push_kind-p-requires-in_default t c = pair_fits c.loop-p.invariant c.field-kind.ensures (search rules)
+pub write_formula-loop-p-preserved-in-Not : goal.write_formula-loop-p-preserved-in-Not
+write_formula-loop-p-preserved-in-Not t c =
+    not_turn c.loop-p.invariant c.field-number.ensures (number_read c.from.ensures c.in-Not.is refl) c.field-row.ensures c.push_kind-p.ensures
 
 -- ---- a relation
+
+pub write_formula-push_kind-p-requires-in-Less : goal.write_formula-push_kind-p-requires-in-Less
+write_formula-push_kind-p-requires-in-Less t c =
+    pair_fits c.loop-p.invariant c.field-number.ensures (relation_kind c.from.ensures c.in-Less.is).0
 
 pub write_formula-write_expression-p-requires : goal.write_formula-write_expression-p-requires
 write_formula-write_expression-p-requires t c =
     let g = c.loop-p.invariant in
-    part_ready g c.decreases
-    (compared g c.field-kind.ensures (search rules) c.field.ensures c.field-row-in_default.ensures (search rules)).0
+    let k = relation_kind c.from.ensures c.in-Less.is in
+    part_ready g c.decreases (compared g c.field-number.ensures k.0 c.field.ensures refl k.1).0
 
 pub write_formula-write_expression-requires : goal.write_formula-write_expression-requires
 write_formula-write_expression-requires t c =
     let g = c.loop-p.invariant in
-    part_ready g c.decreases
-    (compared g c.field-kind.ensures (search rules) c.field.ensures c.field-row-in_default.ensures (search rules)).1
+    let k = relation_kind c.from.ensures c.in-Less.is in
+    part_ready g c.decreases (compared g c.field-number.ensures k.0 c.field.ensures c.field-in-Less.ensures k.1).1
 
-pub write_formula-returns-then-kind-lt-NOT : goal.write_formula-returns-then-kind-lt-NOT
-write_formula-returns-then-kind-lt-NOT t c =
-    relation_written c.loop-p.invariant c.field-kind.ensures (search rules) c.field.ensures c.field-row-in_default.ensures
-    (search rules) c.push_kind-p-in_default.ensures c.write_expression-p.ensures c.write_expression.ensures
+pub write_formula-returns-in-Less : goal.write_formula-returns-in-Less
+write_formula-returns-in-Less t c =
+    let k = relation_kind c.from.ensures c.in-Less.is in
+    relation_written c.loop-p.invariant c.field-number.ensures k.0 c.field.ensures c.field-in-Less.ensures k.1
+    c.push_kind-p-in-Less.ensures c.write_expression-p.ensures c.write_expression.ensures
 
 -- ---- a connective
+
+pub write_formula-push_kind-p-requires-in_default :
+    goal.write_formula-push_kind-p-requires-in_default
+write_formula-push_kind-p-requires-in_default t c =
+    let k = past_formulas c.from.ensures c.in_default.not-True c.in_default.not-False c.in_default.not-Not in
+    pair_fits c.loop-p.invariant c.field-number.ensures k
 
 pub write_formula-write_formula-p-requires : goal.write_formula-write_formula-p-requires
 write_formula-write_formula-p-requires t c =
     let g = c.loop-p.invariant in
-    part_ready g c.decreases
-    (joined g c.field-kind.ensures (search rules) c.field.ensures c.field-row-in_default.ensures c.if-kind-lt-NOT.false).0
+    let k = past_formulas c.from.ensures c.in_default.not-True c.in_default.not-False c.in_default.not-Not in
+    let h = past_relations c.args.table.now c.loop-p.row _ c.field-number.ensures g.ready.sort k c.from.ensures c.in_default.not-Less c.in_default.not-AtMost c.in_default.not-Equal c.in_default.not-Unequal in
+    part_ready g c.decreases (joined g c.field-number.ensures k c.field-in_default.ensures refl h).0
 
 pub write_formula-loop-p-smaller : goal.write_formula-loop-p-smaller
 write_formula-loop-p-smaller t c =
     let g = c.loop-p.invariant in
-    part_falls g _
-    (joined g c.field-kind.ensures (search rules) c.field.ensures c.field-row-in_default.ensures c.if-kind-lt-NOT.false).1.0
+    let k = past_formulas c.from.ensures c.in_default.not-True c.in_default.not-False c.in_default.not-Not in
+    let h = past_relations c.args.table.now c.loop-p.row _ c.field-number.ensures g.ready.sort k c.from.ensures c.in_default.not-Less c.in_default.not-AtMost c.in_default.not-Equal c.in_default.not-Unequal in
+    part_falls g _ (joined g c.field-number.ensures k c.field-in_default.ensures c.field-row-in_default.ensures h).1.0
 
 pub write_formula-loop-p-preserved : goal.write_formula-loop-p-preserved
 write_formula-loop-p-preserved t c =
-    connective_turn c.loop-p.invariant c.field-kind.ensures (search rules) c.field.ensures c.field-row-in_default.ensures
-    c.if-kind-lt-NOT.false c.push_kind-p-in_default.ensures c.write_formula-p.ensures
+    let g = c.loop-p.invariant in
+    let k = past_formulas c.from.ensures c.in_default.not-True c.in_default.not-False c.in_default.not-Not in
+    let h = past_relations c.args.table.now c.loop-p.row _ c.field-number.ensures g.ready.sort k c.from.ensures c.in_default.not-Less c.in_default.not-AtMost c.in_default.not-Equal c.in_default.not-Unequal in
+    connective_turn g c.field-number.ensures k c.field-in_default.ensures c.field-row-in_default.ensures h
+    c.push_kind-p-in_default.ensures c.write_formula-p.ensures
 
 -- ---- no room is left
 

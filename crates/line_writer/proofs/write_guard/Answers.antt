@@ -8,7 +8,7 @@ use Rattle.line_writer.proofs.write_guard.Goals as goal
 
 pub divides-requires : goal.divides-requires
 divides-requires c =
-    rw (lent_whole c.args.table.now c.args.scratch.now) (guard_below _ _ _ c.requires.0 c.field.ensures)
+    rw (c.row_count-rows.ensures, lent_whole c.args.table.now c.args.scratch.now) (guard_below _ _ _ c.requires.0 c.field.ensures)
 
 pub write_formula-p2-requires : goal.write_formula-p2-requires
 write_formula-p2-requires c =
@@ -16,15 +16,15 @@ write_formula-p2-requires c =
 
 pub write_divisors-p3-requires : goal.write_divisors-p3-requires
 write_divisors-p3-requires c =
-    rw (lent_whole c.args.table.now c.args.scratch.now) (guard_divisors _ _ _ c.requires.0 c.field.ensures _)
+    rw (c.row_count-rows.ensures, lent_whole c.args.table.now c.args.scratch.now) (guard_divisors _ _ _ c.requires.0 c.field.ensures _)
 
 pub returns-then-divides : goal.returns-then-divides
 returns-then-divides c =
-    let told = rw (lent_whole c.args.table.now c.args.scratch.now) at c.divides.ensures in
+    let told = rw (c.row_count-rows.ensures, lent_whole c.args.table.now c.args.scratch.now) at c.divides.ensures in
     guard_listed _ _ _ c.requires.0 c.field.ensures told _ c.if-divides.true c.invariant.ensures
     c.push_kind-p1.ensures c.write_formula-p2.ensures c.write_divisors-p3.ensures c.finish_line.ensures
 
 pub returns : goal.returns
 returns c =
-    let told = rw (lent_whole c.args.table.now c.args.scratch.now) at c.divides.ensures in
+    let told = rw (c.row_count-rows.ensures, lent_whole c.args.table.now c.args.scratch.now) at c.divides.ensures in
     guard_unlisted _ _ _ c.requires.0 c.field.ensures told c.if-divides.false _ _ _

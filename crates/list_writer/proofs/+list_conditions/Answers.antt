@@ -1,5 +1,6 @@
 -- Each turn lists a part of the statement at hand, by the laws of its kind.
-use Rattle.std.proofs.Common.{rules, arith, refl}
+use Rattle.std.proofs.Common.{refl}
+use Rattle.script.specs.Kinds.{kind_of, number_read, other_read}
 use Rattle.following.specs.Kinds.{sequence_row, if_row}
 use Rattle.list_writer.specs.Walks.{in_table, listed_at_full, leaf_lined, second_walking, first_lower, first_turned, then_walking, else_lower, else_turned}
 use Rattle.list_writer.specs.Bodies.{guard_ready, exit_ready, floor_ready, body_walking, step_ready, loop_lined}
@@ -11,75 +12,76 @@ pub returns-then-list-p : goal.returns-then-list-p
 returns-then-list-p t c =
     listed_at_full _ _ _ _ c.loop-list.invariant c.if-list-p.true
 
-pub field-kind-requires : goal.field-kind-requires
-field-kind-requires t c =
-    (in_table _ _ _ _ c.loop-list.invariant, omega arith)
+pub kind_at-requires : goal.kind_at-requires
+kind_at-requires t c =
+    in_table _ _ _ _ c.loop-list.invariant
 
 -- ---- a sequence
 
 pub list_conditions-p-requires : goal.list_conditions-p-requires
 list_conditions-p-requires t c =
-    let r = sequence_row c.args.table.now c.loop-list.s c.field-kind.ensures c.in-34.is c.field-a.ensures c.field-b.ensures in
+    let r = sequence_row c.args.table.now c.loop-list.s refl (number_read c.kind_at.ensures c.in-Sequence.is refl) c.field-a.ensures c.field-b.ensures in
     second_walking _ _ _ _ c.loop-list.invariant r c.decreases
 
-pub loop-list-smaller-in-34 : goal.loop-list-smaller-in-34
-loop-list-smaller-in-34 t c =
-    let r = sequence_row c.args.table.now c.loop-list.s c.field-kind.ensures c.in-34.is c.field-a.ensures c.field-b.ensures in
+pub loop-list-smaller-in-Sequence : goal.loop-list-smaller-in-Sequence
+loop-list-smaller-in-Sequence t c =
+    let r = sequence_row c.args.table.now c.loop-list.s refl (number_read c.kind_at.ensures c.in-Sequence.is refl) c.field-a.ensures c.field-b.ensures in
     first_lower _ _ _ _ c.loop-list.invariant r
 
-pub loop-list-preserved-in-34 : goal.loop-list-preserved-in-34
-loop-list-preserved-in-34 t c =
-    let r = sequence_row c.args.table.now c.loop-list.s c.field-kind.ensures c.in-34.is c.field-a.ensures c.field-b.ensures in
+pub loop-list-preserved-in-Sequence : goal.loop-list-preserved-in-Sequence
+loop-list-preserved-in-Sequence t c =
+    let r = sequence_row c.args.table.now c.loop-list.s refl (number_read c.kind_at.ensures c.in-Sequence.is refl) c.field-a.ensures c.field-b.ensures in
     first_turned _ _ _ _ c.loop-list.invariant r c.list_conditions-p.ensures
 
 -- ---- a branch
 
-pub list_conditions-p-requires-in-35 : goal.list_conditions-p-requires-in-35
-list_conditions-p-requires-in-35 t c =
-    let r = if_row c.args.table.now c.loop-list.s c.field-kind.ensures c.in-35.is refl c.field-x.ensures c.field-y.ensures in
+pub list_conditions-p-requires-in-If : goal.list_conditions-p-requires-in-If
+list_conditions-p-requires-in-If t c =
+    let r = if_row c.args.table.now c.loop-list.s refl (number_read c.kind_at.ensures c.in-If.is refl) refl c.field-x.ensures c.field-y.ensures in
     then_walking _ _ _ _ c.loop-list.invariant r c.decreases
 
 pub loop-list-smaller : goal.loop-list-smaller
 loop-list-smaller t c =
-    let r = if_row c.args.table.now c.loop-list.s c.field-kind.ensures c.in-35.is refl c.field-x.ensures c.field-y.ensures in
+    let r = if_row c.args.table.now c.loop-list.s refl (number_read c.kind_at.ensures c.in-If.is refl) refl c.field-x.ensures c.field-y.ensures in
     else_lower _ _ _ _ c.loop-list.invariant r
 
 pub loop-list-preserved : goal.loop-list-preserved
 loop-list-preserved t c =
-    let r = if_row c.args.table.now c.loop-list.s c.field-kind.ensures c.in-35.is refl c.field-x.ensures c.field-y.ensures in
-    else_turned _ _ _ _ c.loop-list.invariant r c.list_conditions-p-in-35.ensures
+    let r = if_row c.args.table.now c.loop-list.s refl (number_read c.kind_at.ensures c.in-If.is refl) refl c.field-x.ensures c.field-y.ensures in
+    else_turned _ _ _ _ c.loop-list.invariant r c.list_conditions-p-in-If.ensures
 
 -- ---- a loop
 
 pub write_guard-p1-requires : goal.write_guard-p1-requires
 write_guard-p1-requires t c =
-    guard_ready _ _ _ _ c.loop-list.invariant c.field-kind.ensures c.in-36.is
+    guard_ready _ _ _ _ c.loop-list.invariant refl (number_read c.kind_at.ensures c.in-While.is refl)
 
 pub write_exit-p2-requires : goal.write_exit-p2-requires
 write_exit-p2-requires t c =
-    exit_ready _ _ _ _ c.loop-list.invariant c.field-kind.ensures c.in-36.is c.write_guard-p1.ensures
+    exit_ready _ _ _ _ c.loop-list.invariant refl (number_read c.kind_at.ensures c.in-While.is refl) c.write_guard-p1.ensures
 
 pub write_floor-p3-requires : goal.write_floor-p3-requires
 write_floor-p3-requires t c =
-    floor_ready _ _ _ _ c.loop-list.invariant c.field-kind.ensures c.in-36.is c.write_guard-p1.ensures c.write_exit-p2.ensures
+    floor_ready _ _ _ _ c.loop-list.invariant refl (number_read c.kind_at.ensures c.in-While.is refl) c.write_guard-p1.ensures c.write_exit-p2.ensures
 
 pub list_conditions-p4-requires : goal.list_conditions-p4-requires
 list_conditions-p4-requires t c =
-    body_walking _ _ _ _ c.loop-list.invariant c.field-kind.ensures c.in-36.is c.write_guard-p1.ensures c.write_exit-p2.ensures
+    body_walking _ _ _ _ c.loop-list.invariant refl (number_read c.kind_at.ensures c.in-While.is refl) c.write_guard-p1.ensures c.write_exit-p2.ensures
     c.write_floor-p3.ensures c.field-body.ensures c.decreases
 
 pub write_step-requires : goal.write_step-requires
 write_step-requires t c =
-    step_ready _ _ _ _ c.loop-list.invariant c.field-kind.ensures c.in-36.is c.write_guard-p1.ensures c.write_exit-p2.ensures
+    step_ready _ _ _ _ c.loop-list.invariant refl (number_read c.kind_at.ensures c.in-While.is refl) c.write_guard-p1.ensures c.write_exit-p2.ensures
     c.write_floor-p3.ensures c.field-body.ensures c.list_conditions-p4.ensures
 
-pub returns-in-36 : goal.returns-in-36
-returns-in-36 t c =
-    loop_lined _ _ _ _ c.loop-list.invariant c.field-kind.ensures c.in-36.is c.write_guard-p1.ensures c.write_exit-p2.ensures
+pub returns-in-While : goal.returns-in-While
+returns-in-While t c =
+    loop_lined _ _ _ _ c.loop-list.invariant refl (number_read c.kind_at.ensures c.in-While.is refl) c.write_guard-p1.ensures c.write_exit-p2.ensures
     c.write_floor-p3.ensures c.field-body.ensures c.list_conditions-p4.ensures c.write_step.ensures
 
 -- ---- skip, an assignment, an assertion
 
 pub returns-in_default : goal.returns-in_default
+unfolding kind_of
 returns-in_default t c =
-    leaf_lined _ _ _ _ c.loop-list.invariant c.field-kind.ensures (search rules)
+    leaf_lined _ _ _ _ c.loop-list.invariant refl (((tt, other_read c.kind_at.ensures c.in_default.not-Sequence refl), other_read c.kind_at.ensures c.in_default.not-If refl), other_read c.kind_at.ensures c.in_default.not-While refl)

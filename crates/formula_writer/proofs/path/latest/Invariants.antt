@@ -3,8 +3,5 @@ use Rattle.std.proofs.Common.{◌≤◌}
 use Rattle.formula_writer.specs.Search.{Unassigned}
 use Rattle.formula_writer.proofs.path.latest.Given as goal
 
-abbrev pub invariant-loop-k : goal.invariant-loop-k
-invariant-loop-k l = (l.k ≤ l.j) × Unassigned l.path l.target l.k l.j
-
-abbrev pub decreases-loop-k : goal.decreases-loop-k
-decreases-loop-k l = l.k
+abbrev pub invariant-loop-i : goal.invariant-loop-i
+invariant-loop-i l = (l.i ≤ l.j) × Unassigned l.path l.target l.i l.j
