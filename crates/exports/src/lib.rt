@@ -21,7 +21,8 @@ ghost use Rattle.exports.specs.Verdicts.{number_of, row_of};
 ghost use Rattle.exports.specs.Sides.{side_number};
 
 use editor::Record;
-use script::Answer;
+use script::{Answer, Line};
+use shortener::Side;
 
 // The verdict on a table: number and row, both 0 where it is accepted.
 #[unsafe(no_mangle)]
@@ -39,6 +40,22 @@ pub extern "C" fn leqwarti_check(table: &[i32], number: &mut usize, row: &mut us
             *row = refused.row.0;
         }
     }
+}
+
+// The line at an index of a list, or one of zeros with the number of the refusal.
+fn line_told(words: &[i32], index: i32) -> Line
+    ensures { result ≡ line_at words.now index }
+{
+    list_reader::as_line(list_reader::line_at(words, index))
+}
+
+// The same of a reader's step, with the place before it.
+fn step_told(words: &[i32], place: usize) -> (Line, usize)
+    ensures line { result.0 ≡ step_back words.now place }
+    ensures place { result.1 ≡ next_place words.now place }
+{
+    let (read, before) = list_walker::step_from(words, place);
+    (list_reader::as_line(read), before)
 }
 
 // The line at an index of a list: number, kind, row and depth, and where its formula starts and ends. A list without depths has depth 0.
@@ -60,7 +77,7 @@ pub extern "C" fn leqwarti_line(
     ensures start { start.new ≡ (line_at words.now index).start }
     ensures end { end.new ≡ (line_at words.now index).end }
 {
-    let line = list_reader::line_at(words, index);
+    let line = line_told(words, index);
     *number = line.number;
     *kind = line.kind;
     *row = line.row;
@@ -97,9 +114,8 @@ pub extern "C" fn leqwarti_step(
     ensures start { start.new ≡ (step_back words.now place.old).start }
     ensures end { end.new ≡ (step_back words.now place.old).end }
 {
-    let walked = list_walker::step_from(words, *place);
-    let passed = walked.line;
-    *place = walked.end;
+    let (passed, before) = step_told(words, *place);
+    *place = before;
     *number = passed.number;
     *kind = passed.kind;
     *row = passed.row;
@@ -183,9 +199,16 @@ pub extern "C" fn leqwarti_smt(
     ensures used { used.new ≡ (written words.now index (length text.old)).used }
     ensures text { text.new ≡ (written words.now index (length text.old)).buffer }
 {
-    let answer = smt_writer::write_condition(words, index, text);
-    *number = answer.number;
-    *used = answer.used;
+    match smt_writer::write_condition(words, index, text) {
+        Ok(bytes) => {
+            *number = 0;
+            *used = bytes;
+        }
+        Err(refusal) => {
+            *number = refusal.number();
+            *used = 0;
+        }
+    }
 }
 
 // Reads a script's text: number and place, how many words of the table were used, and the table.
@@ -228,9 +251,16 @@ pub extern "C" fn leqwarti_shorten(
     ensures used { used.new ≡ (written_short order list.now (length short.old)).used }
     ensures short { short.new ≡ (written_short order list.now (length short.old)).list }
 {
-    let shortened = shortener::shorten(list, short);
-    *number = shortened.number;
-    *used = shortened.used;
+    match shortener::shorten(list, short) {
+        Ok(words) => {
+            *number = 0;
+            *used = words;
+        }
+        Err(fault) => {
+            *number = fault.number();
+            *used = 0;
+        }
+    }
 }
 
 // The shorter of the two formulas at an index: number, in which list it stands (0 the old, 1 the new), and from where to where.
@@ -249,14 +279,22 @@ pub extern "C" fn leqwarti_shorter(
     ensures start { start.new ≡ (shorter old.now new.now index).start }
     ensures end { end.new ≡ (shorter old.now new.now index).end }
 {
-    let part = shortener::shorter_part(old, new, index);
-    *number = part.number;
-    *start = part.start;
-    *end = part.end;
-    if part.in_new {
-        *side = 1;
-    } else {
-        *side = 0;
+    match shortener::shorter_part(old, new, index) {
+        Ok(part) => {
+            *number = 0;
+            *start = part.start;
+            *end = part.end;
+            match part.side {
+                Side::Old => *side = 0,
+                Side::New => *side = 1,
+            }
+        }
+        Err(missing) => {
+            *number = missing.number();
+            *side = 0;
+            *start = 0;
+            *end = 0;
+        }
     }
 }
 

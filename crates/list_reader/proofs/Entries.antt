@@ -86,13 +86,31 @@ module _ (ws : List ℤ) {n : ℕ} (c : Claimed ws n) where
 
 -- ---- what the line at index -1 tells
 
-pub list_test : (ws : List ℤ) {l : Line} → l ≡ line_at ws (negsuc 0) → eqb l.number 21 ≡ is_some (lines ws)
-unfolding line_at_within
-list_test ws q = ap (λ (l : Line). eqb l.number 21) q ∙ go (lines ws)
-  where
-    go : (o : Option (List Found)) → eqb (line_among o (negsuc 0)).number 21 ≡ is_some o
-    go none = refl
-    go (some fs) = refl
+module _ (ws : List ℤ) where
+  pub list_when_21 : no_line 21 ≡ line_at ws (negsuc 0) → true ≡ is_some (lines ws)
+  unfolding line_at_within
+  list_when_21 q = go (lines ws) q
+    where
+      go : (o : Option (List Found)) → no_line 21 ≡ line_among o (negsuc 0) → true ≡ is_some o
+      go none h = absurd (omega (linear, ap (λ (l : Line). l.number) h))
+      go (some fs) h = refl
+
+  pub no_list_when_20 : no_line 20 ≡ line_at ws (negsuc 0) → false ≡ is_some (lines ws)
+  unfolding line_at_within
+  no_list_when_20 q = go (lines ws) q
+    where
+      go : (o : Option (List Found)) → no_line 20 ≡ line_among o (negsuc 0) → false ≡ is_some o
+      go none h = refl
+      go (some fs) h = absurd (omega (linear, ap (λ (l : Line). l.number) h))
+
+  -- none of a negative index
+  pub no_line_0 : (line_at ws (negsuc 0)).number ≡ 0 → false ≡ is_some (lines ws)
+  unfolding line_at_within
+  no_line_0 q = go (lines ws) q
+    where
+      go : (o : Option (List Found)) → (line_among o (negsuc 0)).number ≡ 0 → false ≡ is_some o
+      go none h = refl
+      go (some fs) h = absurd (omega linear)
 
 empty_is_no_list : (ws : List ℤ) (fs : List Found) → lines ws ≡ some fs → 0 < length ws
 unfolding lines_within

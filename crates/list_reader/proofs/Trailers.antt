@@ -1,14 +1,13 @@
 -- The line of a trailer: what the tests of a trailer say, and that the line found is told by them. Assumes nothing.
-use Prim.Native.Nat.{ℕ, suc, ◌+◌, ◌-◌, ◌≤◌}
+use Prim.Native.Nat.{ℕ, suc, ◌-◌, ◌≤◌}
 use native.Mathlib.Omega.{arith as linear}
-use native.Mathlib.Numerals.{add-one}
 use mathlib.Core.Path.{◌≡◌, refl, sym, ap, ◌∙◌}
 use mathlib.Core.Option.{Option, none, some}
 use mathlib.Core.List.{List}
 use mathlib.Core.Bool.{Bool, true, false, ◌&&◌}
 use lib.IntN.{ℤ}
-use lib.ListN.{length}
 use lib.Seq.{slice}
+use Rattle.std.specs.Prelude.{Some, None}
 use Rattle.script.specs.declared.Rule.{Rule}
 use Rattle.script.specs.declared.Line.{Line}
 use Rattle.script.specs.Syntax.{Formula}
@@ -17,7 +16,7 @@ use Rattle.script.specs.Words.{rule_number}
 use Rattle.script.specs.Rows.{field_number}
 use Rattle.script.specs.Listing.{◌>>=◌, Found, spelled, rule_of, below, row_limit, depth_limit, found_within, no_line}
 use Rattle.list_reader.specs.declared.lines.Trailer.{Trailer}
-use Rattle.list_reader.specs.Lines.{is_some, is_line, found_by, answer, start_of, trailer_line}
+use Rattle.list_reader.specs.Lines.{is_some, is_line, found_by, answer, start_found, trailer_line}
 use Rattle.list_reader.proofs.Tests.{rule_is, below_is, below_most}
 
 -- what is found of a trailer after a formula that ends at e
@@ -55,11 +54,11 @@ module _ (ws : List ℤ) (e : ℕ) (t : Trailer) where
       (below_is (suc e) t.size)
       (below_is depth_limit t.depth)
 
-  pub start_missing : is_line ws e t ≡ false → length ws + 1 ≡ start_of ws (found_by ws e t)
+  pub start_missing : is_line ws e t ≡ false → None ≡ start_found (found_by ws e t)
   start_missing h = go (found_by ws e t) (found_answer ∙ ap (told e t) h)
     where
-      go : (o : Option Found) → answer o ≡ no_line 20 → length ws + 1 ≡ start_of ws o
-      go none q = add-one (length ws)
+      go : (o : Option Found) → answer o ≡ no_line 20 → None ≡ start_found o
+      go none q = refl
       go (some f) q = absurd (omega (linear, ap (λ (l : Line). l.number) q))
 
 third : (a b c d : Bool) → a && (b && (c && d)) ≡ true → c ≡ true
@@ -69,12 +68,12 @@ third true false c d q = let z : ◌≡◌ {A = ℕ} 0 1 = cc in absurd (omega l
 third false b c d q = let z : ◌≡◌ {A = ℕ} 0 1 = cc in absurd (omega linear)
 
 module _ (ws : List ℤ) (e : ℕ) (t : Trailer) (h : is_line ws e t ≡ true) where
-  pub start_stands : {n : ℕ} → n ≡ field_number t.size → e - n ≡ start_of ws (found_by ws e t)
+  pub start_stands : {n : ℕ} → n ≡ field_number t.size → Some (e - n) ≡ start_found (found_by ws e t)
   start_stands s = rw s (go (found_by ws e t) (found_answer ws e t ∙ ap (told e t) h))
     where
-      go : (o : Option Found) → answer o ≡ trailer_line e t → e - field_number t.size ≡ start_of ws o
+      go : (o : Option Found) → answer o ≡ trailer_line e t → Some (e - field_number t.size) ≡ start_found o
       go none q = absurd (omega (linear, ap (λ (l : Line). l.number) q))
-      go (some f) q = sym (ap (λ (l : Line). l.start) q)
+      go (some f) q = ap (λ n. Some n) (sym (ap (λ (l : Line). l.start) q))
 
   pub size_fits : {n : ℕ} → n ≡ field_number t.size → n ≤ e
   unfolding is_line

@@ -7,6 +7,9 @@ use Rattle.script.specs.Rows.{field_number}
 use Rattle.script.specs.Listing.{Found, below, row_limit, depth_limit, depth_word, rule_of, spelled, found, line_before, lines_before}
 use Rattle.script.specs.Listing.{trailer_length, last_word, form_of, count_told, line, line_of, no_line}
 use Rattle.list_reader.specs.declared.lines.Trailer.{Trailer}
+use Rattle.list_reader.specs.declared.lines.Missing.{Missing}
+use Rattle.list_reader.specs.declared.lines.Missing.TheVariants.{NoList, NoLine}
+use Rattle.std.specs.Prelude as P
 
 abbrev pub is_some : {A : Type 0} → Option A → Bool
 is_some none = false
@@ -48,6 +51,10 @@ is_line ws e t =
 abbrev pub answer : Option Found → Line
 answer o = elim o [ some f ↦ line f | none ↦ no_line 20 ]
 
+-- where the formula of what was found starts
+abbrev pub start_found : Option Found → P.Option ℕ
+start_found o = elim o [ some f ↦ P.Some f.start | none ↦ P.None ]
+
 -- where the formula of what was found starts; one word past the end of all where nothing was
 abbrev pub start_of : List ℤ → Option Found → ℕ
 start_of ws o = elim o [ some f ↦ f.start | none ↦ suc (length ws) ]
@@ -68,6 +75,16 @@ unfoldable pub line_told : List ℤ → ℕ → Line
 line_told ws e =
     let b = e - trailer_length (form_of ws) in
     cond (leb (trailer_length (form_of ws)) e && leb e (length ws)) (trailer_line b (trailer_at ws b)) (no_line 21)
+
+-- the number of a refusal
+abbrev pub refusal : Missing → ℕ
+refusal NoList = 20
+refusal NoLine = 21
+
+-- an answer is the line l, whose number is 0, or why l is none
+abbrev pub Told : P.Result Line Missing → Line → Type 0
+Told (P.Ok k) l = (k ≡ l) × (l.number ≡ 0)
+Told (P.Err m) l = no_line (refusal m) ≡ l
 
 -- where a reader goes on, from the line that it read at the place e
 abbrev pub place_after : Line → ℕ → ℕ

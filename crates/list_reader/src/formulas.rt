@@ -1,6 +1,6 @@
 // Where an expression or a formula ends: what a word opens, and the two readers, which call each other.
 
-ghost use Rattle.std.specs.Prelude.{◌≡◌, cond, ◌-◌, ◌≤◌, ℤ, pos, ltb, leb, get_or};
+ghost use Rattle.std.specs.Prelude.{◌≡◌, cond, ◌≤◌, ℤ, pos, ltb, leb, get_or};
 ghost use Rattle.script.specs.Rows.{field_number, row_of};
 ghost use Rattle.script.specs.Listing.{spelled};
 ghost use Rattle.list_reader.specs.Nodes.{number, expression_node, formula_node, Opens};
@@ -129,13 +129,6 @@ fn number_end(words: &[i32], at: usize) -> usize
     }
 }
 
-// How many words stand before the last ones.
-pub fn all_but(last: usize, length: usize) -> usize
-    ensures { result ≡ length - last }
-{
-    if length < last { 0 } else { length - last }
-}
-
 // An end that is within the room; past it, one word past the end of all.
 fn end_within(room: usize, end: usize, past: usize) -> usize
     ensures { result ≡ cond (leb end room) end past }
@@ -160,16 +153,16 @@ pub fn expression_end(words: &[i32], first: usize) -> usize
                 if waiting == 0 {
                     return at;
                 }
-                waiting = waiting - 1;
+                waiting -= 1;
             }
-            ExpressionNode::Negate => at = at + 1,
+            ExpressionNode::Negate => at += 1,
             ExpressionNode::Arithmetic => {
-                at = at + 1;
-                waiting = waiting + 1;
+                at += 1;
+                waiting += 1;
             }
             ExpressionNode::Choose => {
                 at = formula_end(&words[0..words.len()], at + 1);
-                waiting = waiting + 1;
+                waiting += 1;
             }
             ExpressionNode::Nothing => return words.len() + 1,
         }
@@ -190,25 +183,25 @@ pub fn formula_end(words: &[i32], first: usize) -> usize
         let node = formula_node_at(all, at);
         match node {
             FormulaNode::Truth => {
-                at = at + 1;
+                at += 1;
                 if waiting == 0 {
                     return at;
                 }
-                waiting = waiting - 1;
+                waiting -= 1;
             }
             FormulaNode::Comparison => {
-                let room = all_but(2, all.len());
+                let room = all.len().saturating_sub(2);
                 let middle = expression_end(&all[0..room], at + 1);
                 at = expression_end(all, end_within(room, middle, all.len() + 1));
                 if waiting == 0 {
                     return at;
                 }
-                waiting = waiting - 1;
+                waiting -= 1;
             }
-            FormulaNode::Not => at = at + 1,
+            FormulaNode::Not => at += 1,
             FormulaNode::Junction => {
-                at = at + 1;
-                waiting = waiting + 1;
+                at += 1;
+                waiting += 1;
             }
             FormulaNode::Nothing => return words.len() + 1,
         }

@@ -1,31 +1,31 @@
-// The kinds as the words of a list, which are signed. To compare a word with them takes less than to make it a number first.
+// The kinds as the words of a list, which are signed: to compare a word with them takes less than to make it a number, or a `Kind`, first.
 
-use kind_numbers as kinds;
+use script::Kind;
 
-pub const CONSTANT: i32 = kinds::CONSTANT as i32;
+pub const CONSTANT: i32 = Kind::Constant as i32;
 
-pub const VARIABLE: i32 = kinds::VARIABLE as i32;
+pub const VARIABLE: i32 = Kind::Variable as i32;
 
-pub const PLUS: i32 = kinds::PLUS as i32;
+pub const PLUS: i32 = Kind::Plus as i32;
 
-pub const MOD: i32 = kinds::MOD as i32;
+pub const MOD: i32 = Kind::Mod as i32;
 
-pub const NEGATE: i32 = kinds::NEGATE as i32;
+pub const NEGATE: i32 = Kind::Negate as i32;
 
-pub const MARK: i32 = kinds::MARK as i32;
+pub const MARK: i32 = Kind::Mark as i32;
 
-pub const CHOOSE: i32 = kinds::CHOOSE as i32;
+pub const CHOOSE: i32 = Kind::Choose as i32;
 
-pub const TRUE: i32 = kinds::TRUE as i32;
+pub const TRUE: i32 = Kind::True as i32;
 
-pub const FALSE: i32 = kinds::FALSE as i32;
+pub const FALSE: i32 = Kind::False as i32;
 
-pub const LESS: i32 = kinds::LESS as i32;
+pub const LESS: i32 = Kind::Less as i32;
 
-pub const UNEQUAL: i32 = kinds::UNEQUAL as i32;
+pub const UNEQUAL: i32 = Kind::Unequal as i32;
 
-pub const NOT: i32 = kinds::NOT as i32;
+pub const NOT: i32 = Kind::Not as i32;
 
-pub const AND: i32 = kinds::AND as i32;
+pub const AND: i32 = Kind::And as i32;
 
-pub const IMPLIES: i32 = kinds::IMPLIES as i32;
+pub const IMPLIES: i32 = Kind::Implies as i32;

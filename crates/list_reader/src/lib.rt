@@ -6,42 +6,35 @@ mod formulas;
 mod kinds;
 mod lines;
 
-ghost use Rattle.std.specs.Prelude.{◌≡◌, cond, ◌+◌, ◌*◌, pos};
+ghost use Rattle.std.specs.Prelude.{◌≡◌, ◌+◌, ◌*◌, pos};
 ghost use Rattle.script.specs.Listing.{count_told, lines, line_at, part_at, first_place, condition_count};
-ghost use Rattle.list_reader.specs.Lines.{is_some, lines_ending, line_among, Claimed};
+ghost use Rattle.list_reader.specs.Lines.{is_some, lines_ending, line_among, Claimed, Told};
 
 pub use formulas::{expression_end, formula_end};
-use lines::{last_word, line_told, no_line, start_before};
-pub use lines::{line_before, place_after, trailer_length};
+use lines::{last_word, line_told, start_before};
+pub use lines::{Missing, as_line, line_before, place_after, trailer_length};
 use script::Line;
 
-fn chosen(take: bool, place: usize, kept: usize) -> usize
-    ensures { result ≡ cond take place kept }
-{
-    if take { place } else { kept }
-}
-
 // The line at an index of the count lines that end at a place, walked from the end back: its own place is kept on the way.
-fn walked(words: &[i32], count: usize, last: usize, index: usize) -> Line
-    ensures { result ≡ line_among (lines_ending words.now count last) (pos index) }
+fn walked(words: &[i32], count: usize, last: usize, index: usize) -> Result<Line, Missing>
+    ensures { Told result (line_among (lines_ending words.now count last) (pos index)) }
 {
     let tail = trailer_length(words);
-    let mut left = count;
     let mut end = last;
-    let mut kept: usize = 0;
-    while 0 < left {
-        let start = start_before(words, tail, end);
-        if words.len() < start {
-            return no_line(20);
+    let mut kept = 0;
+    for i in (0..count).rev() {
+        let Some(start) = start_before(words, tail, end) else {
+            return Err(Missing::NoList);
+        };
+        if i == index {
+            kept = end;
         }
-        left = left - 1;
-        kept = chosen(left == index, end, kept);
         end = start;
     }
     if end == 0 {
         line_told(words, tail, kept)
     } else {
-        no_line(20)
+        Err(Missing::NoList)
     }
 }
 
@@ -49,11 +42,7 @@ fn walked(words: &[i32], count: usize, last: usize, index: usize) -> Line
 fn count_told(word: i32) -> usize
     ensures { result ≡ count_told word }
 {
-    if word < 0 {
-        script::field_number(-1 - word) + 1
-    } else {
-        script::field_number(word)
-    }
+    word.unsigned_abs() as usize
 }
 
 // The count that the last word tells; 0 for no list.
@@ -67,13 +56,13 @@ fn claimed(words: &[i32]) -> usize
     }
 }
 
-// The line at an index: 20 where the words are no list, 21 where there is no such line.
-pub fn line_at(words: &[i32], index: i32) -> Line
-    ensures { result ≡ line_at words.now index }
+// The line at an index.
+pub fn line_at(words: &[i32], index: i32) -> Result<Line, Missing>
+    ensures { Told result (line_at words.now index) }
 {
     let count = claimed(words);
     if count == 0 {
-        no_line(20)
+        Err(Missing::NoList)
     } else {
         walked(words, count, words.len() - 1, script::field_number(index))
     }
@@ -85,18 +74,21 @@ pub fn formula_at<'a>(words: &'a [i32], index: i32) -> &'a [i32]
     ensures block { result.ref_ptr.0 ≡ words.entry.ref_ptr.0 }
     ensures place { result.ref_ptr.1 ≡ 4 * (line_at words.now index).start + words.entry.ref_ptr.1 }
 {
-    let line = line_at(words, index);
-    let start = line.start;
-    let end = line.end;
-    &words[start..end]
+    match line_at(words, index) {
+        Ok(line) => &words[line.start..line.end],
+        Err(_) => &words[0..0],
+    }
 }
 
 // Whether the words are a list.
 fn is_list(words: &[i32]) -> bool
     ensures { result ≡ is_some (lines words.now) }
 {
-    let line = line_at(words, -1);
-    line.number == 21
+    match line_at(words, -1) {
+        Ok(_) => false,
+        Err(Missing::NoList) => false,
+        Err(Missing::NoLine) => true,
+    }
 }
 
 // How many conditions a list has; 0 where the words are no list.

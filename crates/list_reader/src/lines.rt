@@ -2,12 +2,28 @@
 // list tells (02, P9).
 
 ghost use Rattle.std.specs.Prelude.{◌≡◌, ◌+◌, ◌≤◌, length};
-ghost use Rattle.script.specs.Listing.{rule_of, below, last_word, no_line, step_back};
-ghost use Rattle.list_reader.specs.Lines.{is_some, line_ending, Tail, trailer_at, is_line, found_by, start_of};
-ghost use Rattle.list_reader.specs.Lines.{trailer_line, line_told, place_after};
+ghost use Rattle.script.specs.declared.Line.{Line};
+ghost use Rattle.script.specs.Listing.{rule_of, below, last_word, step_back};
+ghost use Rattle.list_reader.specs.Lines.{is_some, line_ending, Tail, trailer_at, is_line, found_by, start_found};
+ghost use Rattle.list_reader.specs.Lines.{trailer_line, line_told, refusal, Told, place_after};
 
-use crate::formulas::{all_but, is_formula};
+use crate::formulas::is_formula;
 use script::Line;
+
+// Why there is no line, by the number of the refusal: the words are no list, or a list without that line.
+#[derive(Clone, Copy, PartialEq, Eq, Debug)]
+pub enum Missing {
+    NoList = 20,
+    NoLine = 21,
+}
+
+impl Missing {
+    pub fn number(self) -> usize
+        ensures { result ≡ refusal self }
+    {
+        self as usize
+    }
+}
 
 // The words of a trailer; the depth is 0 where the list has none.
 #[derive(Clone, Copy)]
@@ -16,20 +32,6 @@ pub struct Trailer {
     pub row: i32,
     pub size: i32,
     pub depth: i32,
-}
-
-// No line, with the number of the refusal.
-pub fn no_line(number: usize) -> Line
-    ensures { result ≡ no_line number }
-{
-    Line {
-        number,
-        kind: 0,
-        row: 0,
-        depth: 0,
-        start: 0,
-        end: 0,
-    }
 }
 
 // The last word; 0 where there are no words.
@@ -75,11 +77,7 @@ fn is_rule(kind: usize) -> bool
 fn is_below(limit: usize, word: i32) -> bool
     ensures { result ≡ is_some (below limit word) }
 {
-    if word < 0 {
-        false
-    } else {
-        script::field_number(word) < limit
-    }
+    0 <= word && script::field_number(word) < limit
 }
 
 // Whether a trailer is one after a formula that ends at e.
@@ -94,28 +92,26 @@ fn is_line(words: &[i32], e: usize, t: Trailer) -> bool
             && (is_below(e + 1, t.size) && (is_below(8, t.depth) && is_formula(&words[e - n..e]))))
 }
 
-// Where the formula that ends at e starts, by its trailer; one word past the end of all where that is none.
-fn start_of(words: &[i32], e: usize, t: Trailer) -> usize
+// Where the formula that ends at e starts, by its trailer, where that is one.
+fn start_of(words: &[i32], e: usize, t: Trailer) -> Option<usize>
     requires { e ≤ length words.now }
-    ensures { result ≡ start_of words.now (found_by words.now e t) }
+    ensures { result ≡ start_found (found_by words.now e t) }
 {
     let n = script::field_number(t.size);
     if is_line(words, e, t) {
-        e - n
+        Some(e - n)
     } else {
-        words.len() + 1
+        None
     }
 }
 
-// Where the formula of the line starts whose trailer ends at a place; one word past the end of all where there is no line.
-pub fn start_before(words: &[i32], tail: usize, end: usize) -> usize
+// Where the formula of the line starts whose trailer ends at a place, where there is such a line.
+pub fn start_before(words: &[i32], tail: usize, end: usize) -> Option<usize>
     requires { Tail words.now tail }
-    ensures { result ≡ start_of words.now (line_ending words.now end) }
+    ensures { result ≡ start_found (line_ending words.now end) }
 {
-    if end < tail {
-        words.len() + 1
-    } else if words.len() < end {
-        words.len() + 1
+    if end < tail || words.len() < end {
+        None
     } else {
         let e = end - tail;
         start_of(words, e, trailer_at(words, tail, e))
@@ -129,7 +125,7 @@ fn trailer_line(e: usize, t: Trailer) -> Line
     let kind = script::field_number(t.kind);
     let row = script::field_number(t.row);
     let depth = script::field_number(t.depth);
-    let start = all_but(script::field_number(t.size), e);
+    let start = e.saturating_sub(script::field_number(t.size));
     Line {
         number: 0,
         kind,
@@ -140,38 +136,56 @@ fn trailer_line(e: usize, t: Trailer) -> Line
     }
 }
 
-// The line that the trailer before a place tells, the formula unread; 21 where no trailer stands.
-pub fn line_told(words: &[i32], tail: usize, end: usize) -> Line
+// The line that the trailer before a place tells, the formula unread.
+pub fn line_told(words: &[i32], tail: usize, end: usize) -> Result<Line, Missing>
     requires { Tail words.now tail }
-    ensures { result ≡ line_told words.now end }
+    ensures { Told result (line_told words.now end) }
 {
-    if end < tail {
-        no_line(21)
-    } else if words.len() < end {
-        no_line(21)
+    if end < tail || words.len() < end {
+        Err(Missing::NoLine)
     } else {
         let e = end - tail;
-        trailer_line(e, trailer_at(words, tail, e))
+        Ok(trailer_line(e, trailer_at(words, tail, e)))
     }
 }
 
-// The line whose trailer ends at a place; 21 at the front.
-pub fn line_before(words: &[i32], end: usize) -> Line
-    ensures { result ≡ step_back words.now end }
+// The line whose trailer ends at a place; none at the front.
+pub fn line_before(words: &[i32], end: usize) -> Result<Line, Missing>
+    ensures { Told result (step_back words.now end) }
 {
-    let tail = trailer_length(words);
     if end == 0 {
-        no_line(21)
-    } else if words.len() < start_before(words, tail, end) {
-        no_line(20)
-    } else {
-        line_told(words, tail, end)
+        return Err(Missing::NoLine);
+    }
+    let tail = trailer_length(words);
+    match start_before(words, tail, end) {
+        Some(_) => line_told(words, tail, end),
+        None => Err(Missing::NoList),
     }
 }
 
-// The place that a reader moves to from the place end, with the line that it read there.
-pub fn place_after(line: Line, end: usize) -> usize
-    ensures { result ≡ place_after line end }
+// The place that a reader moves to from the place end, with what it read there.
+pub fn place_after(read: Result<Line, Missing>, end: usize) -> usize
+    ensures { (line : Line) → Told read line → result ≡ place_after line end }
 {
-    if line.number == 0 { line.start } else { end }
+    match read {
+        Ok(line) => line.start,
+        Err(_) => end,
+    }
+}
+
+// An answer as a line alone: the line, or one of zeros with the number of the refusal.
+pub fn as_line(read: Result<Line, Missing>) -> Line
+    ensures { (line : Line) → Told read line → result ≡ line }
+{
+    match read {
+        Ok(line) => line,
+        Err(missing) => Line {
+            number: missing.number(),
+            kind: 0,
+            row: 0,
+            depth: 0,
+            start: 0,
+            end: 0,
+        },
+    }
 }

@@ -5,29 +5,20 @@ use Rattle.std.specs.Borrow.{Bor}
 use Rattle.script.specs.declared.Line.{Line}
 use Rattle.script.specs.Listing.{first_place, step_back, next_place}
 use Rattle.list_walker.specs.declared.Reader.{Reader}
-use Rattle.list_walker.specs.declared.Stepped.{Stepped}
-use Rattle.list_walker.specs.declared.Walked.{Walked}
 
 -- "keeps the words and its place"
 abbrev pub opened : Bor (List ℤ) → Reader
 opened s = record { words = s; end = first_place s.now }
 
 -- "walks back one condition at a time"
-abbrev pub stepped : Reader → Stepped
-stepped r = record {
-  line = step_back r.words.now r.end;
-  reader = record { words = r.words; end = next_place r.words.now r.end };
-}
+abbrev pub moved : Reader → Reader
+moved r = record { words = r.words; end = next_place r.words.now r.end }
 
 -- p is the part of s from a line's start to its end, as far as there is one
 pub record Part (s : Bor (List ℤ)) (l : Line) (p : Bor (List ℤ)) : Type 0 where
   pub spells : p.now ≡ slice l.start l.end s.now
   pub block : p.ref_ptr.0 ≡ s.ref_ptr.0
   pub place : p.ref_ptr.1 ≡ 4 * min l.start (min l.end (length s.now)) + s.ref_ptr.1
-
--- a step in plain numbers
-abbrev pub step_at : List ℤ → ℕ → Walked
-step_at ws e = record { line = step_back ws e; end = next_place ws e }
 
 -- the place that n steps from the place e lead to
 unfoldable pub place_back : List ℤ → ℕ → ℕ → ℕ

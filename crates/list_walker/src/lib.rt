@@ -6,29 +6,17 @@
 
 #![tactic(auto)]
 
-ghost use Rattle.std.specs.Prelude.{◌≡◌, min};
-ghost use Rattle.script.specs.Listing.{first_place};
-ghost use Rattle.list_walker.specs.Steps.{opened, stepped, Part, step_at};
+ghost use Rattle.std.specs.Prelude.{◌≡◌};
+ghost use Rattle.script.specs.Listing.{first_place, step_back, next_place};
+ghost use Rattle.list_reader.specs.Lines.{Told};
+ghost use Rattle.list_walker.specs.Steps.{opened, moved, Part};
 
+use list_reader::Missing;
 use script::Line;
 
 #[derive(Drop)]
 pub struct Reader<'a> {
     pub words: &'a [i32],
-    pub end: usize,
-}
-
-// What a step gives: the line that ends at the reader's place, and the reader moved back before it.
-#[derive(Drop)]
-pub struct Stepped<'a> {
-    pub line: Line,
-    pub reader: Reader<'a>,
-}
-
-// The same in plain numbers: the line, and the place before it.
-#[derive(Clone, Copy)]
-pub struct Walked {
-    pub line: Line,
     pub end: usize,
 }
 
@@ -40,9 +28,11 @@ pub fn new<'a>(words: &'a [i32]) -> Reader<'a>
     Reader { words, end }
 }
 
-// One condition back, whatever words and place the reader holds.
-pub fn step<'a>(r: Reader<'a>) -> Stepped<'a>
-    ensures { result ≡ stepped r.entry }
+// One condition back, whatever words and place the reader holds: the line that ends at its place, and the reader moved back before
+// it. No iterator: over words that are no list the steps have no end.
+pub fn step<'a>(r: Reader<'a>) -> (Result<Line, Missing>, Reader<'a>)
+    ensures line { Told result.0 (step_back r.entry.words.now r.entry.end) }
+    ensures reader { result.1 ≡ moved r.entry }
 {
     let line = list_reader::line_before(r.words, r.end);
     let end = list_reader::place_after(line, r.end);
@@ -50,7 +40,7 @@ pub fn step<'a>(r: Reader<'a>) -> Stepped<'a>
         words: r.words,
         end,
     };
-    Stepped { line, reader }
+    (line, reader)
 }
 
 // The formula of a line, as the part of the reader's words where it stands.
@@ -60,18 +50,12 @@ pub fn formula<'a>(r: Reader<'a>, line: Line) -> &'a [i32]
     part(r.words, line)
 }
 
-fn least(a: usize, b: usize) -> usize
-    ensures { result ≡ min a b }
-{
-    if a <= b { a } else { b }
-}
-
 // The words from a line's start to its end, as far as there are any.
 pub fn part<'a>(words: &'a [i32], line: Line) -> &'a [i32]
     ensures { Part words.entry line result }
 {
-    let end = least(line.end, words.len());
-    let start = least(line.start, end);
+    let end = line.end.min(words.len());
+    let start = line.start.min(end);
     &words[start..end]
 }
 
@@ -83,13 +67,11 @@ pub fn start(words: &[i32]) -> usize
     r.end
 }
 
-// A reader's step from any place of a slice.
-pub fn step_from(words: &[i32], end: usize) -> Walked
-    ensures { result ≡ step_at words.now end }
+// A reader's step from any place of a slice, with the place before the line.
+pub fn step_from(words: &[i32], end: usize) -> (Result<Line, Missing>, usize)
+    ensures line { Told result.0 (step_back words.now end) }
+    ensures place { result.1 ≡ next_place words.now end }
 {
-    let s = step(Reader { words, end });
-    Walked {
-        line: s.line,
-        end: s.reader.end,
-    }
+    let (line, reader) = step(Reader { words, end });
+    (line, reader.end)
 }

@@ -1,5 +1,5 @@
 -- The entry for the pass: what is written for a list (`WrittenShort`), and so what is answered. Assumes nothing.
-use Rattle.std.specs.Prelude.{ℕ, ◌≤◌, ◌<◌, ◌≡◌, refl, List, ℤ, pos, length, replicate}
+use Rattle.std.specs.Prelude.{ℕ, ◌≤◌, ◌<◌, ◌≡◌, refl, List, ℤ, pos, length, replicate, Result, Ok, Err}
 use Rattle.std.proofs.Common.{sym, ◌∙◌, arith as linear}
 use Rattle.std.proofs.Math.Option.{Option, none, some}
 use Rattle.std.proofs.lemmas.List.{length-map, length-replicate}
@@ -15,7 +15,8 @@ use Rattle.theorems.specs.Clearing.{wrote_cleared}
 use Rattle.shortening.specs.Simplify.{order, shorten_all}
 use Rattle.shortening.specs.Shortened.{Written, written}
 use Rattle.shortening.specs.Answers.{only_answer, torn, too_short, fits}
-use Rattle.shortener.specs.declared.ShortAnswer.{ShortAnswer}
+use Rattle.shortener.specs.declared.Refusal.{Refusal}
+use Rattle.shortener.specs.declared.Refusal.TheVariants.{NoList, NoRoom}
 use Rattle.shortener.specs.Planning.{Roomy, Planned}
 use Rattle.shortener.specs.Lines.{Ready, AllWritten}
 
@@ -74,25 +75,38 @@ written_short c w = record {
 
 -- ---- the answer
 
-pub record Answered (w : Written) (r : ShortAnswer) (l : List ℤ) : Type 0 where
-  pub number : r.number ≡ w.number
-  pub used : r.used ≡ w.used
+abbrev pub refusal_number : Refusal → ℕ
+refusal_number NoList = 20
+refusal_number NoRoom = 31
+
+-- the number of a refusal, 0 for none, and how many words were used
+abbrev pub number_told : Result ℕ Refusal → ℕ
+number_told (Ok used) = 0
+number_told (Err refusal) = refusal_number refusal
+
+abbrev pub used_told : Result ℕ Refusal → ℕ
+used_told (Ok used) = used
+used_told (Err refusal) = 0
+
+pub record Answered (w : Written) (r : Result ℕ Refusal) (l : List ℤ) : Type 0 where
+  pub number : number_told r ≡ w.number
+  pub used : used_told r ≡ w.used
   pub list : l ≡ w.list
 
-as_written : {w v : Written} {r : ShortAnswer} {l : List ℤ} → w ≡ v → Answered v r l → Answered w r l
+as_written : {w v : Written} {r : Result ℕ Refusal} {l : List ℤ} → w ≡ v → Answered v r l → Answered w r l
 as_written e a = rw e a
 
 module _ (ws : List ℤ) where
-  pub no_list : (room : ℕ) → condition_count ws ≡ 0 → Answered (written order ws room) (record { number = 20; used = 0 }) (zeros room)
+  pub no_list : (room : ℕ) → condition_count ws ≡ 0 → Answered (written order ws room) (Err NoList) (zeros room)
   no_list room e = as_written (only_answer order ws room _ (torn (uncounted ws e) refl)) (record { number = refl; used = refl; list = refl })
 
   module _ {l l' : List ℤ} {p : ℕ} (clear : l ≡ zeros (length l)) (w : WrittenShort ws l p l') where
-    pub no_room : length l < p → Answered (written order ws (length l)) (record { number = 31; used = 0 }) (zeros (length l))
+    pub no_room : length l < p → Answered (written order ws (length l)) (Err NoRoom) (zeros (length l))
     no_room h =
         as_written (only_answer order ws (length l) _ (too_short w.conditions w.well (wrote_short w.wrote h) refl))
         (record { number = refl; used = refl; list = refl })
 
-    pub fitting : p ≤ length l → Answered (written order ws (length l)) (record { number = 0; used = p }) l'
+    pub fitting : p ≤ length l → Answered (written order ws (length l)) (Ok p) l'
     fitting h =
         let whole = wrote_cleared (pos 0) clear w.wrote h in
         as_written (only_answer order ws (length l) _ (fits w.conditions w.well whole.0 refl))

@@ -10,11 +10,12 @@ mod writing;
 ghost use Rattle.std.specs.Prelude.{◌≡◌, ◌+◌, ◌*◌, ◌≤◌, length};
 ghost use Rattle.shortening.specs.Simplify.{order};
 ghost use Rattle.shortening.specs.Shortened.{written, shorter, part_for, part_words};
-ghost use Rattle.shortener.specs.Whole.{Counted, WrittenShort};
-ghost use Rattle.shortener.specs.Parts.{Ordered, Told, chosen};
+ghost use Rattle.shortener.specs.Whole.{Counted, WrittenShort, refusal_number, number_told, used_told};
+ghost use Rattle.shortener.specs.Parts.{Ordered, Stands, Told, chosen};
 
 use clearing::clear;
 use lines::write_lines;
+use list_reader::Missing;
 use plan::plan;
 use script::Line;
 
@@ -24,35 +25,30 @@ const LONGEST: usize = 16384;
 // The most words of a list that is given shorter runs, which are cleared sooner.
 const BRIEF: usize = 512;
 
-// What is answered beside the new list: the number, and how many words were used.
-#[derive(Clone, Copy)]
-pub struct ShortAnswer {
-    pub number: usize,
-    pub used: usize,
+// Why no list is written, by the number of the refusal: the words are no list, or the new list has no room.
+#[derive(Clone, Copy, PartialEq, Eq, Debug)]
+pub enum Refusal {
+    NoList = 20,
+    NoRoom = 31,
 }
 
-// Writes the list, which has so many conditions, shortened; gives the place past it.
-#[tactic(auto, using(crate::specs::Whole::ready))]
-fn write_long(list: &[i32], count: usize, short: &mut [i32]) -> usize
-    requires { Counted list.now count }
-    ensures { WrittenShort list.now short.old result short.new }
-{
-    let mut ends = [0u16; LONGEST];
-    let mut shapes = [0u8; LONGEST];
-    let mut changes = [0u8; LONGEST];
-    plan(list, &mut ends, &mut shapes, &mut changes);
-    write_lines(list, count, &ends, &mut changes, short)
+impl Refusal {
+    pub fn number(self) -> usize
+        ensures { result ≡ refusal_number self }
+    {
+        self as usize
+    }
 }
 
-// The same for a list that fits the shorter runs.
+// Writes the list, which has so many conditions, shortened, with runs for N words; gives the place past it.
 #[tactic(auto, using(crate::specs::Whole::ready))]
-fn write_brief(list: &[i32], count: usize, short: &mut [i32]) -> usize
-    requires { Counted list.now count × (length list.now ≤ 512) }
+fn write_within<const N: usize>(list: &[i32], count: usize, short: &mut [i32]) -> usize
+    requires { Counted list.now count × (length list.now ≤ N) × (N ≤ 16384) }
     ensures { WrittenShort list.now short.old result short.new }
 {
-    let mut ends = [0u16; BRIEF];
-    let mut shapes = [0u8; BRIEF];
-    let mut changes = [0u8; BRIEF];
+    let mut ends = [0u16; N];
+    let mut shapes = [0u8; N];
+    let mut changes = [0u8; N];
     plan(list, &mut ends, &mut shapes, &mut changes);
     write_lines(list, count, &ends, &mut changes, short)
 }
@@ -63,93 +59,83 @@ fn write_short(list: &[i32], count: usize, short: &mut [i32]) -> usize
     ensures { WrittenShort list.now short.old result short.new }
 {
     if list.len() <= BRIEF {
-        return write_brief(list, count, short);
+        write_within::<BRIEF>(list, count, short)
+    } else {
+        write_within::<LONGEST>(list, count, short)
     }
-    write_long(list, count, short)
 }
 
-// Writes a list whose conditions are shortened, with zeros behind it: 20 where the words are no list, 31 where the new list is longer
-// than there is room.
-pub fn shorten(list: &[i32], short: &mut [i32]) -> ShortAnswer
-    ensures number { result.number ≡ (written order list.now (length short.old)).number }
-    ensures used { result.used ≡ (written order list.now (length short.old)).used }
+// Writes a list whose conditions are shortened, with zeros behind it, and gives how many words were used.
+pub fn shorten(list: &[i32], short: &mut [i32]) -> Result<usize, Refusal>
+    ensures number { number_told result ≡ (written order list.now (length short.old)).number }
+    ensures used { used_told result ≡ (written order list.now (length short.old)).used }
     ensures short { short.new ≡ (written order list.now (length short.old)).list }
 {
     clear(short);
     let count = list_reader::condition_count(list);
     if count == 0 {
-        return ShortAnswer {
-            number: 20,
-            used: 0,
-        };
+        return Err(Refusal::NoList);
     }
     let used = write_short(list, count, short);
     if short.len() < used {
         clear(short);
-        return ShortAnswer {
-            number: 31,
-            used: 0,
-        };
+        return Err(Refusal::NoRoom);
     }
-    ShortAnswer { number: 0, used }
+    Ok(used)
 }
 
-// Which of two lists, and from where to where in it; with the number of a refusal, or 0.
+// Which of two lists.
+#[derive(Clone, Copy, PartialEq, Eq, Debug)]
+pub enum Side {
+    Old,
+    New,
+}
+
+// Which of two lists, and from where to where in it.
 #[derive(Clone, Copy)]
 pub struct Part {
-    pub number: usize,
-    pub in_new: bool,
+    pub side: Side,
     pub start: usize,
     pub end: usize,
 }
 
 // The shorter of two lines, the old one if they are of one length.
 fn shorter_of(old: Line, new: Line) -> Part
-    requires { Ordered old × Ordered new }
-    ensures { Told (part_for old new) result }
+    requires ordered { Ordered old × Ordered new }
+    requires read { (old.number ≡ 0) × (new.number ≡ 0) }
+    ensures { Stands (part_for old new) result }
 {
-    if old.number != 0 {
-        return Part {
-            number: old.number,
-            in_new: false,
-            start: 0,
-            end: 0,
-        };
-    }
-    if new.number != 0 {
-        return Part {
-            number: new.number,
-            in_new: false,
-            start: 0,
-            end: 0,
-        };
-    }
     if new.end - new.start < old.end - old.start {
-        return Part {
-            number: 0,
-            in_new: true,
+        Part {
+            side: Side::New,
             start: new.start,
             end: new.end,
-        };
-    }
-    Part {
-        number: 0,
-        in_new: false,
-        start: old.start,
-        end: old.end,
+        }
+    } else {
+        Part {
+            side: Side::Old,
+            start: old.start,
+            end: old.end,
+        }
     }
 }
 
-// Where the shorter of the two formulas at an index stands: 20 and 21 for the old list, then for the new.
-pub fn shorter_part(old: &[i32], new: &[i32], index: i32) -> Part
+// Where the shorter of the two formulas at an index stands; the old list's refusal comes before the new one's.
+pub fn shorter_part(old: &[i32], new: &[i32], index: i32) -> Result<Part, Missing>
     ensures { Told (shorter old.now new.now index) result }
 {
-    let a = list_reader::line_at(old, index);
-    let b = list_reader::line_at(new, index);
-    shorter_of(a, b)
+    let a = match list_reader::line_at(old, index) {
+        Ok(line) => line,
+        Err(missing) => return Err(missing),
+    };
+    match list_reader::line_at(new, index) {
+        Ok(b) => Ok(shorter_of(a, b)),
+        Err(missing) => Err(missing),
+    }
 }
 
-// The shorter of the two formulas at an index, where it stands, and the number; refused, the empty part at the old list's front.
+// The shorter of the two formulas at an index, where it stands, and the number of a refusal, or 0. No result: its clauses `block` and
+// `place` say where the empty part stands on refusal.
 pub fn shorter<'a>(old: &'a [i32], new: &'a [i32], index: i32, number: &mut usize) -> &'a [i32]
     ensures number { number.new ≡ (shorter old.now new.now index).number }
     ensures words { result.now ≡ part_words old.now new.now (shorter old.now new.now index) }
@@ -157,12 +143,17 @@ pub fn shorter<'a>(old: &'a [i32], new: &'a [i32], index: i32, number: &mut usiz
     ensures place { result.ref_ptr.1 ≡ 4 * (shorter old.now new.now index).start
         + (chosen (shorter old.now new.now index) old.entry new.entry).ref_ptr.1 }
 {
-    let part = shorter_part(old, new, index);
-    *number = part.number;
-    let start = part.start;
-    let end = part.end;
-    if part.in_new {
-        return &new[start..end];
+    match shorter_part(old, new, index) {
+        Ok(part) => {
+            *number = 0;
+            match part.side {
+                Side::Old => &old[part.start..part.end],
+                Side::New => &new[part.start..part.end],
+            }
+        }
+        Err(missing) => {
+            *number = missing.number();
+            &old[0..0]
+        }
     }
-    &old[start..end]
 }

@@ -2,6 +2,8 @@
 use Rattle.std.specs.Prelude.{ℕ, ◌+◌, ◌<◌, ◌≡◌, List, ◌∷◌, ◌++◌, ℤ, pos, length}
 use Rattle.std.proofs.Math.Path.{ap}
 use Rattle.script.specs.Rows.{variables}
+use Rattle.script.specs.declared.kinds.Kind.{Kind}
+use Rattle.script.specs.Kinds.{kind_of}
 use Rattle.script.specs.Syntax.{Expr}
 use Rattle.script.specs.Words.{expr_words}
 use Rattle.script.specs.WellFormed.{InRange}
@@ -24,6 +26,12 @@ pub record Divides (ws : List ℤ) (at k : ℕ) : Type 0 where
   pub dividend : Expr
   pub divisor : Expr
   pub stands : DivisionAt ws at k dividend divisor
+
+-- some division of a kind does
+pub record DividesBy (ws : List ℤ) (at : ℕ) (kind : Kind) : Type 0 where
+  pub number : ℕ
+  pub is : kind ≡ kind_of number
+  pub divides : Divides ws at number
 
 -- ---- what is left
 

@@ -1,6 +1,6 @@
 -- What is written for a list and an index, by the line that the list reader finds there: its refusal (`refused-written`), or the
 -- text of the condition that stands there, where it fits (`found-written`). Assumes nothing.
-use Rattle.std.specs.Prelude.{ℕ, ◌≤◌, ◌<◌, ◌≡◌, ◌≢◌, ℤ, pos, negsuc, length, replicate}
+use Rattle.std.specs.Prelude.{ℕ, ◌≤◌, ◌<◌, ◌≡◌, ◌≢◌, ℤ, pos, negsuc, length, replicate, Result, Ok, Err}
 use Rattle.std.proofs.Math.Path.{refl, sym}
 use Rattle.std.proofs.Common.{ap, ◌∙◌, arith as linear, lt-ltb, le-ltb}
 use Rattle.std.proofs.Math.Option.{Option, none, some}
@@ -17,7 +17,9 @@ use Rattle.smt.specs.Translate.{script}
 use Rattle.smt.specs.Text.{script_text}
 use Rattle.smt.specs.Written.{Written, refuse, fit, fit_found, written, written_within}
 use Rattle.smt_writer.specs.Nodes.{Spells, Spelled}
-use Rattle.smt_writer.specs.declared.TextAnswer.{TextAnswer}
+use Rattle.smt_writer.specs.declared.Refusal.{Refusal}
+use Rattle.smt_writer.specs.declared.Refusal.TheVariants.{NoRoom}
+use Rattle.smt_writer.specs.Refused.{number_told, used_told}
 
 -- ---- the condition at an index
 
@@ -55,9 +57,9 @@ module _ (ws : List ℤ) where
 -- ---- what is answered, and left in the text
 
 -- the answer and what is left are those of w
-pub record Answered (w : Written) (r : TextAnswer) (l : List ℕ) : Type 0 where
-  pub number : r.number ≡ w.number
-  pub used : r.used ≡ w.used
+pub record Answered (w : Written) (r : Result ℕ Refusal) (l : List ℕ) : Type 0 where
+  pub number : number_told r ≡ w.number
+  pub used : used_told r ≡ w.used
   pub text : l ≡ w.buffer
 
 abbrev cleared : ℕ → List ℕ
@@ -65,16 +67,16 @@ cleared n = replicate n 0
 
 -- a text, written into a run that is cleared
 module _ {l ts l' : List ℕ} {p : ℕ} (zeros : l ≡ cleared (length l)) (w : Wrote l 0 ts p l') where
-  pub fitting : p ≤ length l → Answered (fit ts (length l)) (record { number = 0; used = p }) l'
+  pub fitting : p ≤ length l → Answered (fit ts (length l)) (Ok p) l'
   fitting h =
       let whole = wrote_cleared 0 zeros w h in
       rw (le-ltb (length l) (length ts) whole.0) (record { number = refl; used = whole.1; text = whole.2 })
 
-  pub too_long : length l < p → Answered (fit ts (length l)) (record { number = 30; used = 0 }) (cleared (length l))
+  pub too_long : length l < p → Answered (fit ts (length l)) (Err NoRoom) (cleared (length l))
   too_long h = rw (lt-ltb (length l) (length ts) (wrote_short w h)) (record { number = refl; used = refl; text = refl })
 
-module _ (ws : List ℤ) (i : ℤ) (room : ℕ) {r : TextAnswer} {l : List ℕ} where
-  pub refused_answered : (line_at ws i).number ≢ 0 → r.number ≡ (line_at ws i).number → r.used ≡ 0 → l ≡ cleared room
+module _ (ws : List ℤ) (i : ℤ) (room : ℕ) {r : Result ℕ Refusal} {l : List ℕ} where
+  pub refused_answered : (line_at ws i).number ≢ 0 → number_told r ≡ (line_at ws i).number → used_told r ≡ 0 → l ≡ cleared room
       → Answered (written ws i room) r l
   refused_answered h e u z = of_line (located ws i)
     where

@@ -6,4 +6,5 @@ pub mod Divisions
 pub mod Arms
 pub mod Noted
 pub mod Scans
+pub mod Refused
 pub mod Entry

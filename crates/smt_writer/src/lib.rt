@@ -15,16 +15,39 @@ ghost use Rattle.smt.specs.Text.{script_text};
 ghost use Rattle.smt.specs.Written.{fit, written};
 ghost use Rattle.smt_writer.specs.Nodes.{Spells, Spelled};
 ghost use Rattle.smt_writer.specs.Entry.{Answered};
+ghost use Rattle.smt_writer.specs.Refused.{refusal_number, refusal_of, number_told, used_told};
 
+use list_reader::Missing;
 use names::write_declarations;
 use terms::write_node;
 use text::{clear, push_text};
 
-// What is answered beside the text: the number, and how many bytes were used.
-#[derive(Clone, Copy)]
-pub struct TextAnswer {
-    pub number: usize,
-    pub used: usize,
+// Why no script is written, by the number of the refusal: the words are no list, a list without that condition, or the text has
+// no room.
+#[derive(Clone, Copy, PartialEq, Eq, Debug)]
+pub enum Refusal {
+    NoList = 20,
+    NoCondition = 21,
+    NoRoom = 30,
+}
+
+impl Refusal {
+    pub fn number(self) -> usize
+        ensures { result ≡ refusal_number self }
+    {
+        self as usize
+    }
+}
+
+impl From<Missing> for Refusal {
+    ghost from_gives = { λ missing refusal. refusal ≡ refusal_of missing };
+
+    fn from(missing: Missing) -> Refusal {
+        match missing {
+            Missing::NoList => Refusal::NoList,
+            Missing::NoLine => Refusal::NoCondition,
+        }
+    }
 }
 
 // Writes the script of the formula that the words spell.
@@ -40,7 +63,7 @@ fn write_script(formula: &[i32], text: &mut [u8]) -> usize
 }
 
 // Writes the script of the formula that the words spell into a run that is cleared, or leaves zeros where it has no room.
-fn write_fitting(formula: &[i32], text: &mut [u8]) -> TextAnswer
+fn write_fitting(formula: &[i32], text: &mut [u8]) -> Result<usize, Refusal>
     requires { Spelled formula.now × (text.old ≡ replicate (length text.old) 0) }
     ensures { (f : Formula) → Spells formula.now f
         → Answered (fit (script_text (script f)) (length text.old)) result text.new }
@@ -48,28 +71,18 @@ fn write_fitting(formula: &[i32], text: &mut [u8]) -> TextAnswer
     let used = write_script(formula, text);
     if text.len() < used {
         clear(text);
-        return TextAnswer {
-            number: 30,
-            used: 0,
-        };
+        return Err(Refusal::NoRoom);
     }
-    TextAnswer { number: 0, used }
+    Ok(used)
 }
 
-// Writes the condition at an index of a list as a script, with zeros behind it: 20 where the words are no list, 21 where there
-// is no such condition, 30 where the text is longer than there is room.
-pub fn write_condition(list: &[i32], index: i32, text: &mut [u8]) -> TextAnswer
-    ensures number { result.number ≡ (written list.now index (length text.old)).number }
-    ensures used { result.used ≡ (written list.now index (length text.old)).used }
+// Writes the condition at an index of a list as a script, with zeros behind it, and gives how many bytes were used.
+pub fn write_condition(list: &[i32], index: i32, text: &mut [u8]) -> Result<usize, Refusal>
+    ensures number { number_told result ≡ (written list.now index (length text.old)).number }
+    ensures used { used_told result ≡ (written list.now index (length text.old)).used }
     ensures text { text.new ≡ (written list.now index (length text.old)).buffer }
 {
     clear(text);
-    let line = list_reader::line_at(list, index);
-    let number = line.number;
-    if number != 0 {
-        return TextAnswer { number, used: 0 };
-    }
-    let start = line.start;
-    let end = line.end;
-    write_fitting(&list[start..end], text)
+    let line = list_reader::line_at(list, index)?;
+    write_fitting(&list[line.start..line.end], text)
 }

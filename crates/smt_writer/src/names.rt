@@ -9,8 +9,7 @@ ghost use Rattle.smt.specs.Pieces.{declaration_text, declarations_text};
 ghost use Rattle.smt_writer.specs.Nodes.{Spells, Spelled};
 ghost use Rattle.smt_writer.specs.Noted.{names, reference_at, variable_place, mark_place, noted, past, top_of, declared_if, declared_from};
 
-use kind_numbers as kinds;
-use script::{RowNumber, VARIABLES, VariableNumber, field_number};
+use script::{Kind, RowNumber, VARIABLES, VariableNumber, field_number};
 use text::{push_byte, push_number, push_text};
 
 // How many names: variables and marks.
@@ -50,7 +49,7 @@ fn note(flags: &mut [u8], k: usize, top: usize) -> usize
     ensures top { result ≡ past k top }
 {
     flags[k] = 1;
-    if k < top { top } else { k + 1 }
+    top.max(k + 1)
 }
 
 // Notes the names that occur in a formula; gives the places past the last ones noted.
@@ -62,17 +61,16 @@ fn note_names(formula: &[i32], flags: &mut [u8]) -> Tops
     ensures marks { (f : Formula) → Spells formula.now f → result.marks ≡ top_of mark_place (references f) 0 }
 {
     let mut i = 0;
-    let mut variables: usize = 0;
-    let mut marks: usize = 0;
+    let mut variables = 0;
+    let mut marks = 0;
     while i < formula.len() {
-        let kind = field_number(formula[i]);
-        match kind {
-            kinds::CONSTANT => i += 2,
-            kinds::VARIABLE => {
+        match Kind::from(field_number(formula[i])) {
+            Kind::Constant => i += 2,
+            Kind::Variable => {
                 variables = note(flags, field_number(formula[i + 1]), variables);
                 i += 2;
             }
-            kinds::MARK => {
+            Kind::Mark => {
                 marks = note(flags, VARIABLES + field_number(formula[i + 1]), marks);
                 i += 2;
             }
@@ -117,10 +115,8 @@ fn declare_names(flags: &[u8], first: usize, top: usize, text: &mut [u8], at: us
     ensures { Wrote text.old at (declared_from flags.now first (top - first)) result text.new }
 {
     let mut p = at;
-    let mut k = first;
-    while k < top {
+    for k in first..top {
         p = declare_noted(text, p, k, flags[k]);
-        k += 1;
     }
     p
 }

@@ -2,18 +2,18 @@
 // last part of a node is a turn of the loop, so the parentheses that close nodes are counted and written at the end; a call is
 // for the parts before it. A divisor is written before its dividend, so where it stands is looked for.
 
-ghost use Rattle.std.specs.Prelude.{◌≤◌, ◌≡◌, length};
+ghost use Rattle.std.specs.Prelude.{ℕ, ◌≤◌, ◌≡◌, length};
+ghost use Rattle.script.specs.Kinds.{kind_of};
 ghost use Rattle.theorems.specs.Writing.{Wrote};
 ghost use Rattle.smt.specs.Pieces.{constant_text};
 ghost use Rattle.smt_writer.specs.Shapes.{shape_of};
 ghost use Rattle.smt_writer.specs.Openings.{opening, leaf_text, truth_name};
 ghost use Rattle.smt_writer.specs.Turns.{Begins, Written};
-ghost use Rattle.smt_writer.specs.Divisions.{Divides, ByZero, Divided};
+ghost use Rattle.smt_writer.specs.Divisions.{DividesBy, ByZero, Divided};
 
 use crate::names::{write_mark, write_variable};
-use kind_numbers as kinds;
 use list_reader::expression_end;
-use script::{RowNumber, VariableNumber, field_number};
+use script::{Kind, RowNumber, VariableNumber, field_number};
 use text::{magnitude, push_byte, push_number, push_repeated, push_text};
 
 // Where a writer stands after a part: its place in the text, and the place in the words past the part.
@@ -40,43 +40,41 @@ pub enum Shape {
     Choice,
 }
 
-#[tactic(auto, unfolding(crate::specs::Shapes::shape_of))]
-fn shape_of(kind: usize) -> Shape
-    ensures { result ≡ shape_of kind }
+fn shape_of(kind: Kind) -> Shape
+    ensures { (n : ℕ) → kind ≡ kind_of n → result ≡ shape_of n }
 {
     match kind {
-        kinds::CONSTANT => Shape::Leaf,
-        kinds::VARIABLE => Shape::Leaf,
-        kinds::MARK => Shape::Leaf,
-        kinds::TRUE => Shape::Truth,
-        kinds::FALSE => Shape::Truth,
-        kinds::NEGATE => Shape::Single,
-        kinds::NOT => Shape::Single,
-        kinds::DIV => Shape::Division,
-        kinds::MOD => Shape::Division,
-        kinds::CHOOSE => Shape::Choice,
+        Kind::Constant => Shape::Leaf,
+        Kind::Variable => Shape::Leaf,
+        Kind::Mark => Shape::Leaf,
+        Kind::True => Shape::Truth,
+        Kind::False => Shape::Truth,
+        Kind::Negate => Shape::Single,
+        Kind::Not => Shape::Single,
+        Kind::Div => Shape::Division,
+        Kind::Mod => Shape::Division,
+        Kind::Choose => Shape::Choice,
         _ => Shape::Pair,
     }
 }
 
 // Writes what stands before the parts of a node.
-#[tactic(auto, unfolding(crate::specs::Openings::opening))]
-fn write_opening(text: &mut [u8], at: usize, kind: usize) -> usize
-    ensures { Wrote text.old at (opening kind) result text.new }
+fn write_opening(text: &mut [u8], at: usize, kind: Kind) -> usize
+    ensures { (n : ℕ) → kind ≡ kind_of n → Wrote text.old at (opening n) result text.new }
 {
     match kind {
-        kinds::PLUS => push_text(text, at, b"(+ "),
-        kinds::MINUS => push_text(text, at, b"(- "),
-        kinds::TIMES => push_text(text, at, b"(* "),
-        kinds::NEGATE => push_text(text, at, b"(- "),
-        kinds::CHOOSE => push_text(text, at, b"(ite "),
-        kinds::LESS => push_text(text, at, b"(< "),
-        kinds::AT_MOST => push_text(text, at, b"(<= "),
-        kinds::EQUAL => push_text(text, at, b"(= "),
-        kinds::UNEQUAL => push_text(text, at, b"(distinct "),
-        kinds::NOT => push_text(text, at, b"(not "),
-        kinds::AND => push_text(text, at, b"(and "),
-        kinds::OR => push_text(text, at, b"(or "),
+        Kind::Plus => push_text(text, at, b"(+ "),
+        Kind::Minus => push_text(text, at, b"(- "),
+        Kind::Times => push_text(text, at, b"(* "),
+        Kind::Negate => push_text(text, at, b"(- "),
+        Kind::Choose => push_text(text, at, b"(ite "),
+        Kind::Less => push_text(text, at, b"(< "),
+        Kind::AtMost => push_text(text, at, b"(<= "),
+        Kind::Equal => push_text(text, at, b"(= "),
+        Kind::Unequal => push_text(text, at, b"(distinct "),
+        Kind::Not => push_text(text, at, b"(not "),
+        Kind::And => push_text(text, at, b"(and "),
+        Kind::Or => push_text(text, at, b"(or "),
         _ => push_text(text, at, b"(=> "),
     }
 }
@@ -96,47 +94,46 @@ fn write_constant(text: &mut [u8], at: usize, value: i32) -> usize
 }
 
 // Writes a constant, a variable or a mark, from its two words.
-#[tactic(auto, unfolding(crate::specs::Openings::leaf_text))]
-fn write_leaf(text: &mut [u8], at: usize, kind: usize, number: i32) -> usize
-    ensures { Wrote text.old at (leaf_text kind number) result text.new }
+fn write_leaf(text: &mut [u8], at: usize, kind: Kind, number: i32) -> usize
+    ensures { (n : ℕ) → kind ≡ kind_of n → Wrote text.old at (leaf_text n number) result text.new }
 {
     match kind {
-        kinds::CONSTANT => write_constant(text, at, number),
-        kinds::VARIABLE => write_variable(text, at, VariableNumber(field_number(number))),
+        Kind::Constant => write_constant(text, at, number),
+        Kind::Variable => write_variable(text, at, VariableNumber(field_number(number))),
         _ => write_mark(text, at, RowNumber(field_number(number))),
     }
 }
 
 // Writes true or false.
-#[tactic(auto, unfolding(crate::specs::Openings::truth_name))]
-fn write_truth(text: &mut [u8], at: usize, kind: usize) -> usize
-    ensures { Wrote text.old at (truth_name kind) result text.new }
+fn write_truth(text: &mut [u8], at: usize, kind: Kind) -> usize
+    ensures { (n : ℕ) → kind ≡ kind_of n → Wrote text.old at (truth_name n) result text.new }
 {
-    if kind == kinds::TRUE {
-        push_text(text, at, b"true")
-    } else {
-        push_text(text, at, b"false")
+    match kind {
+        Kind::True => push_text(text, at, b"true"),
+        _ => push_text(text, at, b"false"),
     }
 }
 
 // Writes what a division by zero is, then what stands before its dividend. (The quotient is 0, the remainder the dividend.)
 #[cycle(write_by_zero_write_division_write_node)]
-fn write_by_zero(words: &[i32], at: usize, text: &mut [u8], start: usize, kind: usize) -> usize
-    requires { Divides words.now at kind }
-    ensures { ByZero words.now at kind text.old start result text.new }
+fn write_by_zero(words: &[i32], at: usize, text: &mut [u8], start: usize, kind: Kind) -> usize
+    requires { DividesBy words.now at kind }
+    ensures { (n : ℕ) → kind ≡ kind_of n → ByZero words.now at n text.old start result text.new }
 {
-    if kind == kinds::DIV {
-        return push_text(text, start, b"0 (div ");
+    match kind {
+        Kind::Div => push_text(text, start, b"0 (div "),
+        _ => {
+            let dividend = write_node(words, at + 1, text, start);
+            push_text(text, dividend.place, b" (mod ")
+        }
     }
-    let dividend = write_node(words, at + 1, text, start);
-    push_text(text, dividend.place, b" (mod ")
 }
 
 // Writes the division at a place up to its last part, the divisor, and tells where that stands.
 #[cycle(write_by_zero_write_division_write_node)]
-fn write_division(words: &[i32], at: usize, text: &mut [u8], start: usize, kind: usize) -> Reached
-    requires { Divides words.now at kind }
-    ensures { Divided words.now at kind text.old start result text.new }
+fn write_division(words: &[i32], at: usize, text: &mut [u8], start: usize, kind: Kind) -> Reached
+    requires { DividesBy words.now at kind }
+    ensures { (n : ℕ) → kind ≡ kind_of n → Divided words.now at n text.old start result text.new }
 {
     let end = expression_end(words, at + 1);
     let opened = push_text(text, start, b"(ite (= ");
@@ -156,11 +153,10 @@ pub fn write_node(words: &[i32], first: usize, text: &mut [u8], start: usize) ->
 {
     let mut at = first;
     let mut p = start;
-    let mut closing: usize = 0;
+    let mut closing = 0;
     while p <= text.len() {
-        let kind = field_number(words[at]);
-        let shape = shape_of(kind);
-        match shape {
+        let kind = Kind::from(field_number(words[at]));
+        match shape_of(kind) {
             Shape::Leaf => {
                 let q = write_leaf(text, p, kind, words[at + 1]);
                 let place = push_repeated(text, q, b')', closing);
@@ -174,13 +170,13 @@ pub fn write_node(words: &[i32], first: usize, text: &mut [u8], start: usize) ->
             Shape::Single => {
                 p = write_opening(text, p, kind);
                 at = at + 1;
-                closing = closing + 1;
+                closing += 1;
             }
             Shape::Division => {
                 let before = write_division(words, at, text, p, kind);
                 p = before.place;
                 at = before.end;
-                closing = closing + 2;
+                closing += 2;
             }
             Shape::Choice => {
                 p = write_opening(text, p, kind);
@@ -189,14 +185,14 @@ pub fn write_node(words: &[i32], first: usize, text: &mut [u8], start: usize) ->
                 let chosen = write_node(words, formula.end, text, p);
                 p = push_byte(text, chosen.place, b' ');
                 at = chosen.end;
-                closing = closing + 1;
+                closing += 1;
             }
             Shape::Pair => {
                 p = write_opening(text, p, kind);
                 let side = write_node(words, at + 1, text, p);
                 p = push_byte(text, side.place, b' ');
                 at = side.end;
-                closing = closing + 1;
+                closing += 1;
             }
         }
     }

@@ -4,24 +4,25 @@ use crate::run;
 use script::Line;
 use std::io;
 
-fn say_line(rt: &impl Print, name: &str, line: Line) -> io::Result<()> {
-    let Line {
-        number,
-        kind,
-        row,
-        depth,
-        start,
-        end,
-    } = line;
-    if number == 0 {
-        println!(rt; "{name}: kind {kind}, row {row}, depth {depth}, from {start} to {end}")
-    } else {
-        println!(rt; "{name}: refused {number}")
-    }
-}
-
 fn read(rt: &impl Print, name: &str, list: &[i32], index: i32) -> io::Result<()> {
-    say_line(rt, name, list_reader::line_at(list, index))
+    match list_reader::line_at(list, index) {
+        Ok(
+            Line {
+                kind,
+                row,
+                depth,
+                start,
+                end,
+                ..
+            },
+        ) => {
+            println!(rt; "{name}: kind {kind}, row {row}, depth {depth}, from {start} to {end}")
+        }
+        Err(missing) => {
+            let number = missing.number();
+            println!(rt; "{name}: refused {number}")
+        }
+    }
 }
 
 // One condition, true, with this fourth word of its trailer and this last word of the list.
@@ -70,7 +71,7 @@ fn say_depths(rt: &impl Print, list: &[i32], conditions: usize) -> io::Result<()
                 row,
                 depth,
                 ..
-            } = list_reader::line_at(list, i as i32);
+            } = list_reader::as_line(list_reader::line_at(list, i as i32));
             print!(rt; " {kind} {row} {depth};")?;
         }
     }

@@ -6,16 +6,18 @@ use trial_words::printed;
 
 // The condition at an index: its text, or the number of the refusal.
 fn script(rt: &impl Print, list: &[i32], index: i32, text: &mut [u8]) -> io::Result<()> {
-    let answer = smt_writer::write_condition(list, index, text);
-    let number = answer.number;
-    let used = answer.used;
-    if number != 0 {
-        return println!(rt; "script refused {number}");
+    match smt_writer::write_condition(list, index, text) {
+        Ok(used) => {
+            if let Some(written) = text.get(..used) {
+                rt.write_all(written)?;
+            }
+            Ok(())
+        }
+        Err(refusal) => {
+            let number = refusal.number();
+            println!(rt; "script refused {number}")
+        }
     }
-    if let Some(written) = text.get(..used) {
-        rt.write_all(written)?;
-    }
-    Ok(())
 }
 
 // A list that lacks its first word is none.

@@ -5,16 +5,18 @@ use trial_words::{output, printed};
 
 // Says what a list becomes in a run.
 fn shorten_words(rt: &impl Print, name: &str, list: &[i32], short: &mut [i32]) -> io::Result<()> {
-    let answer = shortener::shorten(list, short);
-    let number = answer.number;
-    let used = answer.used;
-    if number != 0 {
-        return println!(rt; "{name}: refused {number}");
+    match shortener::shorten(list, short) {
+        Ok(used) => {
+            if let Some(written) = short.get(..used) {
+                output::list(rt, name, written)?;
+            }
+            Ok(())
+        }
+        Err(refusal) => {
+            let number = refusal.number();
+            println!(rt; "{name}: refused {number}")
+        }
     }
-    if let Some(written) = short.get(..used) {
-        output::list(rt, name, written)?;
-    }
-    Ok(())
 }
 
 // The same of a list as the program prints it.

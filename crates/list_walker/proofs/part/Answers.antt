@@ -6,8 +6,8 @@ use Rattle.list_walker.proofs.part.Goals as goal
 pub returns : goal.returns
 returns c =
     let l = c.args.line in
-    let start = c.least-start.ensures in
-    let end = c.least-end.ensures in
+    let start = c.min-start.ensures in
+    let end = c.min-end.ensures in
     record {
       spells = part_is l.start l.end _ _ c.args.words.now end start;
       block = refl;

@@ -1,22 +1,29 @@
-use Rattle.std.proofs.Common.{◌≡◌, List, ℤ, FitsSigned, w32, to_z, of_z}
+use Rattle.std.proofs.Common.{ap, ◌∙◌}
 use mir.Facts.{to_z-of_z}
 use Rattle.script.specs.declared.Line.{Line}
-use Rattle.script.specs.Listing.{line_at}
 use Rattle.list_reader.proofs.Fitting.{line_at_fits}
-use Rattle.shortener.specs.Parts.{told_shorter}
+use Rattle.shortener.specs.Parts.{told_shorter, old_refused, new_refused}
 use Rattle.shortener.proofs.shorter_part.Goals as goal
 
--- an index, as a local holds it
-read_at : (ws : List ℤ) {i : ℤ} {l : Line} → FitsSigned w32 i → l ≡ line_at ws (to_z w32 (of_z w32 i)) → l ≡ line_at ws i
-read_at ws h e = rw (to_z-of_z h) at e
+pub returns-in-Err : goal.returns-in-Err
+returns-in-Err c = old_refused c.args.old.now c.args.new.now c.args.index _ (rw (to_z-of_z c.ranges.index) at c.in-Err.ensures)
 
 pub shorter_of-requires : goal.shorter_of-requires
-shorter_of-requires c = (
-  (line_at_fits c.args.old.now c.args.index (read_at c.args.old.now c.ranges.index c.line_at-a.ensures)).ordered,
-  (line_at_fits c.args.new.now c.args.index (read_at c.args.new.now c.ranges.index c.line_at-b.ensures)).ordered,
-)
+shorter_of-requires c =
+    let a = rw (to_z-of_z c.ranges.index) at c.in-Ok.ensures in
+    let b = rw (to_z-of_z c.ranges.index) at c.in-Ok-line_at.ensures in
+    record {
+      ordered = ((line_at_fits c.args.old.now c.args.index a.0).ordered, (line_at_fits c.args.new.now c.args.index b.0).ordered);
+      read = (ap (λ (l : Line). l.number) a.0 ∙ a.1, ap (λ (l : Line). l.number) b.0 ∙ b.1);
+    }
 
-pub returns : goal.returns
-returns c =
-    told_shorter c.args.old.now c.args.new.now c.args.index (read_at c.args.old.now c.ranges.index c.line_at-a.ensures)
-    (read_at c.args.new.now c.ranges.index c.line_at-b.ensures) c.shorter_of.ensures
+pub returns-in-Ok-line_at : goal.returns-in-Ok-line_at
+returns-in-Ok-line_at c =
+    let a = rw (to_z-of_z c.ranges.index) at c.in-Ok.ensures in
+    let b = rw (to_z-of_z c.ranges.index) at c.in-Ok-line_at.ensures in
+    told_shorter c.args.old.now c.args.new.now c.args.index a.0 b.0 c.shorter_of.ensures
+
+pub returns-in-Err-line_at : goal.returns-in-Err-line_at
+returns-in-Err-line_at c =
+    let a = rw (to_z-of_z c.ranges.index) at c.in-Ok.ensures in
+    new_refused c.args.old.now c.args.new.now c.args.index _ a.1 (rw (to_z-of_z c.ranges.index) at c.in-Err-line_at.ensures)

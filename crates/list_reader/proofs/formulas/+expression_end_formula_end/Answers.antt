@@ -74,7 +74,7 @@ formula_end-expression_end-at-requires t c =
     let whole = whole_is c.args.words.now in
     let inside = formula_stands c.formula_node_at-node.ensures c.in-Comparison.is refl in (
       falls (ap length whole) c.decreases c.loop-at.invariant.after (rw whole at inside)
-          (side_farther c.formula_node_at-node.ensures c.in-Comparison.is c.all_but-room.ensures c.expression_end-middle.ensures
+          (side_farther c.formula_node_at-node.ensures c.in-Comparison.is c.saturating_sub-room.ensures c.expression_end-middle.ensures
           c.end_within.ensures inside),
       tt,
     )
@@ -82,20 +82,20 @@ formula_end-expression_end-at-requires t c =
 -- the comparison ends where its second side ends
 pub formula_end-returns-then-waiting-eq0-2 : goal.formula_end-returns-then-waiting-eq0-2
 formula_end-returns-then-waiting-eq0-2 t c =
-    let ends = sides_end c.formula_node_at-node.ensures c.in-Comparison.is c.all_but-room.ensures
+    let ends = sides_end c.formula_node_at-node.ensures c.in-Comparison.is c.saturating_sub-room.ensures
     c.expression_end-middle.ensures c.end_within.ensures c.expression_end-at.ensures in
     rw (whole_is c.args.words.now) at (ended c.loop-at.invariant c.if-waiting-eq0-2.true ends)
 
 pub formula_end-loop-at-smaller-in-Comparison : goal.formula_end-loop-at-smaller-in-Comparison
 formula_end-loop-at-smaller-in-Comparison t c =
-    let ends = sides_end c.formula_node_at-node.ensures c.in-Comparison.is c.all_but-room.ensures
+    let ends = sides_end c.formula_node_at-node.ensures c.in-Comparison.is c.saturating_sub-room.ensures
     c.expression_end-middle.ensures c.end_within.ensures c.expression_end-at.ensures in
     let inside = formula_stands c.formula_node_at-node.ensures c.in-Comparison.is refl in
     omega (arith, inside, formula_farther (omega (arith, inside)) ends)
 
 pub formula_end-loop-at-preserved-in-Comparison : goal.formula_end-loop-at-preserved-in-Comparison
 formula_end-loop-at-preserved-in-Comparison t c =
-    let ends = sides_end c.formula_node_at-node.ensures c.in-Comparison.is c.all_but-room.ensures
+    let ends = sides_end c.formula_node_at-node.ensures c.in-Comparison.is c.saturating_sub-room.ensures
     c.expression_end-middle.ensures c.end_within.ensures c.expression_end-at.ensures in
     let inside = formula_stands c.formula_node_at-node.ensures c.in-Comparison.is refl in
     passed _ c.loop-at.invariant c.if-waiting-eq0-2.false ends (formula_farther (omega (arith, inside)) ends)

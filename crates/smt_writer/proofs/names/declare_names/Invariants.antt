@@ -7,6 +7,3 @@ use Rattle.smt_writer.proofs.names.declare_names.Given as goal
 abbrev pub invariant-loop-k : goal.invariant-loop-k
 invariant-loop-k l =
     (l.first ≤ l.k) × (l.k - l.first ≤ l.top - l.first) × Wrote l.initial.text l.at (declared_from l.flags l.first (l.k - l.first)) l.p l.text
-
-abbrev pub decreases-loop-k : goal.decreases-loop-k
-decreases-loop-k l = l.top - l.k

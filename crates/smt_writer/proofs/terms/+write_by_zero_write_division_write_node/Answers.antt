@@ -3,6 +3,7 @@
 use Prim.Native.Nat.{ℕ, ◌+◌, ◌*◌, ◌-◌, ◌<◌, ◌≤◌}
 use Rattle.std.proofs.Common.{◌≡◌, ◌∙◌, refl, ap, pos, get_or, eq-eqb, ne_eqb, arith, rules}
 use Rattle.script.specs.Rows.{field_number}
+use Rattle.script.specs.Kinds.{kind_of, number_read, other_read}
 use Rattle.script.specs.Laws.{back}
 use Rattle.theorems.specs.Writing.{then}
 use Rattle.theorems.specs.WordsAt.{expression}
@@ -14,29 +15,31 @@ use Rattle.smt_writer.proofs.terms.+write_by_zero_write_division_write_node.Goal
 
 -- ---- what a division is by zero: the quotient 0, the remainder the dividend
 
-pub write_by_zero-returns-then-kind-eq-DIV : goal.write_by_zero-returns-then-kind-eq-DIV
+pub write_by_zero-returns-in-Div : goal.write_by_zero-returns-in-Div
 unfolding by_zero_text
-write_by_zero-returns-then-kind-eq-DIV t c = record { wrote = λ n d s. rw (eq-eqb _ 6 c.if-kind-eq-DIV.true) c.push_text.ensures }
+write_by_zero-returns-in-Div t c k e =
+    record { wrote = λ n d s. rw (eq-eqb k 6 (number_read e c.in-Div.is refl)) c.push_text.ensures }
 
 pub write_by_zero-write_node-dividend-requires : goal.write_by_zero-write_node-dividend-requires
 write_by_zero-write_node-dividend-requires t c =
-    let inside = division_inside c.requires.stands in
+    let divides = c.requires.divides in
+    let inside = division_inside divides.stands in
     let measure = c.decreases in
-    (omega arith, λ room. division_begins c.requires.stands)
+    (omega arith, λ room. division_begins divides.stands)
 
-pub write_by_zero-returns : goal.write_by_zero-returns
-unfolding by_zero_text
-write_by_zero-returns t c = record {
+pub write_by_zero-returns-in_default : goal.write_by_zero-returns-in_default
+unfolding by_zero_text kind_of
+write_by_zero-returns-in_default t c k e = record {
   wrote = λ n d s.
-      rw (ne_eqb _ 6 c.if-kind-eq-DIV.false)
-      (then (c.write_node-dividend.ensures.reaches (expression n) (dividend_at s)).wrote c.push_text-2.ensures);
+      rw (ne_eqb k 6 (other_read e c.in_default.not-Div refl))
+      (then (c.write_node-dividend.ensures.reaches (expression n) (dividend_at s)).wrote c.push_text-in_default.ensures);
 }
 
 -- ---- a division, part by part: the divisor, what the division is by zero, the dividend
 
 pub write_division-write_node-divisor-requires : goal.write_division-write_node-divisor-requires
 write_division-write_node-divisor-requires t c =
-    let divides = c.requires in
+    let divides = c.requires.divides in
     let ends = c.expression_end-end.ensures in
     let place = divisor_place divides.stands ends in
     let inside = division_inside divides.stands in
@@ -45,19 +48,20 @@ write_division-write_node-divisor-requires t c =
 
 pub write_division-write_node-dividend-requires : goal.write_division-write_node-dividend-requires
 write_division-write_node-dividend-requires t c =
-    let inside = division_inside c.requires.stands in
+    let divides = c.requires.divides in
+    let inside = division_inside divides.stands in
     let measure = c.decreases in
-    (omega arith, λ room. division_begins c.requires.stands)
+    (omega arith, λ room. division_begins divides.stands)
 
 pub write_division-returns : goal.write_division-returns
-write_division-returns t c =
+write_division-returns t c k e =
     let ends = c.expression_end-end.ensures in
     record {
       wrote = λ n d s.
           let first = (c.write_node-divisor.ensures.reaches (expression d) (divisor_stands s ends)).wrote in
           let last = (c.write_node-dividend.ensures.reaches (expression n) (dividend_at s)).wrote in
           then
-          (then (then (then (then c.push_text-opened.ensures first) c.push_text-tested.ensures) (c.write_by_zero-by_zero.ensures.wrote n d s)) last)
+          (then (then (then (then c.push_text-opened.ensures first) c.push_text-tested.ensures) ((c.write_by_zero-by_zero.ensures k e).wrote n d s)) last)
           c.push_byte-place.ensures;
       divisor = λ n d s. divisor_place s ends;
     }
@@ -82,32 +86,32 @@ write_node-bounds-words-at t c = within c.loop-p.invariant c.loop-p-test.true
 
 pub write_node-overflow_add-at : goal.write_node-overflow_add-at
 write_node-overflow_add-at t c =
-    let read = c.field_number-kind.ensures ∙ ap field_number (back {z = get_or c.args.words.now c.loop-p.at (pos 0)} (search rules)) in
-    let number = number_inside c.loop-p.invariant c.loop-p-test.true read c.shape_of-shape.ensures c.in-Leaf.is in
+    let read = c.field_number.ensures ∙ ap field_number (back {z = get_or c.args.words.now c.loop-p.at (pos 0)} (search rules)) in
+    let number = number_inside c.loop-p.invariant c.loop-p-test.true read (c.shape_of.ensures _ c.from-kind.ensures) c.in-Leaf.is in
     omega (arith, number)
 
 pub write_node-offset_bounds-words-at-in-Leaf : goal.write_node-offset_bounds-words-at-in-Leaf
 write_node-offset_bounds-words-at-in-Leaf t c =
-    let read = c.field_number-kind.ensures ∙ ap field_number (back {z = get_or c.args.words.now c.loop-p.at (pos 0)} (search rules)) in
-    let number = number_inside c.loop-p.invariant c.loop-p-test.true read c.shape_of-shape.ensures c.in-Leaf.is in
+    let read = c.field_number.ensures ∙ ap field_number (back {z = get_or c.args.words.now c.loop-p.at (pos 0)} (search rules)) in
+    let number = number_inside c.loop-p.invariant c.loop-p-test.true read (c.shape_of.ensures _ c.from-kind.ensures) c.in-Leaf.is in
     omega (arith, number)
 
 pub write_node-overflow_add-result : goal.write_node-overflow_add-result
 write_node-overflow_add-result t c =
-    let read = c.field_number-kind.ensures ∙ ap field_number (back {z = get_or c.args.words.now c.loop-p.at (pos 0)} (search rules)) in
-    let number = number_inside c.loop-p.invariant c.loop-p-test.true read c.shape_of-shape.ensures c.in-Leaf.is in
+    let read = c.field_number.ensures ∙ ap field_number (back {z = get_or c.args.words.now c.loop-p.at (pos 0)} (search rules)) in
+    let number = number_inside c.loop-p.invariant c.loop-p-test.true read (c.shape_of.ensures _ c.from-kind.ensures) c.in-Leaf.is in
     omega (arith, number)
 
 pub write_node-bounds-words-at-in-Leaf : goal.write_node-bounds-words-at-in-Leaf
 write_node-bounds-words-at-in-Leaf t c =
-    let read = c.field_number-kind.ensures ∙ ap field_number (back {z = get_or c.args.words.now c.loop-p.at (pos 0)} (search rules)) in
-    number_inside c.loop-p.invariant c.loop-p-test.true read c.shape_of-shape.ensures c.in-Leaf.is
+    let read = c.field_number.ensures ∙ ap field_number (back {z = get_or c.args.words.now c.loop-p.at (pos 0)} (search rules)) in
+    number_inside c.loop-p.invariant c.loop-p-test.true read (c.shape_of.ensures _ c.from-kind.ensures) c.in-Leaf.is
 
 pub write_node-returns-in-Leaf : goal.write_node-returns-in-Leaf
 write_node-returns-in-Leaf t c =
-    let read = c.field_number-kind.ensures ∙ ap field_number (back {z = get_or c.args.words.now c.loop-p.at (pos 0)} (search rules)) in
-    leaf_left c.loop-p.invariant c.loop-p-test.true read c.shape_of-shape.ensures c.in-Leaf.is
-    (back {z = get_or c.args.words.now (c.loop-p.at + 1) (pos 0)} (search rules)) refl c.write_leaf-q.ensures c.push_repeated-place.ensures
+    let read = c.field_number.ensures ∙ ap field_number (back {z = get_or c.args.words.now c.loop-p.at (pos 0)} (search rules)) in
+    leaf_left c.loop-p.invariant c.loop-p-test.true read (c.shape_of.ensures _ c.from-kind.ensures) c.in-Leaf.is
+    (back {z = get_or c.args.words.now (c.loop-p.at + 1) (pos 0)} (search rules)) refl (c.write_leaf-q.ensures _ c.from-kind.ensures) c.push_repeated-place.ensures
 
 -- ---- true or false
 
@@ -116,9 +120,9 @@ write_node-overflow_add-result-in-Truth t c = omega (arith, within c.loop-p.inva
 
 pub write_node-returns-in-Truth : goal.write_node-returns-in-Truth
 write_node-returns-in-Truth t c =
-    let read = c.field_number-kind.ensures ∙ ap field_number (back {z = get_or c.args.words.now c.loop-p.at (pos 0)} (search rules)) in
-    truth_left c.loop-p.invariant c.loop-p-test.true read c.shape_of-shape.ensures c.in-Truth.is refl
-    c.write_truth-q.ensures c.push_repeated-place-in-Truth.ensures
+    let read = c.field_number.ensures ∙ ap field_number (back {z = get_or c.args.words.now c.loop-p.at (pos 0)} (search rules)) in
+    truth_left c.loop-p.invariant c.loop-p-test.true read (c.shape_of.ensures _ c.from-kind.ensures) c.in-Truth.is refl
+    (c.write_truth-q.ensures _ c.from-kind.ensures) c.push_repeated-place-in-Truth.ensures
 
 -- ---- one part
 
@@ -136,16 +140,20 @@ write_node-loop-p-smaller-in-Single t c = omega (arith, within c.loop-p.invarian
 
 pub write_node-loop-p-preserved-in-Single : goal.write_node-loop-p-preserved-in-Single
 write_node-loop-p-preserved-in-Single t c =
-    let read = c.field_number-kind.ensures ∙ ap field_number (back {z = get_or c.args.words.now c.loop-p.at (pos 0)} (search rules)) in
-    single_turn c.loop-p.invariant c.loop-p-test.true read c.shape_of-shape.ensures c.in-Single.is c.write_opening-p.ensures
+    let read = c.field_number.ensures ∙ ap field_number (back {z = get_or c.args.words.now c.loop-p.at (pos 0)} (search rules)) in
+    single_turn c.loop-p.invariant c.loop-p-test.true read (c.shape_of.ensures _ c.from-kind.ensures) c.in-Single.is (c.write_opening-p.ensures _ c.from-kind.ensures)
 
 -- ---- a division
 
 pub write_node-write_division-before-requires : goal.write_node-write_division-before-requires
 write_node-write_division-before-requires t c =
-    let read = c.field_number-kind.ensures ∙ ap field_number (back {z = get_or c.args.words.now c.loop-p.at (pos 0)} (search rules)) in (
+    let read = c.field_number.ensures ∙ ap field_number (back {z = get_or c.args.words.now c.loop-p.at (pos 0)} (search rules)) in (
       division_falls c.decreases c.loop-p.invariant.forward (within c.loop-p.invariant c.loop-p-test.true),
-      divides c.loop-p.invariant c.loop-p-test.true read c.shape_of-shape.ensures c.in-Division.is,
+      record {
+        number = c.field_number.result;
+        is = c.from-kind.ensures;
+        divides = divides c.loop-p.invariant c.loop-p-test.true read (c.shape_of.ensures _ c.from-kind.ensures) c.in-Division.is;
+      },
     )
 
 pub write_node-overflow_add-closing-in-Division : goal.write_node-overflow_add-closing-in-Division
@@ -156,15 +164,15 @@ write_node-overflow_add-closing-in-Division t c =
 
 pub write_node-loop-p-smaller-in-Division : goal.write_node-loop-p-smaller-in-Division
 write_node-loop-p-smaller-in-Division t c =
-    let read = c.field_number-kind.ensures ∙ ap field_number (back {z = get_or c.args.words.now c.loop-p.at (pos 0)} (search rules)) in
+    let read = c.field_number.ensures ∙ ap field_number (back {z = get_or c.args.words.now c.loop-p.at (pos 0)} (search rules)) in
     let here = within c.loop-p.invariant c.loop-p-test.true in
-    let d = divides c.loop-p.invariant c.loop-p-test.true read c.shape_of-shape.ensures c.in-Division.is in
-    omega (arith, here, c.write_division-before.ensures.divisor d.dividend d.divisor d.stands)
+    let d = divides c.loop-p.invariant c.loop-p-test.true read (c.shape_of.ensures _ c.from-kind.ensures) c.in-Division.is in
+    omega (arith, here, (c.write_division-before.ensures _ c.from-kind.ensures).divisor d.dividend d.divisor d.stands)
 
 pub write_node-loop-p-preserved-in-Division : goal.write_node-loop-p-preserved-in-Division
 write_node-loop-p-preserved-in-Division t c =
-    let read = c.field_number-kind.ensures ∙ ap field_number (back {z = get_or c.args.words.now c.loop-p.at (pos 0)} (search rules)) in
-    division_turn c.loop-p.invariant c.loop-p-test.true read c.shape_of-shape.ensures c.in-Division.is c.write_division-before.ensures
+    let read = c.field_number.ensures ∙ ap field_number (back {z = get_or c.args.words.now c.loop-p.at (pos 0)} (search rules)) in
+    division_turn c.loop-p.invariant c.loop-p-test.true read (c.shape_of.ensures _ c.from-kind.ensures) c.in-Division.is (c.write_division-before.ensures _ c.from-kind.ensures)
 
 -- ---- three parts
 
@@ -173,18 +181,18 @@ write_node-overflow_add-at-in-Choice t c = omega (arith, within c.loop-p.invaria
 
 pub write_node-write_node-formula-requires : goal.write_node-write_node-formula-requires
 write_node-write_node-formula-requires t c =
-    let read = c.field_number-kind.ensures ∙ ap field_number (back {z = get_or c.args.words.now c.loop-p.at (pos 0)} (search rules)) in (
+    let read = c.field_number.ensures ∙ ap field_number (back {z = get_or c.args.words.now c.loop-p.at (pos 0)} (search rules)) in (
       part_falls c.decreases c.loop-p.invariant.forward (within c.loop-p.invariant c.loop-p-test.true) (omega arith),
-      λ r. test_begins c.loop-p.invariant c.loop-p-test.true read c.shape_of-shape.ensures c.in-Choice.is,
+      λ r. test_begins c.loop-p.invariant c.loop-p-test.true read (c.shape_of.ensures _ c.from-kind.ensures) c.in-Choice.is,
     )
 
 pub write_node-write_node-chosen-requires : goal.write_node-write_node-chosen-requires
 write_node-write_node-chosen-requires t c =
-    let read = c.field_number-kind.ensures ∙ ap field_number (back {z = get_or c.args.words.now c.loop-p.at (pos 0)} (search rules)) in
+    let read = c.field_number.ensures ∙ ap field_number (back {z = get_or c.args.words.now c.loop-p.at (pos 0)} (search rules)) in
     let forward = c.write_node-formula.ensures.forward in (
       part_falls c.decreases c.loop-p.invariant.forward (within c.loop-p.invariant c.loop-p-test.true) (omega arith),
-      chosen_begins c.loop-p.invariant c.loop-p-test.true read c.shape_of-shape.ensures c.in-Choice.is
-          c.write_opening-p-in-Choice.ensures c.write_node-formula.ensures c.push_byte-p.ensures,
+      chosen_begins c.loop-p.invariant c.loop-p-test.true read (c.shape_of.ensures _ c.from-kind.ensures) c.in-Choice.is
+          (c.write_opening-p-in-Choice.ensures _ c.from-kind.ensures) c.write_node-formula.ensures c.push_byte-p.ensures,
     )
 
 pub write_node-overflow_add-closing-in-Choice : goal.write_node-overflow_add-closing-in-Choice
@@ -200,9 +208,9 @@ write_node-loop-p-smaller-in-Choice t c =
 
 pub write_node-loop-p-preserved-in-Choice : goal.write_node-loop-p-preserved-in-Choice
 write_node-loop-p-preserved-in-Choice t c =
-    let read = c.field_number-kind.ensures ∙ ap field_number (back {z = get_or c.args.words.now c.loop-p.at (pos 0)} (search rules)) in
-    choice_turn c.loop-p.invariant c.loop-p-test.true read c.shape_of-shape.ensures c.in-Choice.is
-    c.write_opening-p-in-Choice.ensures c.write_node-formula.ensures c.push_byte-p.ensures c.write_node-chosen.ensures
+    let read = c.field_number.ensures ∙ ap field_number (back {z = get_or c.args.words.now c.loop-p.at (pos 0)} (search rules)) in
+    choice_turn c.loop-p.invariant c.loop-p-test.true read (c.shape_of.ensures _ c.from-kind.ensures) c.in-Choice.is
+    (c.write_opening-p-in-Choice.ensures _ c.from-kind.ensures) c.write_node-formula.ensures c.push_byte-p.ensures c.write_node-chosen.ensures
     c.push_byte-p-in-Choice.ensures
 
 -- ---- two parts
@@ -212,9 +220,9 @@ write_node-overflow_add-at-in-Pair t c = omega (arith, within c.loop-p.invariant
 
 pub write_node-write_node-side-requires : goal.write_node-write_node-side-requires
 write_node-write_node-side-requires t c =
-    let read = c.field_number-kind.ensures ∙ ap field_number (back {z = get_or c.args.words.now c.loop-p.at (pos 0)} (search rules)) in (
+    let read = c.field_number.ensures ∙ ap field_number (back {z = get_or c.args.words.now c.loop-p.at (pos 0)} (search rules)) in (
       part_falls c.decreases c.loop-p.invariant.forward (within c.loop-p.invariant c.loop-p-test.true) (omega arith),
-      λ r. first_begins c.loop-p.invariant c.loop-p-test.true read c.shape_of-shape.ensures c.in-Pair.is,
+      λ r. first_begins c.loop-p.invariant c.loop-p-test.true read (c.shape_of.ensures _ c.from-kind.ensures) c.in-Pair.is,
     )
 
 pub write_node-overflow_add-closing-in-Pair : goal.write_node-overflow_add-closing-in-Pair
@@ -230,9 +238,9 @@ write_node-loop-p-smaller t c =
 
 pub write_node-loop-p-preserved : goal.write_node-loop-p-preserved
 write_node-loop-p-preserved t c =
-    let read = c.field_number-kind.ensures ∙ ap field_number (back {z = get_or c.args.words.now c.loop-p.at (pos 0)} (search rules)) in
-    pair_turn c.loop-p.invariant c.loop-p-test.true read c.shape_of-shape.ensures c.in-Pair.is
-    c.write_opening-p-in-Pair.ensures c.write_node-side.ensures c.push_byte-p-in-Pair.ensures
+    let read = c.field_number.ensures ∙ ap field_number (back {z = get_or c.args.words.now c.loop-p.at (pos 0)} (search rules)) in
+    pair_turn c.loop-p.invariant c.loop-p-test.true read (c.shape_of.ensures _ c.from-kind.ensures) c.in-Pair.is
+    (c.write_opening-p-in-Pair.ensures _ c.from-kind.ensures) c.write_node-side.ensures c.push_byte-p-in-Pair.ensures
 
 -- ---- no room is left
 
