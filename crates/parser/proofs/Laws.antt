@@ -1,5 +1,5 @@
 -- What a test in the code tells of the machine's definitions: a numeral's stack, operators that take a part, a table's default. Assumes nothing.
-use Prim.Native.Nat.{ℕ, zero, suc, ◌+◌, ◌-◌, ◌%◌, ◌≤◌, ◌<◌}
+use Prim.Native.Nat.{ℕ, zero, suc, ◌+◌, ◌*◌, ◌-◌, ◌%◌, ◌≤◌, ◌<◌}
 use mathlib.Core.Path.{◌≡◌, refl, sym, ap, ◌∙◌}
 use mathlib.Core.Bool.{Bool, true, false, cond, ◌&&◌, ◌||◌}
 use mathlib.Core.List.{List, [], ◌∷◌}
@@ -9,7 +9,12 @@ use Rattle.grammar.specs.Tests.{both, false_is_not}
 use lib.Dec.{eqb}
 use lib.IntN.{ℤ}
 use lib.ListN.{length, get_or}
-use Rattle.parser.specs.Machine.{Config, config, refused, reduce, reduced_to, hold, maker, operator_row, begin_numeral, begin_count, begin_constant, hole, begins, top_frame, rows_after}
+use borrow.Rule.Slice.PartMut.{put_mid}
+use Rattle.std.proofs.Common.{inl, inr, le-leb}
+use Rattle.std.proofs.lemmas.Bool.Decides.{eqb_tells}
+use Rattle.std.proofs.lemmas.List.Edits.{sets-eq}
+use Rattle.std.proofs.lemmas.Slice.{put_mid-paste}
+use Rattle.parser.specs.Machine.{with_words, Config, config, refused, reduce, reduced_to, hold, maker, operator_row, begin_numeral, begin_count, begin_constant, hole, begins, top_frame, rows_after}
 
 -- ---- a numeral pushes no frame
 
@@ -91,3 +96,27 @@ pub elsewhere : (ls : List ℕ) (d n : ℕ) (ks : List ℕ) → n < length ls �
 elsewhere ls d n ks h e m =
     let z : 0 + n ≡ n = omega linear in
     from ls d 0 n ks h e (ap (λ (x : ℕ). member x ks) z ∙ not_member n ks m)
+
+-- the letters from a to b, which is left out, are d
+abbrev alike : List ℕ → ℕ → ℕ → ℕ → Bool
+alike ls d a zero = true
+alike ls d a (suc m) = eqb (get_or ls (a + m) 0) d && alike ls d a m
+
+pub between : (ls : List ℕ) (d a m n : ℕ) → alike ls d a m ≡ true → a ≤ n → n < a + m → get_or ls n 0 ≡ d
+between ls d a zero n e h l = absurd (omega linear)
+between ls d a (suc m) n e h l =
+    let t = both (eqb (get_or ls (a + m) 0) d) (alike ls d a m) e in
+    elim (eqb_tells n (a + m)) [
+      | inl (_, q) ↦ rw q (eqb-true (get_or ls (a + m) 0) d t.0)
+      | inr (_, q) ↦ between ls d a m n t.1 h (omega (linear, q))
+    ]
+
+-- ---- a row is written at once
+
+pub row_written : (ws ys : List ℤ) (rows : ℕ) {k a b c : ℤ} → rows < 2048 → 4 * rows + 4 ≤ length ws → ys ≡ k ∷ a ∷ b ∷ c ∷ []
+    → put_mid (4 * rows) (4 * rows + 4 - 4 * rows) ws ys ≡ with_words ws rows (k ∷ a ∷ b ∷ c ∷ [])
+row_written ws ys rows {k} {a} {b} {c} h l e =
+    let vs = k ∷ a ∷ b ∷ c ∷ [] in
+    rw (lt-ltb rows 2048 h, le-leb (4 * rows + 4) (length ws) l)
+    (put_mid-paste (4 * rows) (4 * rows + 4 - 4 * rows) ws ys vs 4 e (omega linear) (omega linear)
+    ∙ sym (sets-eq vs ws (4 * rows) (omega linear)))

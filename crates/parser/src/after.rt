@@ -4,13 +4,13 @@ ghost use Rattle.std.specs.Prelude.{◌≡◌, []};
 ghost use Rattle.parser.specs.Machine.{config, form_kind, is_last, is_group, bodies_after, close_form, close_mark, open_body, next_place, push_infix, go_on};
 ghost use Rattle.parser.specs.Machine.{reduce as Machine·reduce, close as Machine·close, after as Machine·after};
 
-use crate::frames::{below, first_part, frame, put, second_part, top_frame};
+use crate::frames::{first_part, frame, put, second_part, top_frame};
 use crate::rows::{write_operator, write_row};
 use crate::sorts::{begins, fits};
 use crate::states::{complete, due, refused, with_bodies, with_rows};
 use crate::symbols::{binding, closing, end_of, hold, hole, maker, operand_sort};
 use crate::{PART, State, symbols};
-use kind_numbers as kinds;
+use script::Kind;
 
 // What is left when operators have taken a part: its sort, rows written, frames.
 #[derive(Clone, Copy)]
@@ -22,7 +22,7 @@ pub struct Reduction {
 
 // Operators that hold the part at least so tight take it, and their rows are written. The sort 0 says that one did not fit.
 #[tactic(auto, using(crate::proofs::Laws::reducing), unfolding(crate::specs::Machine::reduce))]
-fn reduce(stack: &[u32], words: &mut [i32], tight: usize, start: Reduction) -> Reduction
+fn reduce(stack: &[u32], words: &mut [i32], tight: u8, start: Reduction) -> Reduction
     ensures sort { result.sort ≡ (Machine·reduce stack.now tight start.top start.sort start.rows words.old).sort }
     ensures rows { result.rows ≡ (Machine·reduce stack.now tight start.top start.sort start.rows words.old).rows }
     ensures top { result.top ≡ (Machine·reduce stack.now tight start.top start.sort start.rows words.old).top }
@@ -51,33 +51,26 @@ fn form_kind(place: usize) -> usize
     ensures { result ≡ form_kind place }
 {
     match place {
-        symbols::WHEN_THIRD => kinds::CHOOSE,
-        symbols::IF_ELSE => kinds::IF,
-        symbols::WHILE_BODY => kinds::WHILE,
-        _ => kinds::SCRIPT,
+        symbols::WHEN_THIRD => Kind::Choose as usize,
+        symbols::IF_ELSE => Kind::If as usize,
+        symbols::WHILE_BODY => Kind::While as usize,
+        _ => Kind::Script as usize,
     }
 }
 
 fn is_last(place: usize) -> bool
     ensures { result ≡ is_last place }
 {
-    match place {
-        symbols::WHEN_THIRD => true,
-        symbols::IF_ELSE => true,
-        symbols::WHILE_BODY => true,
-        symbols::POSTCONDITION => true,
-        _ => false,
-    }
+    matches!(
+        place,
+        symbols::WHEN_THIRD | symbols::IF_ELSE | symbols::WHILE_BODY | symbols::POSTCONDITION
+    )
 }
 
 fn is_group(place: usize) -> bool
     ensures { result ≡ is_group place }
 {
-    match place {
-        symbols::GROUP => true,
-        symbols::EXPRESSION_GROUP => true,
-        _ => false,
-    }
+    matches!(place, symbols::GROUP | symbols::EXPRESSION_GROUP)
 }
 
 // A body is closed with its loop.
@@ -85,7 +78,7 @@ fn bodies_after(place: usize, bodies: usize) -> usize
     ensures { result ≡ bodies_after place bodies }
 {
     if place == symbols::WHILE_BODY {
-        below(bodies)
+        bodies.saturating_sub(1)
     } else {
         bodies
     }
@@ -104,10 +97,10 @@ fn close_form(words: &mut [i32], s: State, f: usize) -> State
         form_kind(place),
         first_part(f),
         second_part(f),
-        below(rows),
+        rows.saturating_sub(1),
     );
     let next = with_bodies(s, bodies_after(place, s.bodies));
-    complete(next, maker(f), written, below(s.top))
+    complete(next, maker(f), written, s.top.saturating_sub(1))
 }
 
 #[tactic(auto, unfolding(crate::specs::Machine::close_mark))]
@@ -115,8 +108,8 @@ fn close_mark(words: &mut [i32], s: State) -> State
     ensures state { result ≡ (close_mark (config s [] words.old)).state }
     ensures words { words.new ≡ (close_mark (config s [] words.old)).words }
 {
-    let rows = write_row(words, s.rows, kinds::MARK, s.number, 0, 0);
-    complete(s, symbols::EXPRESSION, rows, below(s.top))
+    let rows = write_row(words, s.rows, Kind::Mark as usize, s.number, 0, 0);
+    complete(s, symbols::EXPRESSION, rows, s.top.saturating_sub(1))
 }
 
 // The note is written, and the body begins.
@@ -126,11 +119,18 @@ fn open_body(stack: &mut [u32], words: &mut [i32], s: State, f: usize) -> State
     ensures stack { stack.new ≡ (open_body (config s stack.old words.old) f).stack }
     ensures words { words.new ≡ (open_body (config s stack.old words.old) f).words }
 {
-    let rows = write_row(words, s.rows, kinds::NOTE, second_part(f), below(s.rows), 0);
+    let rows = write_row(
+        words,
+        s.rows,
+        Kind::Note as usize,
+        second_part(f),
+        s.rows.saturating_sub(1),
+        0,
+    );
     let top = put(
         stack,
-        below(s.top),
-        frame(symbols::WHILE_BODY, first_part(f), below(rows)),
+        s.top.saturating_sub(1),
+        frame(symbols::WHILE_BODY, first_part(f), rows.saturating_sub(1)),
     );
     let next = with_bodies(s, s.bodies % 65536 + 1);
     due(with_rows(next, rows), PART, top)
@@ -143,8 +143,8 @@ fn next_place(stack: &mut [u32], s: State, f: usize) -> State
 {
     let top = put(
         stack,
-        below(s.top),
-        frame(f % 64 + 1, second_part(f), below(s.rows)),
+        s.top.saturating_sub(1),
+        frame(f % 64 + 1, second_part(f), s.rows.saturating_sub(1)),
     );
     due(s, PART, top)
 }
@@ -158,7 +158,7 @@ fn close(stack: &mut [u32], words: &mut [i32], s: State, f: usize) -> State
 {
     let place = f % 64;
     if is_group(place) {
-        return complete(s, s.sort, s.rows, below(s.top));
+        return complete(s, s.sort, s.rows, s.top.saturating_sub(1));
     }
     if place == symbols::IN_MARK {
         return close_mark(words, s);
@@ -178,7 +178,7 @@ fn push_infix(stack: &mut [u32], s: State, token: usize) -> State
     ensures state { result ≡ (push_infix (config s stack.old []) token).state }
     ensures stack { stack.new ≡ (push_infix (config s stack.old []) token).stack }
 {
-    let top = put(stack, s.top, frame(token, below(s.rows), 0));
+    let top = put(stack, s.top, frame(token, s.rows.saturating_sub(1), 0));
     due(s, PART, top)
 }
 
@@ -196,10 +196,7 @@ fn go_on(stack: &mut [u32], words: &mut [i32], s: State, token: usize, place: us
         }
         return refused(s, place);
     }
-    if end_of(f) != closing(token) {
-        return refused(s, place);
-    }
-    if fits(hole(f), s.sort) {
+    if end_of(f) == closing(token) && fits(hole(f), s.sort) {
         close(stack, words, s, f)
     } else {
         refused(s, place)

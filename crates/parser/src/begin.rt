@@ -5,21 +5,20 @@ ghost use Rattle.grammar.specs.Ranges.{limit, mark_fits};
 ghost use Rattle.parser.specs.Machine.{config, begin_count, constant_word, begin_constant, begin_numeral, begin_variable, begin_assignment, begin_name, is_leaf, due_after, begin_leaf, begin_form, begin_word};
 ghost use Rattle.parser.specs.Machine.{opened as Machine·opened, begin as Machine·begin};
 
-use crate::frames::{below, frame, put, top_frame};
+use crate::frames::{frame, put, top_frame};
 use crate::rows::{write_constant, write_row};
 use crate::sorts::begins;
 use crate::states::{complete, counted, due, kept, noted, refused};
 use crate::symbols::{beginning, hole};
 use crate::{BECOMES, BRACKET, PART, State, symbols};
-use kind_numbers as kinds;
 use scanner::tokens;
-use script::VARIABLES;
+use script::{Kind, VARIABLES};
 
 // Whether a mark may say k, with so many bodies around.
 fn mark_fits(bodies: usize, k: usize) -> bool
     ensures { result ≡ mark_fits bodies k }
 {
-    if 1 <= k { k <= bodies } else { false }
+    1 <= k && k <= bodies
 }
 
 // The k of a mark.
@@ -27,8 +26,7 @@ fn mark_fits(bodies: usize, k: usize) -> bool
 fn begin_count(s: State, k: usize, place: usize) -> State
     ensures { result ≡ begin_count s k place }
 {
-    let bodies = s.bodies;
-    let in_range = mark_fits(bodies, k);
+    let in_range = mark_fits(s.bodies, k);
     counted(noted(s, in_range, place), kept(in_range, k))
 }
 
@@ -42,13 +40,11 @@ fn largest(minus: bool) -> usize
 fn constant_word(minus: bool, n: usize) -> i32
     ensures { result ≡ constant_word minus n }
 {
-    if n == 0 {
-        return 0;
-    }
     if largest(minus) < n {
         return 0;
     }
-    if minus { -1 - (n - 1) as i32 } else { n as i32 }
+    let value = n as i64;
+    (if minus { -value } else { value }) as i32
 }
 
 // A constant; right after a unary minus, whose frame goes.
@@ -59,12 +55,12 @@ fn begin_constant(words: &mut [i32], s: State, minus: bool, n: usize, place: usi
 {
     let rows = write_constant(words, s.rows, constant_word(minus, n));
     let next = noted(s, n <= largest(minus), place);
-    let top = s.top;
-    if minus {
-        complete(next, symbols::EXPRESSION, rows, below(top))
+    let top = if minus {
+        s.top.saturating_sub(1)
     } else {
-        complete(next, symbols::EXPRESSION, rows, top)
-    }
+        s.top
+    };
+    complete(next, symbols::EXPRESSION, rows, top)
 }
 
 #[tactic(auto, unfolding(crate::specs::Machine::begin_numeral, crate::specs::Machine::begin_constant))]
@@ -90,9 +86,15 @@ fn begin_variable(words: &mut [i32], s: State, v: usize, place: usize) -> State
     ensures words { words.new ≡ (begin_variable (config s [] words.old) v place).words }
 {
     let in_range = v < VARIABLES;
-    let rows = write_row(words, s.rows, kinds::VARIABLE, kept(in_range, v), 0, 0);
-    let top = s.top;
-    complete(noted(s, in_range, place), symbols::EXPRESSION, rows, top)
+    let rows = write_row(
+        words,
+        s.rows,
+        Kind::Variable as usize,
+        kept(in_range, v),
+        0,
+        0,
+    );
+    complete(noted(s, in_range, place), symbols::EXPRESSION, rows, s.top)
 }
 
 #[tactic(auto, unfolding(crate::specs::Machine::begin_assignment))]
@@ -126,12 +128,7 @@ fn begin_name(stack: &mut [u32], words: &mut [i32], s: State, v: usize, place: u
 fn is_leaf(token: usize) -> bool
     ensures { result ≡ is_leaf token }
 {
-    match token {
-        kinds::TRUE => true,
-        kinds::FALSE => true,
-        kinds::SKIP => true,
-        _ => false,
-    }
+    matches!(token, tokens::TRUE | tokens::FALSE | tokens::SKIP)
 }
 
 // The frame that a token opens where a part with this letter is due.
@@ -139,11 +136,11 @@ fn opened(token: usize, h: usize) -> usize
     ensures { result ≡ Machine·opened token h }
 {
     match token {
-        kinds::MINUS => symbols::NEGATE,
-        kinds::CHOOSE => symbols::WHEN_FIRST,
-        kinds::IF => symbols::IF_GUARD,
-        kinds::WHILE => symbols::WHILE_GUARD,
-        kinds::SCRIPT => symbols::PRECONDITION,
+        tokens::MINUS => symbols::NEGATE,
+        tokens::WHEN => symbols::WHEN_FIRST,
+        tokens::IF => symbols::IF_GUARD,
+        tokens::WHILE => symbols::WHILE_GUARD,
+        tokens::PRE => symbols::PRECONDITION,
         tokens::OPEN => {
             if h == symbols::EXPRESSION {
                 symbols::EXPRESSION_GROUP
@@ -160,8 +157,7 @@ fn due_after(token: usize) -> usize
     ensures { result ≡ due_after token }
 {
     match token {
-        kinds::MARK => BRACKET,
-        kinds::CHOOSE => BRACKET,
+        tokens::MARK | tokens::WHEN => BRACKET,
         _ => PART,
     }
 }
@@ -172,8 +168,7 @@ fn begin_leaf(words: &mut [i32], s: State, token: usize) -> State
     ensures words { words.new ≡ (begin_leaf (config s [] words.old) token).words }
 {
     let rows = write_row(words, s.rows, token, 0, 0, 0);
-    let top = s.top;
-    complete(s, beginning(token), rows, top)
+    complete(s, beginning(token), rows, s.top)
 }
 
 #[tactic(auto, unfolding(crate::specs::Machine::begin_form))]

@@ -2,7 +2,7 @@
 // Places past the end are not written, and read as the bottom of the stack, which waits for a script. Numbers of frames are below
 // 64 and rows below 4,096, so that no remainder taken here changes one: it stands in for a bound that callers would have to show.
 
-ghost use Rattle.std.specs.Prelude.{◌≡◌, ◌-◌, length};
+ghost use Rattle.std.specs.Prelude.{◌≡◌};
 ghost use Rattle.parser.specs.Machine.{frame as Machine·frame, first_part, second_part, top_frame, put, top_after};
 
 pub fn frame(number: usize, first: usize, second: usize) -> u32
@@ -23,13 +23,6 @@ pub fn second_part(frame: usize) -> usize
     frame / 262144 % 4096
 }
 
-// One less, where there is one.
-pub fn below(n: usize) -> usize
-    ensures { result ≡ n - 1 }
-{
-    if n == 0 { 0 } else { n - 1 }
-}
-
 // The frame on top.
 pub fn top_frame(stack: &[u32], top: usize) -> usize
     ensures { result ≡ top_frame stack.now top }
@@ -37,10 +30,7 @@ pub fn top_frame(stack: &[u32], top: usize) -> usize
     if top == 0 {
         return 0;
     }
-    if stack.len() < top {
-        return 0;
-    }
-    stack[top - 1] as usize
+    stack.get(top - 1).copied().unwrap_or(0) as usize
 }
 
 // Puts a frame at a place; gives the place past it.

@@ -60,7 +60,7 @@ fn at_post(stack: &mut [u32], words: &mut [i32], s: State, place: usize) -> Stat
     ensures words { words.new ≡ (at_post (config s stack.old words.old) place).words }
 {
     if frames::top_frame(stack, s.top) % 64 == symbols::SEMICOLON {
-        let before = states::complete(s, symbols::STATEMENT, s.rows, frames::below(s.top));
+        let before = states::complete(s, symbols::STATEMENT, s.rows, s.top.saturating_sub(1));
         after::after(stack, words, before, tokens::POST, place)
     } else {
         states::refused(s, place)

@@ -3,9 +3,10 @@
 ghost use Rattle.std.specs.Prelude.{◌≡◌, [], ◌∷◌};
 ghost use Rattle.parser.specs.Machine.{rows_after, with_words, with_row, with_constant, is_single, operator_row};
 
-use crate::FULL;
-use crate::frames::{below, first_part};
-use kind_numbers as kinds;
+use crate::frames::first_part;
+use crate::{FULL, symbols};
+use scanner::tokens;
+use script::Kind;
 
 // Writes the four words of a row.
 fn write_words(words: &mut [i32], rows: usize, kind: i32, a: i32, b: i32, c: i32) -> usize
@@ -19,10 +20,7 @@ fn write_words(words: &mut [i32], rows: usize, kind: i32, a: i32, b: i32, c: i32
     if words.len() < at + 4 {
         return FULL;
     }
-    words[at] = kind;
-    words[at + 1] = a;
-    words[at + 2] = b;
-    words[at + 3] = c;
+    words[at..at + 4].copy_from_slice(&[kind, a, b, c]);
     rows + 1
 }
 
@@ -46,19 +44,14 @@ pub fn write_constant(words: &mut [i32], rows: usize, value: i32) -> usize
     ensures rows { result ≡ rows_after words.old rows }
     ensures words { words.new ≡ with_constant words.old rows value }
 {
-    write_words(words, rows, 1, value, 0, 0)
+    write_words(words, rows, Kind::Constant as i32, value, 0, 0)
 }
 
 // Whether an operator has one part.
 fn is_single(kind: usize) -> bool
     ensures { result ≡ is_single kind }
 {
-    match kind {
-        kinds::NEGATE => true,
-        kinds::NOT => true,
-        kinds::ASSERT => true,
-        _ => false,
-    }
+    matches!(kind, symbols::NEGATE | tokens::NOT | tokens::ASSERT)
 }
 
 // Writes the row of an operator, whose last part ends at the last row.
@@ -68,8 +61,15 @@ pub fn write_operator(words: &mut [i32], rows: usize, frame: usize) -> usize
 {
     let kind = frame % 64;
     if is_single(kind) {
-        write_row(words, rows, kind, below(rows), 0, 0)
+        write_row(words, rows, kind, rows.saturating_sub(1), 0, 0)
     } else {
-        write_row(words, rows, kind, first_part(frame), below(rows), 0)
+        write_row(
+            words,
+            rows,
+            kind,
+            first_part(frame),
+            rows.saturating_sub(1),
+            0,
+        )
     }
 }

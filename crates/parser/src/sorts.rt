@@ -8,37 +8,19 @@ use crate::symbols;
 fn is_value(sort: usize) -> bool
     ensures { result ≡ is_value sort }
 {
-    if sort == symbols::EXPRESSION {
-        true
-    } else {
-        sort == symbols::FORMULA
-    }
+    sort == symbols::EXPRESSION || sort == symbols::FORMULA
 }
 
 // Whether a hole takes a sort.
 pub fn fits(hole: usize, sort: usize) -> bool
     ensures { result ≡ Machine·fits hole sort }
 {
-    if hole == sort {
-        return true;
-    }
-    if hole == symbols::EITHER {
-        is_value(sort)
-    } else {
-        false
-    }
+    hole == sort || hole == symbols::EITHER && is_value(sort)
 }
 
 // Whether a sort may begin what a hole takes.
 pub fn begins(hole: usize, sort: usize) -> bool
     ensures { result ≡ Machine·begins hole sort }
 {
-    if fits(hole, sort) {
-        return true;
-    }
-    if hole == symbols::FORMULA {
-        is_value(sort)
-    } else {
-        false
-    }
+    fits(hole, sort) || hole == symbols::FORMULA && is_value(sort)
 }

@@ -8,46 +8,41 @@ use crate::{AFTER, NOWHERE, REFUSED, State, symbols};
 pub fn refused(s: State, place: usize) -> State
     ensures { result ≡ Machine·refused s place }
 {
-    let mut next = s;
-    next.mode = REFUSED;
-    next.place = place;
-    next
+    State {
+        mode: REFUSED,
+        place,
+        ..s
+    }
 }
 
 // A part is complete.
 pub fn complete(s: State, sort: usize, rows: usize, top: usize) -> State
     ensures { result ≡ Machine·complete s sort rows top }
 {
-    let mut next = s;
-    next.mode = AFTER;
-    next.sort = sort;
-    next.rows = rows;
-    next.top = top;
-    next
+    State {
+        mode: AFTER,
+        sort,
+        rows,
+        top,
+        ..s
+    }
 }
 
 pub fn due(s: State, mode: usize, top: usize) -> State
     ensures { result ≡ Machine·due s mode top }
 {
-    let mut next = s;
-    next.mode = mode;
-    next.top = top;
-    next
+    State { mode, top, ..s }
 }
 
 // The place of the first number that is out of range is kept.
 pub fn noted(s: State, in_range: bool, place: usize) -> State
     ensures { result ≡ Machine·noted s in_range place }
 {
-    if in_range {
-        return s;
+    if in_range || s.out != NOWHERE {
+        s
+    } else {
+        State { out: place, ..s }
     }
-    if s.out != NOWHERE {
-        return s;
-    }
-    let mut next = s;
-    next.out = place;
-    next
 }
 
 // A number that is out of range is read as 0: its text has no rows.
@@ -61,25 +56,22 @@ pub fn kept(in_range: bool, n: usize) -> usize
 pub fn counted(s: State, k: usize) -> State
     ensures { result ≡ Machine·counted s k }
 {
-    let mut next = s;
-    next.mode = AFTER;
-    next.sort = symbols::NUMBER;
-    next.number = k;
-    next
+    State {
+        mode: AFTER,
+        sort: symbols::NUMBER,
+        number: k,
+        ..s
+    }
 }
 
 pub fn with_bodies(s: State, bodies: usize) -> State
     ensures { result ≡ with_bodies s bodies }
 {
-    let mut next = s;
-    next.bodies = bodies;
-    next
+    State { bodies, ..s }
 }
 
 pub fn with_rows(s: State, rows: usize) -> State
     ensures { result ≡ with_rows s rows }
 {
-    let mut next = s;
-    next.rows = rows;
-    next
+    State { rows, ..s }
 }

@@ -5,37 +5,37 @@
 ghost use Rattle.std.specs.Prelude.{◌≡◌, ◌%◌, get_or};
 ghost use Rattle.parser.specs.Symbols.{holds, holes, makes, ends, binds, takes, begins, closes};
 
-use kind_numbers as kinds;
 use scanner::tokens;
+use script::Kind;
 
-// ---- sorts, by their letters
+// ---- sorts, by their letters; no enum, since `take` takes a state with any number for its sort, and the clauses of `Machine` compare letters
 
-pub const NUMBER: usize = 78; // N
+pub const NUMBER: usize = b'N' as usize;
 
-pub const EXPRESSION: usize = 69; // E
+pub const EXPRESSION: usize = b'E' as usize;
 
-pub const FORMULA: usize = 70; // F
+pub const FORMULA: usize = b'F' as usize;
 
-pub const STATEMENT: usize = 83; // S
+pub const STATEMENT: usize = b'S' as usize;
 
-pub const SCRIPT: usize = 88; // X
+pub const SCRIPT: usize = b'X' as usize;
 
-pub const EITHER: usize = 66; // B
+pub const EITHER: usize = b'B' as usize;
 
-pub const NONE: usize = 95; // _
+pub const NONE: usize = b'_' as usize;
 
 // ---- frames: operators that wait for the part right of them, and places of forms; the operators that are not named here have
 // the kind of their row
 
 pub const BOTTOM: usize = 0; // the bottom of the stack
 
-pub const NEGATE: usize = 8;
+pub const NEGATE: usize = Kind::Negate as usize;
 
-pub const IN_MARK: usize = 9;
+pub const IN_MARK: usize = Kind::Mark as usize;
 
-pub const ASSIGN: usize = 33;
+pub const ASSIGN: usize = Kind::Assign as usize;
 
-pub const SEMICOLON: usize = 34;
+pub const SEMICOLON: usize = Kind::Sequence as usize;
 
 pub const WHEN_FIRST: usize = 49;
 
@@ -67,31 +67,23 @@ pub const GROUP: usize = 62;
 
 pub const EXPRESSION_GROUP: usize = 63; // a group that takes an expression only
 
-// How tight an operator holds the part left of the next token: from 98, a semicolon, to 107, a unary minus; 97 holds nothing.
+// How tight an operator holds the part left of the next token: from b, a semicolon, to k, a unary minus; a holds nothing.
 #[tactic(auto, unfolding(crate::specs::Symbols::holds))]
-pub fn hold(frame: usize) -> usize
+pub fn hold(frame: usize) -> u8
     ensures { result ≡ get_or holds (frame % 64) 0 }
 {
-    let number = frame % 64;
-    match number {
-        kinds::PLUS => 105, // i
-        kinds::MINUS => 105, // i
-        kinds::TIMES => 106, // j
-        kinds::DIV => 106, // j
-        kinds::MOD => 106, // j
-        NEGATE => 107, // k
-        kinds::LESS => 104, // h
-        kinds::AT_MOST => 104, // h
-        kinds::EQUAL => 104, // h
-        kinds::UNEQUAL => 104, // h
-        kinds::NOT => 103, // g
-        kinds::AND => 102, // f
-        kinds::OR => 101, // e
-        kinds::IMPLIES => 100, // d
-        ASSIGN => 99, // c
-        SEMICOLON => 98, // b
-        kinds::ASSERT => 99, // c
-        _ => 97, // a
+    match frame % 64 {
+        tokens::PLUS | tokens::MINUS => b'i',
+        tokens::TIMES | tokens::DIV | tokens::MOD => b'j',
+        NEGATE => b'k',
+        tokens::LESS | tokens::AT_MOST | tokens::EQUAL | tokens::UNEQUAL => b'h',
+        tokens::NOT => b'g',
+        tokens::AND => b'f',
+        tokens::OR => b'e',
+        tokens::IMPLIES => b'd',
+        ASSIGN | tokens::ASSERT => b'c',
+        SEMICOLON => b'b',
+        _ => b'a',
     }
 }
 
@@ -100,42 +92,37 @@ pub fn hold(frame: usize) -> usize
 pub fn hole(frame: usize) -> usize
     ensures { result ≡ get_or holes (frame % 64) 0 }
 {
-    let number = frame % 64;
-    match number {
+    match frame % 64 {
         BOTTOM => SCRIPT,
-        kinds::PLUS => EXPRESSION,
-        kinds::MINUS => EXPRESSION,
-        kinds::TIMES => EXPRESSION,
-        kinds::DIV => EXPRESSION,
-        kinds::MOD => EXPRESSION,
-        NEGATE => EXPRESSION,
+        tokens::PLUS
+        | tokens::MINUS
+        | tokens::TIMES
+        | tokens::DIV
+        | tokens::MOD
+        | NEGATE
+        | tokens::LESS
+        | tokens::AT_MOST
+        | tokens::EQUAL
+        | tokens::UNEQUAL
+        | ASSIGN
+        | WHEN_SECOND
+        | WHEN_THIRD
+        | WHILE_FALL
+        | EXPRESSION_GROUP => EXPRESSION,
         IN_MARK => NUMBER,
-        kinds::LESS => EXPRESSION,
-        kinds::AT_MOST => EXPRESSION,
-        kinds::EQUAL => EXPRESSION,
-        kinds::UNEQUAL => EXPRESSION,
-        kinds::NOT => FORMULA,
-        kinds::AND => FORMULA,
-        kinds::OR => FORMULA,
-        kinds::IMPLIES => FORMULA,
-        ASSIGN => EXPRESSION,
-        SEMICOLON => STATEMENT,
-        kinds::ASSERT => FORMULA,
-        WHEN_FIRST => FORMULA,
-        WHEN_SECOND => EXPRESSION,
-        WHEN_THIRD => EXPRESSION,
-        IF_GUARD => FORMULA,
-        IF_THEN => STATEMENT,
-        IF_ELSE => STATEMENT,
-        WHILE_GUARD => FORMULA,
-        WHILE_KEEP => FORMULA,
-        WHILE_FALL => EXPRESSION,
-        WHILE_BODY => STATEMENT,
-        PRECONDITION => FORMULA,
-        STATEMENTS => STATEMENT,
-        POSTCONDITION => FORMULA,
+        tokens::NOT
+        | tokens::AND
+        | tokens::OR
+        | tokens::IMPLIES
+        | tokens::ASSERT
+        | WHEN_FIRST
+        | IF_GUARD
+        | WHILE_GUARD
+        | WHILE_KEEP
+        | PRECONDITION
+        | POSTCONDITION => FORMULA,
+        SEMICOLON | IF_THEN | IF_ELSE | WHILE_BODY | STATEMENTS => STATEMENT,
         GROUP => EITHER,
-        EXPRESSION_GROUP => EXPRESSION,
         _ => NONE,
     }
 }
@@ -145,91 +132,74 @@ pub fn hole(frame: usize) -> usize
 pub fn maker(frame: usize) -> usize
     ensures { result ≡ get_or makes (frame % 64) 0 }
 {
-    let number = frame % 64;
-    match number {
-        kinds::PLUS => EXPRESSION,
-        kinds::MINUS => EXPRESSION,
-        kinds::TIMES => EXPRESSION,
-        kinds::DIV => EXPRESSION,
-        kinds::MOD => EXPRESSION,
-        NEGATE => EXPRESSION,
-        IN_MARK => EXPRESSION,
-        kinds::LESS => FORMULA,
-        kinds::AT_MOST => FORMULA,
-        kinds::EQUAL => FORMULA,
-        kinds::UNEQUAL => FORMULA,
-        kinds::NOT => FORMULA,
-        kinds::AND => FORMULA,
-        kinds::OR => FORMULA,
-        kinds::IMPLIES => FORMULA,
-        ASSIGN => STATEMENT,
-        SEMICOLON => STATEMENT,
-        kinds::ASSERT => STATEMENT,
-        WHEN_FIRST => EXPRESSION,
-        WHEN_SECOND => EXPRESSION,
-        WHEN_THIRD => EXPRESSION,
-        IF_GUARD => STATEMENT,
-        IF_THEN => STATEMENT,
-        IF_ELSE => STATEMENT,
-        WHILE_GUARD => STATEMENT,
-        WHILE_KEEP => STATEMENT,
-        WHILE_FALL => STATEMENT,
-        WHILE_BODY => STATEMENT,
-        PRECONDITION => SCRIPT,
-        STATEMENTS => SCRIPT,
-        POSTCONDITION => SCRIPT,
+    match frame % 64 {
+        tokens::PLUS
+        | tokens::MINUS
+        | tokens::TIMES
+        | tokens::DIV
+        | tokens::MOD
+        | NEGATE
+        | IN_MARK
+        | WHEN_FIRST
+        | WHEN_SECOND
+        | WHEN_THIRD => EXPRESSION,
+        tokens::LESS
+        | tokens::AT_MOST
+        | tokens::EQUAL
+        | tokens::UNEQUAL
+        | tokens::NOT
+        | tokens::AND
+        | tokens::OR
+        | tokens::IMPLIES => FORMULA,
+        ASSIGN
+        | SEMICOLON
+        | tokens::ASSERT
+        | IF_GUARD
+        | IF_THEN
+        | IF_ELSE
+        | WHILE_GUARD
+        | WHILE_KEEP
+        | WHILE_FALL
+        | WHILE_BODY => STATEMENT,
+        PRECONDITION | STATEMENTS | POSTCONDITION => SCRIPT,
         _ => NONE,
     }
 }
 
 // What ends a place.
 #[tactic(auto, unfolding(crate::specs::Symbols::ends))]
-pub fn end_of(frame: usize) -> usize
+pub fn end_of(frame: usize) -> u8
     ensures { result ≡ get_or ends (frame % 64) 0 }
 {
-    let number = frame % 64;
-    match number {
-        IN_MARK => 41, // )
-        WHEN_FIRST => 44, // ,
-        WHEN_SECOND => 44, // ,
-        WHEN_THIRD => 41, // )
-        IF_GUARD => 116, // t
-        IF_THEN => 108, // l
-        IF_ELSE => 101, // e
-        WHILE_GUARD => 107, // k
-        WHILE_KEEP => 102, // f
-        WHILE_FALL => 100, // d
-        WHILE_BODY => 101, // e
-        PRECONDITION => 59, // ;
-        STATEMENTS => 112, // p
-        POSTCONDITION => 36, // $
-        GROUP => 41, // )
-        EXPRESSION_GROUP => 41, // )
-        _ => 95, // _
+    match frame % 64 {
+        IN_MARK | WHEN_THIRD | GROUP | EXPRESSION_GROUP => b')',
+        WHEN_FIRST | WHEN_SECOND => b',',
+        IF_GUARD => b't',
+        IF_THEN => b'l',
+        IF_ELSE | WHILE_BODY => b'e',
+        WHILE_GUARD => b'k',
+        WHILE_KEEP => b'f',
+        WHILE_FALL => b'd',
+        PRECONDITION => b';',
+        STATEMENTS => b'p',
+        POSTCONDITION => b'$',
+        _ => b'_',
     }
 }
 
 // From which letter on operators take the part before the token.
 #[tactic(auto, unfolding(crate::specs::Symbols::binds))]
-pub fn binding(token: usize) -> usize
+pub fn binding(token: usize) -> u8
     ensures { result ≡ get_or binds (token % 64) 0 }
 {
-    let number = token % 64;
-    match number {
-        tokens::PLUS => 105, // i
-        tokens::MINUS => 105, // i
-        tokens::TIMES => 106, // j
-        tokens::DIV => 106, // j
-        tokens::MOD => 106, // j
-        tokens::LESS => 104, // h
-        tokens::AT_MOST => 104, // h
-        tokens::EQUAL => 104, // h
-        tokens::UNEQUAL => 104, // h
-        tokens::AND => 102, // f
-        tokens::OR => 101, // e
-        tokens::IMPLIES => 101, // e
-        tokens::SEMICOLON => 99, // c
-        _ => 98, // b
+    match token % 64 {
+        tokens::PLUS | tokens::MINUS => b'i',
+        tokens::TIMES | tokens::DIV | tokens::MOD => b'j',
+        tokens::LESS | tokens::AT_MOST | tokens::EQUAL | tokens::UNEQUAL => b'h',
+        tokens::AND => b'f',
+        tokens::OR | tokens::IMPLIES => b'e',
+        tokens::SEMICOLON => b'c',
+        _ => b'b',
     }
 }
 
@@ -238,20 +208,17 @@ pub fn binding(token: usize) -> usize
 pub fn operand_sort(token: usize) -> usize
     ensures { result ≡ get_or takes (token % 64) 0 }
 {
-    let number = token % 64;
-    match number {
-        tokens::PLUS => EXPRESSION,
-        tokens::MINUS => EXPRESSION,
-        tokens::TIMES => EXPRESSION,
-        tokens::DIV => EXPRESSION,
-        tokens::MOD => EXPRESSION,
-        tokens::LESS => EXPRESSION,
-        tokens::AT_MOST => EXPRESSION,
-        tokens::EQUAL => EXPRESSION,
-        tokens::UNEQUAL => EXPRESSION,
-        tokens::AND => FORMULA,
-        tokens::OR => FORMULA,
-        tokens::IMPLIES => FORMULA,
+    match token % 64 {
+        tokens::PLUS
+        | tokens::MINUS
+        | tokens::TIMES
+        | tokens::DIV
+        | tokens::MOD
+        | tokens::LESS
+        | tokens::AT_MOST
+        | tokens::EQUAL
+        | tokens::UNEQUAL => EXPRESSION,
+        tokens::AND | tokens::OR | tokens::IMPLIES => FORMULA,
         tokens::SEMICOLON => STATEMENT,
         _ => NONE,
     }
@@ -262,19 +229,10 @@ pub fn operand_sort(token: usize) -> usize
 pub fn beginning(token: usize) -> usize
     ensures { result ≡ get_or begins (token % 64) 0 }
 {
-    let number = token % 64;
-    match number {
-        tokens::MINUS => EXPRESSION,
-        tokens::MARK => EXPRESSION,
-        tokens::WHEN => EXPRESSION,
-        tokens::TRUE => FORMULA,
-        tokens::FALSE => FORMULA,
-        tokens::NOT => FORMULA,
-        tokens::SKIP => STATEMENT,
-        tokens::IF => STATEMENT,
-        tokens::WHILE => STATEMENT,
-        tokens::ASSERT => STATEMENT,
-        tokens::OPEN => EXPRESSION,
+    match token % 64 {
+        tokens::MINUS | tokens::MARK | tokens::WHEN | tokens::OPEN => EXPRESSION,
+        tokens::TRUE | tokens::FALSE | tokens::NOT => FORMULA,
+        tokens::SKIP | tokens::IF | tokens::WHILE | tokens::ASSERT => STATEMENT,
         tokens::PRE => SCRIPT,
         _ => NONE,
     }
@@ -282,22 +240,21 @@ pub fn beginning(token: usize) -> usize
 
 // The end that a token is.
 #[tactic(auto, unfolding(crate::specs::Symbols::closes))]
-pub fn closing(token: usize) -> usize
+pub fn closing(token: usize) -> u8
     ensures { result ≡ get_or closes (token % 64) 0 }
 {
-    let number = token % 64;
-    match number {
-        tokens::SEMICOLON => 59, // ;
-        tokens::CLOSE => 41, // )
-        tokens::COMMA => 44, // ,
-        tokens::THEN => 116, // t
-        tokens::ELSE => 108, // l
-        tokens::END => 101, // e
-        tokens::KEEP => 107, // k
-        tokens::FALL => 102, // f
-        tokens::DO => 100, // d
-        tokens::POST => 112, // p
-        tokens::END_OF_TEXT => 36, // $
-        _ => 45, // -
+    match token % 64 {
+        tokens::SEMICOLON => b';',
+        tokens::CLOSE => b')',
+        tokens::COMMA => b',',
+        tokens::THEN => b't',
+        tokens::ELSE => b'l',
+        tokens::END => b'e',
+        tokens::KEEP => b'k',
+        tokens::FALL => b'f',
+        tokens::DO => b'd',
+        tokens::POST => b'p',
+        tokens::END_OF_TEXT => b'$',
+        _ => b'-',
     }
 }

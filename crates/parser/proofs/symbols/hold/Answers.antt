@@ -1,10 +1,9 @@
--- At a number that no arm names the letter is the default. Assumes nothing.
-use Rattle.std.proofs.Common.{[], ◌∷◌, ◌%◌, refl, sym, arith, rules}
+-- The letter at a number by its range. Assumes nothing.
+use Rattle.std.proofs.Common.{refl, sym, arith, ◌%◌, rules, [], ◌∷◌}
 use Rattle.parser.specs.Symbols.{holds}
 use Rattle.parser.proofs.Laws.{elsewhere}
 use Rattle.parser.proofs.symbols.hold.Goals as goal
 
-pub returns-in_default : goal.returns-in_default
+pub returns-in_default-3 : goal.returns-in_default-3
 unfolding holds
-returns-in_default c =
-    sym (elsewhere holds 97 (c.args.frame % 64) (38 ∷ 34 ∷ 33 ∷ 25 ∷ 24 ∷ 23 ∷ 22 ∷ 21 ∷ 20 ∷ 19 ∷ 18 ∷ 8 ∷ 7 ∷ 6 ∷ 5 ∷ 4 ∷ 3 ∷ []) (omega arith) refl (search rules))
+returns-in_default-3 c = sym (elsewhere holds 97 (c.args.frame % 64) (3 ∷ 4 ∷ 5 ∷ 6 ∷ 7 ∷ 8 ∷ 18 ∷ 19 ∷ 20 ∷ 21 ∷ 22 ∷ 23 ∷ 24 ∷ 25 ∷ 33 ∷ 34 ∷ 38 ∷ []) (omega arith) refl (search rules))
