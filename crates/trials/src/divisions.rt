@@ -1,14 +1,9 @@
 // The trial rows of div and mod: each line is written where the quotient and the remainder are those that it says.
 
-use division::Quotient;
 use std::io;
 
 fn divided(n: i64, d: i64, quotient: i64, remainder: i64) -> bool {
-    let q = division::div(n, d);
-    match q {
-        Quotient::Is(x) => x == quotient && division::rem(n, d) == remainder,
-        Quotient::TooLarge => false,
-    }
+    arithmetic::div(n, d) == Some(quotient) && arithmetic::rem(n, d) == remainder
 }
 
 fn say(rt: &impl Print, line: &str, right: bool) -> io::Result<()> {
