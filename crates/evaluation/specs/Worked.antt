@@ -1,39 +1,33 @@
 -- What the functions' answers stand for among the values worked out, and what the two functions ask. Assumes nothing.
-use Rattle.std.specs.Prelude.{ℕ, ◌<◌, ◌≤◌, ◌≡◌, Bool, true, List, [], ℤ, pos, length}
+use Rattle.std.specs.Prelude.{ℕ, ◌<◌, ◌≤◌, ◌≡◌, Bool, true, List, [], ℤ, pos, length, Option, Some, None, Result, Ok, Err}
 use Rattle.std.proofs.Common.{sym, ap, ◌∙◌}
 use Rattle.std.proofs.Math.Bool as Bool
 use Rattle.script.specs.Rows.{rows, variables}
 use Rattle.script.specs.Refusals.{verdict, accepted}
-use Rattle.arithmetic.specs.declared.Checked.{Checked}
-use Rattle.stepping.specs.Values.{Worked, got, stop, ◌then◌, overflow, by_zero, mode_64, tested}
+use Rattle.stepping.specs.Values.{Worked, got, stop, ◌then◌, Fault, overflow, by_zero, mode_64, tested}
 use Rattle.stepping.specs.Machine.{state_of, mark_values}
-use Rattle.evaluation.specs.declared.Value.{Value}
-use Rattle.evaluation.specs.declared.Truth.{Truth}
+use Rattle.evaluation.specs.declared.Stop.{Stop}
+use Rattle.evaluation.specs.declared.Stop.TheVariants.{Overflow, ByZero}
 
 -- ---- the answers
 
-abbrev pub worked_value : Value → Worked ℤ
-worked_value (Value.Is z) = got z
-worked_value Value.Overflow = stop overflow
-worked_value Value.ByZero = stop by_zero
+abbrev pub fault_of : Stop → Fault
+fault_of Overflow = overflow
+fault_of ByZero = by_zero
 
-abbrev pub worked_truth : Truth → Worked Bool
-worked_truth (Truth.Is b) = got b
-worked_truth Truth.Overflow = stop overflow
-worked_truth Truth.ByZero = stop by_zero
-
-abbrev pub worked_checked : Checked → Worked ℤ
-worked_checked (Checked.Is z) = got z
-worked_checked Checked.TooLarge = stop overflow
+abbrev pub worked : {A : Type 0} → Result A Stop → Worked A
+worked (Ok z) = got z
+worked (Err e) = stop (fault_of e)
 
 -- what is known of an answer, of one of its cases
-pub value_is : {x y : Value} {w : Worked ℤ} → x ≡ y → worked_value x ≡ w → worked_value y ≡ w
-value_is e h = sym (ap worked_value e) ∙ h
-
-pub truth_is : {x y : Truth} {w : Worked Bool} → x ≡ y → worked_truth x ≡ w → worked_truth y ≡ w
-truth_is e h = sym (ap worked_truth e) ∙ h
+pub worked_is : {A : Type 0} {x y : Result A Stop} {w : Worked A} → x ≡ y → worked x ≡ w → worked y ≡ w
+worked_is e h = sym (ap worked e) ∙ h
 
 -- ---- one node
+
+abbrev pub worked_checked : Option ℤ → Worked ℤ
+worked_checked (Some z) = got z
+worked_checked None = stop overflow
 
 abbrev pub opposite : Worked ℤ → Worked ℤ
 opposite x = x then λ a. tested mode_64 (state_of [] []) true (mode_64.arithmetic.neg a)
