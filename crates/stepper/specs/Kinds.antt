@@ -80,6 +80,13 @@ module _ (t : List ℤ) (r : ℕ) {n : ℕ} (read : n ≡ field_number (word t r
       by true e = rw (of_number 34 (eqb-true n 34 e))
       by false e = unsplit (row t r) row_numbered (eqb-false n 34 e)
 
+  pub split_here : n ≡ 34 → true ≡ splits (row t r)
+  unfolding row_of
+  split_here e = rw (of_number 34 e)
+
+  pub unsplit_here : (n ≡ 34 → ⊥) → false ≡ splits (row t r)
+  unsplit_here h = unsplit (row t r) row_numbered h
+
 -- a row that is split is a sequence of the rows in its fields
 pub sequence_at : (t : List ℤ) (r : ℕ) → true ≡ splits (row t r) → row t r ≡ Row.Statement (Sequence (row_no (word t r 1)) (row_no (word t r 2)))
 unfolding row_of

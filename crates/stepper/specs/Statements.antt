@@ -1,19 +1,19 @@
 -- A law for each kind of statement, and for what is none, with what was worked out for it: which step is tried, and what it answers
 -- and leaves. Assumes nothing.
-use Rattle.std.specs.Prelude.{ℕ, ◌+◌, ◌≤◌, ◌<◌, ◌≡◌, refl, Bool, true, false, cond, List, ◌∷◌, ℤ, length, set}
+use Rattle.std.specs.Prelude.{ℕ, ◌+◌, ◌≤◌, ◌<◌, ◌≡◌, refl, Bool, true, false, cond, List, ◌∷◌, ℤ, length, set, Ok, Err}
 use Rattle.std.proofs.Common.{◌∙◌, arith as linear, length-set}
 use Rattle.script.specs.declared.StatementRow.TheVariants.{Skip, Assign, Sequence, If, While, Assert}
 use Rattle.script.specs.declared.Row.{Row}
 use Rattle.script.specs.Rows.{field_number, row, rows, word}
 use Rattle.script.specs.Trees.{expr_at, formula_at}
 use Rattle.theorems.specs.Accepted.{passed}
-use Rattle.stepping.specs.Values.{mode_64, Worked, got, stop, Fault, fault_number, work, judge}
+use Rattle.stepping.specs.Values.{mode_64, Worked, got, stop, Fault, work, judge}
 use Rattle.stepping.specs.Machine.{hold, Stepped, on, untrue, carry, done, act, if_statement, pass, state_of}
 use Rattle.stepping.specs.Places.{past}
-use Rattle.stepper.specs.declared.steps.Outcome.TheVariants.{On, Failed}
+use Rattle.stepper.specs.declared.steps.Failure.TheVariants.{Untrue}
 use Rattle.stepper.specs.Kinds.{Numbered, row_numbered}
 use Rattle.stepper.specs.Parts.{HasKind, IfParts, assign_row, assert_row, if_row, while_row, while_parts}
-use Rattle.stepper.specs.Steps.{Stage, Tried, halted, rest_of, stepped, step_is, room_one, room_two, went_on, went_one, went_two, stopped}
+use Rattle.stepper.specs.Steps.{Stage, Tried, failure_of, halted, rest_of, stepped, step_is, room_one, room_two, went_on, went_one, went_two, stopped}
 use Rattle.stepper.specs.Taking.{Taken}
 
 -- either side of an if is a row of the table
@@ -62,10 +62,10 @@ module _ (t : List ℤ) (words : List ℕ) (height : ℕ) (vars marks : List ℤ
     assign_step = step_is _ _ _ _ _ _ S (assign_row t at k) ∙ rw (← hv, ← he, ← hx)
 
     pub assign_done : {z : ℤ} {words' : List ℕ} {left : ℕ} → x ≡ got z → Taken t words height words' left
-        → Tried t words height vars marks words' (set vars v z) marks (On left)
+        → Tried t words height vars marks words' (set vars v z) marks (Ok left)
     assign_done {z} g T = went_on _ _ _ _ _ _ S T (length-set vars v z) refl (assign_step ∙ rw g)
 
-    pub assign_stopped : {y : Fault} → x ≡ stop y → Tried t words height vars marks words vars marks (Failed (fault_number y))
+    pub assign_stopped : {y : Fault} → x ≡ stop y → Tried t words height vars marks words vars marks (Err (failure_of y))
     assign_stopped g = stopped _ _ _ _ _ _ S _ assign_step g
 
   -- an assertion, with its truth
@@ -75,13 +75,13 @@ module _ (t : List ℤ) (words : List ℕ) (height : ℕ) (vars marks : List ℤ
     assert_step = step_is _ _ _ _ _ _ S (assert_row t at k) ∙ rw (← hf, ← hx)
 
     pub assert_done : {words' : List ℕ} {left : ℕ} → x ≡ got true → Taken t words height words' left
-        → Tried t words height vars marks words' vars marks (On left)
+        → Tried t words height vars marks words' vars marks (Ok left)
     assert_done g T = went_on _ _ _ _ _ _ S T refl refl (assert_step ∙ rw g)
 
-    pub assert_untrue : x ≡ got false → Tried t words height vars marks words vars marks (Failed 52)
-    assert_untrue g = halted {n = 52} (rw (assert_step, g) refl) refl refl refl
+    pub assert_untrue : x ≡ got false → Tried t words height vars marks words vars marks (Err Untrue)
+    assert_untrue g = halted {e = Untrue} (rw (assert_step, g) refl) refl refl refl
 
-    pub assert_stopped : {y : Fault} → x ≡ stop y → Tried t words height vars marks words vars marks (Failed (fault_number y))
+    pub assert_stopped : {y : Fault} → x ≡ stop y → Tried t words height vars marks words vars marks (Err (failure_of y))
     assert_stopped g = stopped _ _ _ _ _ _ S _ assert_step g
 
   -- an if, with the truth of its guard
@@ -99,10 +99,10 @@ module _ (t : List ℤ) (words : List ℕ) (height : ℕ) (vars marks : List ℤ
       pub if_room : left < length words'
       if_room = room_one _ _ _ _ _ _ S T side_next
 
-      pub if_done : Tried t words height vars marks (set words' left side) vars marks (On (left + 1))
+      pub if_done : Tried t words height vars marks (set words' left side) vars marks (Ok (left + 1))
       if_done = went_one _ _ _ _ _ _ S T refl refl side_next
 
-    pub if_stopped : {y : Fault} → x ≡ stop y → Tried t words height vars marks words vars marks (Failed (fault_number y))
+    pub if_stopped : {y : Fault} → x ≡ stop y → Tried t words height vars marks words vars marks (Err (failure_of y))
     if_stopped g = stopped _ _ _ _ _ _ S _ if_step g
 
   -- a while, with the truth of its guard
@@ -115,10 +115,10 @@ module _ (t : List ℤ) (words : List ℕ) (height : ℕ) (vars marks : List ℤ
     while_passes g = while_step ∙ rw g
 
     pub while_done : {words' : List ℕ} {left : ℕ} → x ≡ got false → Taken t words height words' left
-        → Tried t words height vars marks words' vars marks (On left)
+        → Tried t words height vars marks words' vars marks (Ok left)
     while_done g T = went_on _ _ _ _ _ _ S T refl refl (while_step ∙ rw g)
 
-    pub while_stopped : {y : Fault} → x ≡ stop y → Tried t words height vars marks words vars marks (Failed (fault_number y))
+    pub while_stopped : {y : Fault} → x ≡ stop y → Tried t words height vars marks words vars marks (Err (failure_of y))
     while_stopped g = stopped _ _ _ _ _ _ S _ while_step g
 
   -- a pass of it, with the value of its variant
@@ -135,8 +135,8 @@ module _ (t : List ℤ) (words : List ℕ) (height : ℕ) (vars marks : List ℤ
       pub pass_room : left + 1 < length words'
       pass_room = room_two _ _ _ _ _ _ S T body_next
 
-      pub pass_done : Tried t words height vars marks (set (set words' left at) (left + 1) q) vars (set marks at z) (On (left + 2))
+      pub pass_done : Tried t words height vars marks (set (set words' left at) (left + 1) q) vars (set marks at z) (Ok (left + 2))
       pass_done = went_two _ _ _ _ _ _ S T refl (length-set marks at z) body_next
 
-    pub pass_stopped : {y : Fault} → x ≡ stop y → Tried t words height vars marks words vars marks (Failed (fault_number y))
+    pub pass_stopped : {y : Fault} → x ≡ stop y → Tried t words height vars marks words vars marks (Err (failure_of y))
     pass_stopped g = stopped _ _ _ _ _ _ S _ pass_step g

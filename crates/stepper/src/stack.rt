@@ -7,18 +7,13 @@ ghost use Rattle.stepper.specs.Kinds.{splits};
 ghost use Rattle.stepper.specs.DueRows.{due_row};
 ghost use Rattle.stepper.specs.Taking.{Ready, Taken};
 
-use kind_numbers as kinds;
-use script::field;
+use script::{Kind, field, kind_at, row_count};
 
 // Puts a zero into every word.
 pub fn clear(words: &mut [u32])
     ensures { words.new ≡ replicate (length words.old) 0 }
 {
-    let mut i = 0;
-    while i < words.len() {
-        words[i] = 0;
-        i += 1;
-    }
+    words.fill(0);
 }
 
 // Whether a row of the table is a sequence.
@@ -26,11 +21,7 @@ fn is_sequence(table: &[i32], r: usize) -> bool
     requires { verdict table.now ≡ accepted }
     ensures { result ≡ splits (row table.now r) }
 {
-    if r < table.len() / 4 {
-        field(table, r, 0) == kinds::SEQUENCE
-    } else {
-        false
-    }
+    r < row_count(table) && matches!(kind_at(table, r), Kind::Sequence)
 }
 
 // The row of the statement that is due where r is the next row: down the first parts of sequences.

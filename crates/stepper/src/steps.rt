@@ -2,32 +2,38 @@
 // fails writes nothing.
 
 ghost use Rattle.std.specs.Prelude.{◌≡◌, cond, ◌+◌, ◌*◌, ◌<◌, length};
+ghost use Rattle.script.specs.Kinds.{number};
 ghost use Rattle.script.specs.Rows.{field_number, word};
+ghost use Rattle.evaluation.specs.Worked.{fault_of};
 ghost use Rattle.stepper.specs.Parts.{HasKind};
-ghost use Rattle.stepper.specs.Steps.{Stage, Tried, stepped};
+ghost use Rattle.stepper.specs.Steps.{Stage, Tried, failure_of, stepped};
 ghost use Rattle.stepper.specs.Statements.{passing};
 
 use crate::stack::take_next;
-use evaluation::{Truth, Value, truth_at, value_at};
-use kind_numbers as kinds;
-use script::field;
+use evaluation::{Stop, truth_at, value_at};
+use script::{Kind, field, kind_at, row_count};
 
-#[derive(Clone, Copy)]
-pub enum Outcome {
-    // a whole step: the height of the stack after it
-    On(usize),
-    // 50, 52 or 53
-    Failed(usize),
+// Why a step fails, with its number.
+#[derive(Clone, Copy, PartialEq, Eq, Debug)]
+pub enum Failure {
+    // "50 when a value leaves 64 bits"
+    Overflow = 50,
+    // "52 when an assertion is false"
+    Untrue = 52,
+    // "53 when a script divides by zero"
+    ByZero = 53,
 }
 
-// "50 when a value leaves 64 bits"
-const OVERFLOW: usize = 50;
+impl From<Stop> for Failure {
+    ghost from_gives = { λ stop failure. failure ≡ failure_of (fault_of stop) };
 
-// "52 when an assertion is false"
-const UNTRUE: usize = 52;
-
-// "53 when a script divides by zero"
-const BY_ZERO: usize = 53;
+    fn from(stop: Stop) -> Failure {
+        match stop {
+            Stop::Overflow => Failure::Overflow,
+            Stop::ByZero => Failure::ByZero,
+        }
+    }
+}
 
 // The variable takes the value of its expression.
 fn assign(
@@ -37,22 +43,15 @@ fn assign(
     variables: &mut [i64],
     marks: &[i64],
     at: usize,
-) -> Outcome
-    requires { Stage table.now stack.old height variables.old marks.now at × HasKind table.now at 33 }
+) -> Result<usize, Failure>
+    requires { Stage table.now stack.old height variables.old marks.now at × HasKind table.now at (number Kind.Assign) }
     ensures { Tried table.now stack.old height variables.old marks.now
         stack.new variables.new marks.now result }
 {
     let variable = field(table, at, 1);
     let expression = field(table, at, 2);
-    let worked = value_at(table, variables, marks, true, expression);
-    match worked {
-        Value::Is(z) => {
-            variables[variable] = z;
-            Outcome::On(take_next(table, stack, height))
-        }
-        Value::Overflow => Outcome::Failed(OVERFLOW),
-        Value::ByZero => Outcome::Failed(BY_ZERO),
-    }
+    variables[variable] = value_at(table, variables, marks, true, expression)?;
+    Ok(take_next(table, stack, height))
 }
 
 // Goes on where the assertion is true.
@@ -63,23 +62,16 @@ fn assert_true(
     variables: &[i64],
     marks: &[i64],
     at: usize,
-) -> Outcome
-    requires { Stage table.now stack.old height variables.now marks.now at × HasKind table.now at 38 }
+) -> Result<usize, Failure>
+    requires { Stage table.now stack.old height variables.now marks.now at × HasKind table.now at (number Kind.Assert) }
     ensures { Tried table.now stack.old height variables.now marks.now
         stack.new variables.now marks.now result }
 {
     let formula = field(table, at, 1);
-    let worked = truth_at(table, variables, marks, false, formula);
-    match worked {
-        Truth::Is(holds) => {
-            if holds {
-                Outcome::On(take_next(table, stack, height))
-            } else {
-                Outcome::Failed(UNTRUE)
-            }
-        }
-        Truth::Overflow => Outcome::Failed(OVERFLOW),
-        Truth::ByZero => Outcome::Failed(BY_ZERO),
+    if truth_at(table, variables, marks, false, formula)? {
+        Ok(take_next(table, stack, height))
+    } else {
+        Err(Failure::Untrue)
     }
 }
 
@@ -103,23 +95,17 @@ fn choose_side(
     variables: &[i64],
     marks: &[i64],
     at: usize,
-) -> Outcome
-    requires { Stage table.now stack.old height variables.now marks.now at × HasKind table.now at 35 }
+) -> Result<usize, Failure>
+    requires { Stage table.now stack.old height variables.now marks.now at × HasKind table.now at (number Kind.If) }
     ensures { Tried table.now stack.old height variables.now marks.now
         stack.new variables.now marks.now result }
 {
     let guard = field(table, at, 1);
-    let worked = truth_at(table, variables, marks, true, guard);
-    match worked {
-        Truth::Is(holds) => {
-            let side = side(table, at, holds);
-            let left = take_next(table, stack, height);
-            stack[left] = side as u32;
-            Outcome::On(left + 1)
-        }
-        Truth::Overflow => Outcome::Failed(OVERFLOW),
-        Truth::ByZero => Outcome::Failed(BY_ZERO),
-    }
+    let holds = truth_at(table, variables, marks, true, guard)?;
+    let side = side(table, at, holds);
+    let left = take_next(table, stack, height);
+    stack[left] = side as u32;
+    Ok(left + 1)
 }
 
 // A pass of the loop: its mark takes the variant's value; its body is next, then the loop again.
@@ -131,26 +117,19 @@ fn begin_pass(
     variables: &[i64],
     marks: &mut [i64],
     at: usize,
-) -> Outcome
-    requires { Stage table.now stack.old height variables.now marks.old at × (HasKind table.now at 36 × (stepped table.now stack.old height variables.now marks.old ≡ passing table.now stack.old height variables.now marks.old at)) }
+) -> Result<usize, Failure>
+    requires { Stage table.now stack.old height variables.now marks.old at × (HasKind table.now at (number Kind.While) × (stepped table.now stack.old height variables.now marks.old ≡ passing table.now stack.old height variables.now marks.old at)) }
     ensures { Tried table.now stack.old height variables.now marks.old
         stack.new variables.now marks.new result }
 {
     let note = field(table, at, 2);
     let body = field(table, at, 3);
     let variant = field(table, note, 2);
-    let worked = value_at(table, variables, marks, false, variant);
-    match worked {
-        Value::Is(z) => {
-            marks[at] = z;
-            let left = take_next(table, stack, height);
-            stack[left] = at as u32;
-            stack[left + 1] = body as u32;
-            Outcome::On(left + 2)
-        }
-        Value::Overflow => Outcome::Failed(OVERFLOW),
-        Value::ByZero => Outcome::Failed(BY_ZERO),
-    }
+    marks[at] = value_at(table, variables, marks, false, variant)?;
+    let left = take_next(table, stack, height);
+    stack[left] = at as u32;
+    stack[left + 1] = body as u32;
+    Ok(left + 2)
 }
 
 // Begins a pass where the guard is true; else the loop is left.
@@ -161,23 +140,16 @@ fn test_guard(
     variables: &[i64],
     marks: &mut [i64],
     at: usize,
-) -> Outcome
-    requires { Stage table.now stack.old height variables.now marks.old at × HasKind table.now at 36 }
+) -> Result<usize, Failure>
+    requires { Stage table.now stack.old height variables.now marks.old at × HasKind table.now at (number Kind.While) }
     ensures { Tried table.now stack.old height variables.now marks.old
         stack.new variables.now marks.new result }
 {
     let guard = field(table, at, 1);
-    let worked = truth_at(table, variables, marks, true, guard);
-    match worked {
-        Truth::Is(holds) => {
-            if holds {
-                begin_pass(table, stack, height, variables, marks, at)
-            } else {
-                Outcome::On(take_next(table, stack, height))
-            }
-        }
-        Truth::Overflow => Outcome::Failed(OVERFLOW),
-        Truth::ByZero => Outcome::Failed(BY_ZERO),
+    if truth_at(table, variables, marks, true, guard)? {
+        begin_pass(table, stack, height, variables, marks, at)
+    } else {
+        Ok(take_next(table, stack, height))
     }
 }
 
@@ -189,21 +161,20 @@ pub fn step(
     variables: &mut [i64],
     marks: &mut [i64],
     at: usize,
-) -> Outcome
+) -> Result<usize, Failure>
     requires { Stage table.now stack.old height variables.old marks.old at }
     ensures { Tried table.now stack.old height variables.old marks.old
         stack.new variables.new marks.new result }
 {
-    if at < table.len() / 4 {
-        let kind = field(table, at, 0);
-        match kind {
-            kinds::ASSIGN => assign(table, stack, height, variables, marks, at),
-            kinds::IF => choose_side(table, stack, height, variables, marks, at),
-            kinds::WHILE => test_guard(table, stack, height, variables, marks, at),
-            kinds::ASSERT => assert_true(table, stack, height, variables, marks, at),
-            _ => Outcome::On(take_next(table, stack, height)),
+    if at < row_count(table) {
+        match kind_at(table, at) {
+            Kind::Assign => assign(table, stack, height, variables, marks, at),
+            Kind::If => choose_side(table, stack, height, variables, marks, at),
+            Kind::While => test_guard(table, stack, height, variables, marks, at),
+            Kind::Assert => assert_true(table, stack, height, variables, marks, at),
+            _ => Ok(take_next(table, stack, height)),
         }
     } else {
-        Outcome::On(take_next(table, stack, height))
+        Ok(take_next(table, stack, height))
     }
 }

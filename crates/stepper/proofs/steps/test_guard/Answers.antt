@@ -1,7 +1,7 @@
 -- By the truth of the guard. Assumes nothing.
-use Rattle.std.proofs.Common.{ap, ◌∙◌, rules}
+use Rattle.std.proofs.Common.{refl, ap, rules}
+use Rattle.std.proofs.lemmas.Result.{err_from_is_err_and}
 use Rattle.stepping.specs.Values.{got}
-use Rattle.evaluation.specs.Worked.{worked_truth}
 use Rattle.stepper.specs.Parts.{while_parts}
 use Rattle.stepper.specs.Steps.{lent}
 use Rattle.stepper.specs.Statements.{while_passes, while_done, while_stopped}
@@ -10,8 +10,8 @@ use Rattle.stepper.proofs.steps.test_guard.Goals as goal
 pub field-guard-requires : goal.field-guard-requires
 field-guard-requires c = ((while_parts _ c.requires.0.ready.checked _ c.requires.1).read, search rules)
 
-pub truth_at-worked-requires : goal.truth_at-worked-requires
-truth_at-worked-requires c = lent _ _ _ _ _ _ c.requires.0 (rw c.field-guard.ensures (while_parts _ c.requires.0.ready.checked _ c.requires.1).guard)
+pub truth_at-requires : goal.truth_at-requires
+truth_at-requires c = lent _ _ _ _ _ _ c.requires.0 (rw c.field-guard.ensures (while_parts _ c.requires.0.ready.checked _ c.requires.1).guard)
 
 -- ---- once it was judged
 
@@ -20,19 +20,16 @@ begin_pass-requires c = (
   c.requires.0,
   (
     c.requires.1,
-    while_passes _ _ _ _ _ _ c.requires.0 c.requires.1 c.field-guard.ensures c.truth_at-worked.ensures (ap worked_truth c.in-Is.is ∙ ap got c.if-holds.true),
+    while_passes _ _ _ _ _ _ c.requires.0 c.requires.1 c.field-guard.ensures c.in_ok-truth_at.ensures (ap got c.if-branch.true),
   ),
 )
 
-pub returns-else-holds : goal.returns-else-holds
-returns-else-holds c =
-    while_done _ _ _ _ _ _ c.requires.0 c.requires.1 c.field-guard.ensures c.truth_at-worked.ensures
-    (ap worked_truth c.in-Is.is ∙ ap got c.if-holds.false) c.take_next.ensures
+pub returns-else-branch : goal.returns-else-branch
+returns-else-branch c =
+    while_done _ _ _ _ _ _ c.requires.0 c.requires.1 c.field-guard.ensures c.in_ok-truth_at.ensures
+    (ap got c.if-branch.false) c.take_next.ensures
 
-pub returns-in-Overflow : goal.returns-in-Overflow
-returns-in-Overflow c =
-    while_stopped _ _ _ _ _ _ c.requires.0 c.requires.1 c.field-guard.ensures c.truth_at-worked.ensures (ap worked_truth c.in-Overflow.is)
-
-pub returns-in-ByZero : goal.returns-in-ByZero
-returns-in-ByZero c =
-    while_stopped _ _ _ _ _ _ c.requires.0 c.requires.1 c.field-guard.ensures c.truth_at-worked.ensures (ap worked_truth c.in-ByZero.is)
+pub returns-in_err-truth_at : goal.returns-in_err-truth_at
+returns-in_err-truth_at c =
+    let p = err_from_is_err_and c.from_residual.result c.from_residual.ensures.1 in
+    rw (p.1, p.2) (while_stopped _ _ _ _ _ _ c.requires.0 c.requires.1 c.field-guard.ensures c.in_err-truth_at.ensures refl)
