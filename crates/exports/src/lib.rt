@@ -21,6 +21,7 @@ ghost use Rattle.exports.specs.Verdicts.{number_of, row_of};
 ghost use Rattle.exports.specs.Sides.{side_number};
 
 use editor::Record;
+use machine::RunAnswer;
 use script::{Answer, Line};
 use shortener::Side;
 
@@ -348,7 +349,7 @@ pub extern "C" fn leqwarti_run(
     ensures variables { variables.new ≡ (machine_run mode_64 table.now stack.old variables.old marks.old limit).vars }
     ensures marks { marks.new ≡ (machine_run mode_64 table.now stack.old variables.old marks.old limit).marks }
 {
-    let stopped = machine::run(table, stack, variables, marks, limit);
+    let stopped = RunAnswer::from(machine::run(table, stack, variables, marks, limit));
     *number = stopped.number;
     *row = stopped.row;
     *steps = stopped.steps;
@@ -377,7 +378,9 @@ pub extern "C" fn leqwarti_go_on(
     ensures variables { variables.new ≡ (machine_on mode_64 table.now stack.old variables.old marks.old limit begun).vars }
     ensures marks { marks.new ≡ (machine_on mode_64 table.now stack.old variables.old marks.old limit begun).marks }
 {
-    let stopped = machine::go_on(table, stack, begun, variables, marks, limit);
+    let stopped = RunAnswer::from(machine::go_on(
+        table, stack, begun, variables, marks, limit,
+    ));
     *number = stopped.number;
     *row = stopped.row;
     *steps = stopped.steps;

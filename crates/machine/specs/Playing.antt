@@ -1,6 +1,6 @@
 -- Steps up to the limit: at each turn, what the rest of the play leaves is what the whole leaves (`Playing`), and whichever way it ends the
 -- answer and the lent words are those of `shown` (`Told`). Assumes nothing.
-use Rattle.std.specs.Prelude.{ℕ, zero, suc, ◌+◌, ◌-◌, ◌≤◌, ◌<◌, ◌≡◌, refl, ℤ, length, replicate}
+use Rattle.std.specs.Prelude.{ℕ, zero, suc, ◌+◌, ◌-◌, ◌≤◌, ◌<◌, ◌≡◌, refl, ℤ, length, replicate, Result, Ok, Err}
 use Rattle.std.proofs.Common.{sym, ◌∙◌, add-one}
 use Rattle.std.proofs.Math.Path.{ap, subst}
 use mathlib.Core.List.{List, [], ◌∷◌, ◌++◌, reverse}
@@ -12,10 +12,16 @@ use Rattle.stepping.specs.Values.{mode_64}
 use Rattle.stepping.specs.Machine.{Held, hold, Stepped, on, faulty, untrue, mark_values, next, Stopped, stopped, proceed, play, Ran, shown}
 use Rattle.stepping.specs.Heights.{Roomy, step_roomy}
 use Rattle.machine.specs.declared.RunAnswer.{RunAnswer}
-use Rattle.stepper.specs.declared.steps.Outcome.TheVariants.{On, Failed}
+use Rattle.machine.specs.declared.Refusal.{Refusal}
+use Rattle.machine.specs.declared.Refusal.TheVariants.{Table, Short}
+use Rattle.machine.specs.declared.End.{End}
+use Rattle.machine.specs.declared.End.TheVariants.{Done, Failed, Spent}
+use Rattle.machine.specs.declared.Played.{Played}
+use Rattle.rows.specs.Numbers as Faults
+use Rattle.stepper.specs.declared.steps.Failure.{Failure}
 use Rattle.stepper.specs.DueRows.{due_row, next_row}
 use Rattle.stepper.specs.Stack.{held_in, top, Zeros, held_length, top_first, words_are}
-use Rattle.stepper.specs.Steps.{Stage, Halts, stepped, Tried, went, halted}
+use Rattle.stepper.specs.Steps.{Stage, Halts, stepped, Tried, went, halted, failure_number}
 
 -- the answer and the lent words are those of the outcome
 pub record Told (m : Ran) (a : RunAnswer) (words : List ℕ) (vars marks : List ℤ) : Type 0 where
@@ -37,6 +43,20 @@ pub record Begun (t : List ℤ) (words : List ℕ) (height : ℕ) (vars marks : 
 
 abbrev pub answer : ℕ → ℕ → ℕ → ℕ → RunAnswer
 answer number row steps height = record { number = number; row = row; steps = steps; height = height }
+
+-- what a call's result says
+abbrev pub played_answer : End → ℕ → ℕ → RunAnswer
+played_answer Done steps height = answer 0 0 steps height
+played_answer (Failed e r) steps height = answer (failure_number e) r.0 steps height
+played_answer (Spent r) steps height = answer 54 r.0 steps height
+
+abbrev pub refusal_answer : Refusal → RunAnswer
+refusal_answer (Table e) = answer (Faults.number e.fault) e.row.0 0 0
+refusal_answer Short = answer 51 0 0 0
+
+abbrev pub answer_of : Result Played Refusal → RunAnswer
+answer_of (Ok p) = played_answer p.end p.steps p.height
+answer_of (Err e) = refusal_answer e
 
 -- what the machine leaves that begins with the rows in so many words
 abbrev pub played : List ℤ → List ℕ → ℕ → List ℤ → List ℤ → ℕ → Ran
@@ -137,12 +157,13 @@ module _ (t : List ℤ) (words₀ : List ℕ) (begun : ℕ) (vars₀ marks₀ : 
         unfolding play
         tried = rw (first, ← row_is) (rw (one_more, first) at P.same)
 
-        pub told_failed : {n : ℕ} {words' : List ℕ} {vars' marks' : List ℤ} → Tried t words height vars marks words' vars' marks' (Failed n)
-            → Told (played t words₀ begun vars₀ marks₀ limit) (answer n r steps height) words' vars' marks'
-        told_failed {n} (halted i ew ev em) =
-            rw (ew, ev, em) (told (sym (halts_proceed t _ steps r (hold (held_in words height) vars marks) n (stepped t words height vars marks) i) ∙ tried))
+        pub told_failed : {e : Failure} {words' : List ℕ} {vars' marks' : List ℤ} → Tried t words height vars marks words' vars' marks' (Err e)
+            → Told (played t words₀ begun vars₀ marks₀ limit) (answer (failure_number e) r steps height) words' vars' marks'
+        told_failed {e} (halted i ew ev em) =
+            rw (ew, ev, em)
+            (told (sym (halts_proceed t _ steps r (hold (held_in words height) vars marks) (failure_number e) (stepped t words height vars marks) i) ∙ tried))
 
-        pub playing_on : {left : ℕ} {words' : List ℕ} {vars' marks' : List ℤ} → Tried t words height vars marks words' vars' marks' (On left)
+        pub playing_on : {left : ℕ} {words' : List ℕ} {vars' marks' : List ℤ} → Tried t words height vars marks words' vars' marks' (Ok left)
             → Playing words' vars' marks' left (steps + 1)
         playing_on {left} {words'} {vars'} {marks'} (went e z lw lv lm) = record {
           state = record {

@@ -6,14 +6,52 @@ ghost use Rattle.std.specs.Prelude.{◌≡◌, ◌||◌, ◌+◌, ltb};
 ghost use Rattle.script.specs.Rows.{variables as Rows·variables};
 ghost use Rattle.stepping.specs.Values.{mode_64};
 ghost use Rattle.stepping.specs.Machine.{mark_values, machine_run, machine_on};
-ghost use Rattle.machine.specs.Playing.{Begun, Told, answer, played};
+ghost use Rattle.machine.specs.declared.Refusal.TheVariants.{Table};
+ghost use Rattle.machine.specs.Playing.{Begun, Told, answer_of, played};
 
-use script::field;
-use stepper::steps::Outcome;
-use stepper::{stack, steps};
+use script::{RowNumber, VARIABLES, field, row_count};
+use stepper::stack;
+use stepper::steps::{self, Failure};
 
-// The number of 02, P11; the row of the statement that is due, or of a refusal; the whole steps done, and the height of the stack.
-#[derive(Clone, Copy)]
+// Why a call takes no step.
+#[derive(Clone, Copy, PartialEq, Eq, Debug)]
+pub enum Refusal {
+    // the table's, 1 to 10
+    Table(table::Refusal),
+    // 51: the stack has fewer words than rows, or a run of values is short
+    Short,
+}
+
+impl From<table::Refusal> for Refusal {
+    ghost from_gives = { λ refusal told. told ≡ Table refusal };
+
+    fn from(refusal: table::Refusal) -> Refusal {
+        Refusal::Table(refusal)
+    }
+}
+
+// How the steps of a call end, and at which row's statement.
+#[derive(Clone, Copy, PartialEq, Eq, Debug)]
+pub enum End {
+    // nothing is left to do
+    Done,
+    // that statement's step fails
+    Failed(Failure, RowNumber),
+    // 54: the limit is spent, and that statement is due
+    Spent(RowNumber),
+}
+
+// What a call leaves that takes steps: the whole ones, and the height of the stack after them.
+#[derive(Clone, Copy, PartialEq, Eq, Debug)]
+pub struct Played {
+    pub end: End,
+    pub steps: u64,
+    pub height: usize,
+}
+
+// What C is told: the number of 02, P11; the row of the statement that is due, or of a refusal; the whole steps done, and the
+// height of the stack.
+#[derive(Clone, Copy, PartialEq, Eq, Debug)]
 pub struct RunAnswer {
     pub number: usize,
     pub row: usize,
@@ -21,31 +59,52 @@ pub struct RunAnswer {
     pub height: usize,
 }
 
-fn refusal(number: usize, row: usize) -> RunAnswer
-    ensures { result ≡ answer number row 0 0 }
-{
-    RunAnswer {
-        number,
-        row,
-        steps: 0,
-        height: 0,
+impl From<Result<Played, Refusal>> for RunAnswer {
+    ghost from_gives = { λ ended told. told ≡ answer_of ended };
+
+    fn from(ended: Result<Played, Refusal>) -> RunAnswer {
+        let (number, row, steps, height) = match ended {
+            Ok(
+                Played {
+                    end: End::Done,
+                    steps,
+                    height,
+                },
+            ) => (0, 0, steps, height),
+            Ok(
+                Played {
+                    end: End::Failed(failure, row),
+                    steps,
+                    height,
+                },
+            ) => (failure as usize, row.0, steps, height),
+            Ok(
+                Played {
+                    end: End::Spent(row),
+                    steps,
+                    height,
+                },
+            ) => (54, row.0, steps, height),
+            Err(Refusal::Table(refusal)) => (refusal.fault.number(), refusal.row.0, 0, 0),
+            Err(Refusal::Short) => (51, 0, 0, 0),
+        };
+        RunAnswer {
+            number,
+            row,
+            steps,
+            height,
+        }
     }
 }
+
+// How many values there are of marks.
+const MARKS: usize = 2048;
 
 // 51: whether the stack has fewer words than the rows that lie in it and those of the table, or a run of values is short.
 fn too_short(words: usize, height: usize, rows: usize, variables: usize, marks: usize) -> bool
     ensures { result ≡ ltb words (height + rows) || (ltb variables Rows·variables || ltb marks mark_values) }
 {
-    if words < rows {
-        return true;
-    }
-    if words - rows < height {
-        return true;
-    }
-    if variables < script::VARIABLES {
-        return true;
-    }
-    marks < 2048
+    words < rows || words - rows < height || variables < VARIABLES || marks < MARKS
 }
 
 // Steps until nothing is left to do, a step fails, or the limit is spent.
@@ -56,42 +115,32 @@ fn play(
     variables: &mut [i64],
     marks: &mut [i64],
     limit: u64,
-) -> RunAnswer
+) -> Played
     requires { Begun table.now stack.old begun variables.old marks.old }
     ensures { Told (played table.now stack.old begun variables.old marks.old limit)
-        result stack.new variables.new marks.new }
+        (answer_of (Ok result)) stack.new variables.new marks.new }
 {
     let mut height = begun;
     let mut steps = 0;
     while 0 < height {
         let row = stack::due(table, stack[height - 1] as usize);
         if steps == limit {
-            return RunAnswer {
-                number: 54,
-                row,
-                steps,
-                height,
-            };
+            let end = End::Spent(RowNumber(row));
+            return Played { end, steps, height };
         }
-        let tried = steps::step(table, stack, height, variables, marks, row);
-        match tried {
-            Outcome::Failed(number) => {
-                return RunAnswer {
-                    number,
-                    row,
-                    steps,
-                    height,
-                };
-            }
-            Outcome::On(left) => {
+        match steps::step(table, stack, height, variables, marks, row) {
+            Ok(left) => {
                 height = left;
                 steps += 1;
             }
+            Err(failure) => {
+                let end = End::Failed(failure, RowNumber(row));
+                return Played { end, steps, height };
+            }
         }
     }
-    RunAnswer {
-        number: 0,
-        row: 0,
+    Played {
+        end: End::Done,
         steps,
         height: 0,
     }
@@ -104,27 +153,23 @@ pub fn run(
     variables: &mut [i64],
     marks: &mut [i64],
     limit: u64,
-) -> RunAnswer
-    ensures number { result.number ≡ (machine_run mode_64 table.now stack.old variables.old marks.old limit).number }
-    ensures row { result.row ≡ (machine_run mode_64 table.now stack.old variables.old marks.old limit).row }
-    ensures steps { result.steps ≡ (machine_run mode_64 table.now stack.old variables.old marks.old limit).steps }
-    ensures height { result.height ≡ (machine_run mode_64 table.now stack.old variables.old marks.old limit).height }
+) -> Result<Played, Refusal>
+    ensures number { (answer_of result).number ≡ (machine_run mode_64 table.now stack.old variables.old marks.old limit).number }
+    ensures row { (answer_of result).row ≡ (machine_run mode_64 table.now stack.old variables.old marks.old limit).row }
+    ensures steps { (answer_of result).steps ≡ (machine_run mode_64 table.now stack.old variables.old marks.old limit).steps }
+    ensures height { (answer_of result).height ≡ (machine_run mode_64 table.now stack.old variables.old marks.old limit).height }
     ensures stack { stack.new ≡ (machine_run mode_64 table.now stack.old variables.old marks.old limit).stack }
     ensures variables { variables.new ≡ (machine_run mode_64 table.now stack.old variables.old marks.old limit).vars }
     ensures marks { marks.new ≡ (machine_run mode_64 table.now stack.old variables.old marks.old limit).marks }
 {
-    match table::check(table) {
-        Err(refused) => refusal(refused.fault.number(), refused.row.0),
-        Ok(()) => {
-            let rows = table.len() / 4;
-            if too_short(stack.len(), 0, rows, variables.len(), marks.len()) {
-                return refusal(51, 0);
-            }
-            stack::clear(stack);
-            stack[0] = field(table, rows - 1, 2) as u32;
-            play(table, stack, 1, variables, marks, limit)
-        }
+    table::check(table)?;
+    let rows = row_count(table);
+    if too_short(stack.len(), 0, rows, variables.len(), marks.len()) {
+        return Err(Refusal::Short);
     }
+    stack::clear(stack);
+    stack[0] = field(table, rows - 1, 2) as u32;
+    Ok(play(table, stack, 1, variables, marks, limit))
 }
 
 // Goes on with the rows in the first words of the stack, as a call before left them.
@@ -135,29 +180,25 @@ pub fn go_on(
     variables: &mut [i64],
     marks: &mut [i64],
     limit: u64,
-) -> RunAnswer
-    ensures number { result.number ≡ (machine_on mode_64 table.now stack.old variables.old marks.old limit height).number }
-    ensures row { result.row ≡ (machine_on mode_64 table.now stack.old variables.old marks.old limit height).row }
-    ensures steps { result.steps ≡ (machine_on mode_64 table.now stack.old variables.old marks.old limit height).steps }
-    ensures height { result.height ≡ (machine_on mode_64 table.now stack.old variables.old marks.old limit height).height }
+) -> Result<Played, Refusal>
+    ensures number { (answer_of result).number ≡ (machine_on mode_64 table.now stack.old variables.old marks.old limit height).number }
+    ensures row { (answer_of result).row ≡ (machine_on mode_64 table.now stack.old variables.old marks.old limit height).row }
+    ensures steps { (answer_of result).steps ≡ (machine_on mode_64 table.now stack.old variables.old marks.old limit height).steps }
+    ensures height { (answer_of result).height ≡ (machine_on mode_64 table.now stack.old variables.old marks.old limit height).height }
     ensures stack { stack.new ≡ (machine_on mode_64 table.now stack.old variables.old marks.old limit height).stack }
     ensures variables { variables.new ≡ (machine_on mode_64 table.now stack.old variables.old marks.old limit height).vars }
     ensures marks { marks.new ≡ (machine_on mode_64 table.now stack.old variables.old marks.old limit height).marks }
 {
-    match table::check(table) {
-        Err(refused) => refusal(refused.fault.number(), refused.row.0),
-        Ok(()) => {
-            if too_short(
-                stack.len(),
-                height,
-                table.len() / 4,
-                variables.len(),
-                marks.len(),
-            ) {
-                return refusal(51, 0);
-            }
-            stack::clear(&mut stack[height..]);
-            play(table, stack, height, variables, marks, limit)
-        }
+    table::check(table)?;
+    if too_short(
+        stack.len(),
+        height,
+        row_count(table),
+        variables.len(),
+        marks.len(),
+    ) {
+        return Err(Refusal::Short);
     }
+    stack::clear(&mut stack[height..]);
+    Ok(play(table, stack, height, variables, marks, limit))
 }

@@ -7,17 +7,17 @@ use Rattle.machine.proofs.play.Goals as goal
 pub returns-then-steps-limit : goal.returns-then-steps-limit
 returns-then-steps-limit c = search (rules, told_spent)
 
-pub returns-in-Failed : goal.returns-in-Failed
-returns-in-Failed c =
+pub returns-in-Err : goal.returns-in-Err
+returns-in-Err c =
     let w = c.loop-height.invariant.within in
     let less : c.loop-height.steps < c.args.limit = omega arith in
-    told_failed _ _ _ _ _ _ c.loop-height.invariant c.loop-height-test.true c.due-row.ensures less (tried_as c.in-Failed.is c.step-tried.ensures)
+    told_failed _ _ _ _ _ _ c.loop-height.invariant c.loop-height-test.true c.due-row.ensures less (tried_as c.in-Err.is c.step.ensures)
 
 pub loop-height-preserved : goal.loop-height-preserved
 loop-height-preserved c =
     let w = c.loop-height.invariant.within in
     let less : c.loop-height.steps < c.args.limit = omega arith in
-    playing_on _ _ _ _ _ _ c.loop-height.invariant c.loop-height-test.true c.due-row.ensures less (tried_as c.in-On.is c.step-tried.ensures)
+    playing_on _ _ _ _ _ _ c.loop-height.invariant c.loop-height-test.true c.due-row.ensures less (tried_as c.in-Ok.is c.step.ensures)
 
 pub returns : goal.returns
 returns c = let z = c.loop-height-test.false in told_ended _ _ _ _ _ _ c.loop-height.invariant (omega arith)
