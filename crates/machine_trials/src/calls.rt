@@ -129,7 +129,7 @@ fn run_slices(
 ) -> io::Result<()> {
     write_answer(
         rt,
-        machine::run(table, stack, variables, marks, limit as u64),
+        RunAnswer::from(machine::run(table, stack, variables, marks, limit as u64)),
     )?;
     write_stack(rt, stack)?;
     write_values(rt, b"; variables", variables)?;
