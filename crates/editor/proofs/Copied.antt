@@ -1,9 +1,11 @@
 -- What the copy leaves at the front of a table is the records' words. Assumes nothing.
 --     copied       take (4 * n) of the table is `flat rs`, where n is the number of records and the table has the room
 --     within-fits  the records that are copied are there, and the table has room for them
+--     copied_more  one more record is put where the copy of those before it ends
+--     put_words    a part of four words that is written is a record at its place
 --     same_outcome the generator's outcome on the front of the table is the one on the records' words
 use mathlib.Core.Path.{◌≡◌, refl, sym, ap, subst, ◌∙◌}
-use Prim.Native.Nat.{ℕ, zero, suc, ◌+◌, ◌*◌, ◌<◌, ◌≤◌}
+use Prim.Native.Nat.{ℕ, zero, suc, ◌+◌, ◌-◌, ◌*◌, ◌<◌, ◌≤◌}
 use native.Mathlib.Nat.{not-suc-le-zero, le_of_suc-le-suc, le_refl}
 use native.Mathlib.Omega.{arith}
 use mathlib.Core.Bool.{Bool, true, false, not}
@@ -12,6 +14,7 @@ use mathlib.Core.List.{List, [], ◌∷◌, ◌++◌}
 use lib.Dec.{T, leb→le, nleb→lt}
 use lib.ListN.{length, get_or, set, take, drop, length-set}
 use lib.IntN.{ℤ}
+use borrow.Rule.Slice.PartMut.{put_mid, post_of, Post-is}
 use Rattle.editor.specs.Flat.{none, flat, put_row, copy_first, few, rows_copied}
 use Rattle.editor.specs.declared.Record.{Record}
 use Rattle.script.specs.Generated.{outcome}
@@ -82,6 +85,54 @@ copied_to rs (suc i) t l m =
   where
     less : (a b : ℕ) → suc a ≤ b → a ≤ b
     less a b h = omega arith
+
+-- one more record, put where the copy of those before it ends
+put_more : (i : ℕ) (rs : List Record) (t : List ℤ) → i < length rs → quad (suc i) ≤ length t
+    → put4 (flat (take i rs) ++ drop (quad i) t) (quad i) (get_or rs i none) ≡ flat (take (suc i) rs) ++ drop (quad (suc i)) t
+put_more i [] t l m = absurd (not-suc-le-zero l)
+put_more i (r ∷ rs) [] l m = absurd (not-suc-le-zero m)
+put_more i (r ∷ rs) (a ∷ []) l m = absurd (not-suc-le-zero (le_of_suc-le-suc m))
+put_more i (r ∷ rs) (a ∷ b ∷ []) l m = absurd (not-suc-le-zero (le_of_suc-le-suc (le_of_suc-le-suc m)))
+put_more i (r ∷ rs) (a ∷ b ∷ c ∷ []) l m = absurd (not-suc-le-zero (le_of_suc-le-suc (le_of_suc-le-suc (le_of_suc-le-suc m))))
+put_more zero (r ∷ rs) (a ∷ b ∷ c ∷ d ∷ t) l m = refl
+put_more (suc i) (r ∷ rs) (a ∷ b ∷ c ∷ d ∷ t) l m =
+    ap (λ (k : List ℤ). r.kind ∷ r.first ∷ r.second ∷ r.third ∷ k)
+    (put_more i rs t (le_of_suc-le-suc l) (le_of_suc-le-suc (le_of_suc-le-suc (le_of_suc-le-suc (le_of_suc-le-suc m)))))
+
+pub copied_more : (rs : List Record) (i : ℕ) (t : List ℤ) → i < length rs → 4 * suc i ≤ length t
+    → put_row (copy_first rs i t) i (get_or rs i none) ≡ copy_first rs (suc i) t
+copied_more rs i t l m =
+    let q : quad (suc i) ≤ length t = subst (λ (k : ℕ). k ≤ length t) (quad_is (suc i)) m in
+    let fits : quad i ≤ length t = less_4 (quad i) (length t) q in
+    put_is (copy_first rs i t) i (get_or rs i none)
+    ∙ ap (λ (k : List ℤ). put4 k (quad i) (get_or rs i none)) (copied_to rs i t (fewer i (length rs) l) fits)
+    ∙ put_more i rs t l q
+    ∙ sym (copied_to rs (suc i) t l q)
+  where
+    fewer : (a b : ℕ) → suc a ≤ b → a ≤ b
+    fewer a b h = omega arith
+
+-- the four words in one piece
+piece : (j : ℕ) (t : List ℤ) (r : Record) → suc (suc (suc (suc j))) ≤ length t
+    → take j t ++ (r.kind ∷ r.first ∷ r.second ∷ r.third ∷ drop (suc (suc (suc (suc j)))) t) ≡ put4 t j r
+piece zero [] r l = absurd (not-suc-le-zero l)
+piece zero (a ∷ []) r l = absurd (not-suc-le-zero (le_of_suc-le-suc l))
+piece zero (a ∷ b ∷ []) r l = absurd (not-suc-le-zero (le_of_suc-le-suc (le_of_suc-le-suc l)))
+piece zero (a ∷ b ∷ c ∷ []) r l = absurd (not-suc-le-zero (le_of_suc-le-suc (le_of_suc-le-suc (le_of_suc-le-suc l))))
+piece zero (a ∷ b ∷ c ∷ d ∷ t) r l = refl
+piece (suc j) [] r l = absurd (not-suc-le-zero l)
+piece (suc j) (x ∷ t) r l = ap (λ (k : List ℤ). x ∷ k) (piece j t r (le_of_suc-le-suc l))
+
+pub put_words : (t ys : List ℤ) (i : ℕ) (r : Record) → ys ≡ r.kind ∷ r.first ∷ r.second ∷ r.third ∷ [] → 4 * i + 4 ≤ length t
+    → put_mid (4 * i) (4 * i + 4 - 4 * i) t ys ≡ put_row t i r
+put_words t ys i r e h =
+    let past : 4 * i + 4 ≡ suc (suc (suc (suc (quad i)))) = omega (arith, quad_is i) in
+    ap (λ (v : List ℤ). take (4 * i) t ++ (v ++ post_of (4 * i) (4 * i + 4 - 4 * i) t)) e
+    ∙ ap (λ (u : List ℤ). take (4 * i) t ++ (r.kind ∷ r.first ∷ r.second ∷ r.third ∷ u))
+    (Post-is (4 * i) (4 * i + 4) t (omega arith) ∙ ap (λ (n : ℕ). drop n t) past)
+    ∙ ap (λ (n : ℕ). take n t ++ (r.kind ∷ r.first ∷ r.second ∷ r.third ∷ drop (suc (suc (suc (suc (quad i))))) t)) (quad_is i)
+    ∙ piece (quad i) t r (omega (arith, past))
+    ∙ sym (put_is t i r)
 
 all_taken : (rs : List Record) → take (length rs) rs ≡ rs
 all_taken [] = refl

@@ -2,11 +2,12 @@
 // four words to a row." It copies the records into a local run of words and calls the generator on them.
 #![tactic(auto)]
 
-ghost use Rattle.std.specs.Prelude.{◌≡◌, ◌+◌, ◌*◌, ◌<◌, ◌≤◌, length, get_or, take};
-ghost use Rattle.editor.specs.Flat.{none, flat, put_row, copy_first, rows_copied};
+ghost use Rattle.std.specs.Prelude.{◌≡◌, ◌+◌, ◌*◌, ◌≤◌, length, take};
+ghost use Rattle.editor.specs.Flat.{flat, put_row, copy_first, rows_copied};
+ghost use Rattle.generator.specs.Answers.{answer_of};
 ghost use Rattle.generator.specs.Whole.{Left};
 
-use script::Answer;
+use generator::{Plan, Refusal};
 
 // A row of a table: its kind and its three fields.
 #[repr(C)]
@@ -18,41 +19,23 @@ pub struct Record {
     pub third: i32,
 }
 
-// One record, copied out.
-fn record_at(rows: &[Record], i: usize) -> Record
-    requires { i < length rows.now }
-    ensures { result ≡ get_or rows.now i none }
-{
-    rows[i]
-}
-
 // Puts the four words of row i at their places.
 fn put_row(table: &mut [i32], i: usize, r: Record)
     requires { 4 * i + 4 ≤ length table.old }
     ensures { table.new ≡ put_row table.old i r }
 {
     let at = 4 * i;
-    let kind = r.kind;
-    let first = r.first;
-    let second = r.second;
-    let third = r.third;
-    table[at] = kind;
-    table[at + 1] = first;
-    table[at + 2] = second;
-    table[at + 3] = third;
+    table[at..at + 4].copy_from_slice(&[r.kind, r.first, r.second, r.third]);
 }
 
-// Puts the first n records at their places, the last of them first.
+// Puts the first n records at their places.
 fn copy_first(rows: &[Record], n: usize, table: &mut [i32])
     requires { (n ≤ length rows.now) × (4 * n ≤ length table.old) }
     ensures { table.new ≡ copy_first rows.now n table.old }
 {
-    if n == 0 {
-        return;
+    for i in 0..n {
+        put_row(&mut *table, i, rows[i]);
     }
-    let i = n - 1;
-    put_row(&mut *table, i, record_at(rows, i));
-    copy_first(rows, i, table)
 }
 
 // How many of n records are copied: none where they are over 2,048.
@@ -64,17 +47,21 @@ fn within(n: usize) -> usize
 
 // The generator on the front of the table: on no words where the records are over 2,048, which it refuses as it does
 // over 8,192 words.
-fn front(table: &[i32], n: usize, list: &mut [i32], scratch: &mut [i32]) -> Answer
+fn front(table: &[i32], n: usize, list: &mut [i32], scratch: &mut [i32]) -> Result<Plan, Refusal>
     requires { length table.now ≡ 8192 }
-    ensures { Left (take (4 * rows_copied n) table.now) (length list.old) (length scratch.old) result list.new scratch.new }
+    ensures { Left (take (4 * rows_copied n) table.now) (length list.old) (length scratch.old) (answer_of result) list.new scratch.new }
 {
     let end = 4 * within(n);
     generator::generate(&table[..end], list, scratch)
 }
 
 // Lists the conditions of the script that the records hold.
-pub fn generate_records(records: &[Record], list: &mut [i32], scratch: &mut [i32]) -> Answer
-    ensures { Left (flat records.now) (length list.old) (length scratch.old) result list.new scratch.new }
+pub fn generate_records(
+    records: &[Record],
+    list: &mut [i32],
+    scratch: &mut [i32],
+) -> Result<Plan, Refusal>
+    ensures { Left (flat records.now) (length list.old) (length scratch.old) (answer_of result) list.new scratch.new }
 {
     let mut table = [0i32; 8192];
     let n = records.len();

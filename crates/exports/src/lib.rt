@@ -160,7 +160,7 @@ pub extern "C" fn leqwarti_generate(
     ensures scratch { scratch.new ≡ (outcome table.now (length list.old) (length scratch.old)).scratch }
     ensures demand { Demand3 table.now (answer_of number.new row.new conditions.new words.new) list.new }
 {
-    let answer = generator::generate(table, list, scratch);
+    let answer = generator::told(generator::generate(table, list, scratch));
     tell(answer, number, row, conditions, words)
 }
 
@@ -183,7 +183,7 @@ pub extern "C" fn leqwarti_generate_records(
     ensures scratch { scratch.new ≡ (outcome (flat records.now) (length list.old) (length scratch.old)).scratch }
     ensures demand { Demand3 (flat records.now) (answer_of number.new row.new conditions.new words.new) list.new }
 {
-    let answer = editor::generate_records(records, list, scratch);
+    let answer = generator::told(editor::generate_records(records, list, scratch));
     tell(answer, number, row, conditions, words)
 }
 

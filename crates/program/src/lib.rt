@@ -7,7 +7,8 @@ ghost use Rattle.printer.specs.Input.{words_of};
 ghost use Rattle.printer.specs.Output.{output, table_output};
 ghost use Rattle.program.specs.Answers.{unread_output};
 
-use script::Answer;
+use rows::Fault;
+use script::RowNumber;
 
 // Writes the text for a table. A list of 512 words has a text of at most 6,208 bytes.
 fn report_table(table: &[i32], out: &mut [u8]) -> usize
@@ -17,9 +18,8 @@ fn report_table(table: &[i32], out: &mut [u8]) -> usize
 {
     let mut list = [0i32; 512];
     let mut scratch = [0i32; 5120];
-    let answer = generator::generate(table, &mut list, &mut scratch);
-    let used = answer.words;
-    printer::render(answer, &list[..used], out)
+    let answer = generator::told(generator::generate(table, &mut list, &mut scratch));
+    printer::render(answer, &list[..answer.words], out)
 }
 
 // Writes the text for an input that spells a table of at most 2,048 rows.
@@ -39,14 +39,12 @@ fn report_length(out: &mut [u8]) -> usize
     ensures wrote { Wrote out.old 0 unread_output result out.new }
     ensures upper_bound { result ≤ length out.old }
 {
-    let answer = Answer {
-        number: 1,
-        row: 0,
-        conditions: 0,
-        words: 0,
+    let refused = table::Refusal {
+        fault: Fault::BadLength,
+        row: RowNumber(0),
     };
-    let none = [0i32; 0];
-    printer::render(answer, &none, out)
+    let answer = generator::told(Err(generator::Refusal::Table(refused)));
+    printer::render(answer, &[], out)
 }
 
 // Writes what the program writes for this input, which has room, and gives the number of bytes.
@@ -54,10 +52,7 @@ pub fn report(input: &[u8], out: &mut [u8; 6208]) -> usize
     ensures wrote { Wrote out.old 0 (output input.now) result out.new }
     ensures upper_bound { result ≤ length out.old }
 {
-    let n = input.len();
-    if n % 4 != 0 {
-        report_length(out)
-    } else if 32768 < n {
+    if input.len() % 4 != 0 || 32768 < input.len() {
         report_length(out)
     } else {
         report_words(input, out)

@@ -81,7 +81,7 @@ fn say_depths(rt: &impl Print, list: &[i32], conditions: usize) -> io::Result<()
 fn generated(rt: &impl Print, name: &str, table: &[i32]) -> io::Result<()> {
     let mut list = [7; 512];
     let mut scratch = [7; 5120];
-    let answer = generator::generate(table, &mut list, &mut scratch);
+    let answer = generator::told(generator::generate(table, &mut list, &mut scratch));
     let conditions = answer.conditions;
     let words = answer.words;
     run::say(rt, name, answer)?;

@@ -30,7 +30,11 @@ pub fn words(
     let mut list = [7; 512];
     let mut scratch = [7; 5120];
     if room <= 512 && lent <= 5120 {
-        let answer = generator::generate(table, &mut list[..room], &mut scratch[..lent]);
+        let answer = generator::told(generator::generate(
+            table,
+            &mut list[..room],
+            &mut scratch[..lent],
+        ));
         say(rt, name, answer)?;
     }
     Ok(())
@@ -45,7 +49,11 @@ pub fn rows(rt: &impl Print, name: &str, rows: &str, room: usize, lent: usize) -
 pub fn listed(rt: &impl Print, name: &str, rows: &str) -> io::Result<()> {
     let mut list = [7; 512];
     let mut scratch = [7; 5120];
-    let answer = generator::generate(&printed::numbers(rows), &mut list, &mut scratch);
+    let answer = generator::told(generator::generate(
+        &printed::numbers(rows),
+        &mut list,
+        &mut scratch,
+    ));
     let words = answer.words;
     say(rt, name, answer)?;
     if let Some(written) = list.get(..words) {

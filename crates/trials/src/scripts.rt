@@ -43,7 +43,7 @@ pub fn all(rt: &impl Print) -> io::Result<()> {
     let mut text = [7; 512];
     let mut exact = [7; 179];
     let mut short = [7; 178];
-    generator::generate(&table, &mut list, &mut scratch);
+    let _ = generator::generate(&table, &mut list, &mut scratch);
     script(rt, &list, 0, &mut text)?;
     script(rt, &list, 1, &mut text)?;
     script(rt, &list, 2, &mut exact)?;

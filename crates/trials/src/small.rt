@@ -31,7 +31,7 @@ pub fn list(rt: &impl Print) -> io::Result<()> {
     run::say(
         rt,
         "four rows",
-        generator::generate(&FOUR_ROWS, &mut list, &mut scratch),
+        generator::told(generator::generate(&FOUR_ROWS, &mut list, &mut scratch)),
     )?;
     output::list(rt, "four rows", &list)
 }
