@@ -9,9 +9,5 @@ ghost use Rattle.script.specs.Generated.{zeros};
 pub fn clear(words: &mut [i32])
     ensures { words.new ≡ zeros (length words.old) }
 {
-    let mut i = 0;
-    while i < words.len() {
-        words[i] = 0;
-        i += 1;
-    }
+    words.fill(0);
 }

@@ -320,12 +320,22 @@ pub extern "C" fn leqwarti_mend(
     ensures new { new.new ≡ (mended table.now (length new.old) (length origins.old)).table }
     ensures origins { origins.new ≡ (mended table.now (length new.old) (length origins.old)).origins }
 {
-    let mending = mender::mend(table, new, origins);
-    *number = mending.number;
-    *row = mending.row;
-    *words = mending.words;
-    *dropped = mending.dropped;
-    *copied = mending.copied;
+    match mender::mend(table, new, origins) {
+        Ok(counts) => {
+            *number = 0;
+            *row = 0;
+            *words = counts.words;
+            *dropped = counts.dropped;
+            *copied = counts.copied;
+        }
+        Err(unmendable) => {
+            *number = unmendable.number();
+            *row = unmendable.row();
+            *words = 0;
+            *dropped = 0;
+            *copied = 0;
+        }
+    }
 }
 
 // Runs the table's script from its beginning, up to a limit of steps: number and row, the whole steps done, and the height of the stack.

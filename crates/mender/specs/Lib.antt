@@ -15,4 +15,5 @@ pub mod RowWords
 pub mod RowWriting
 pub mod TableWriting
 pub mod TableWritten
+pub mod Answers
 pub mod Whole

@@ -1,5 +1,5 @@
 -- Sizes of rows, counted upward in an array and capped (`Sizings`); the size of a row from those of its parts, by its letters
--- (`sized_under`, `sized_over`). Assumes nothing.
+-- (`sized`, `sized_under`, `sized_over`). Assumes nothing.
 use Rattle.std.specs.Prelude.{ℕ, suc, ◌+◌, ◌-◌, ◌≤◌, ◌<◌, min, ◌≡◌, refl, Bool, true, false, cond, List, [], ◌∷◌, ℤ, length, get_or, set}
 use Rattle.std.proofs.Common.{sym, ap, ◌∙◌, arith as linear, le-ltb, lt-ltb, ltb-true, length-set, get_or-set_same, get_or-set_other}
 use Rattle.std.proofs.Math.Decide.{ℕ_discrete}
@@ -112,6 +112,9 @@ module _ {t : List ℤ} (ok : Checked t) {r n : ℕ} {s : List ℕ} (z : Sizings
 
     pub sized_over : 2049 ≤ a + b + c + 1 → 2049 ≡ min cap (size t r)
     sized_over l = let e : 2049 ≡ min cap (a + b + c + 1) = omega linear in e ∙ sum_is
+
+    pub sized : min (a + b + c + 1) cap ≡ min cap (size t r)
+    sized = let e : min (a + b + c + 1) cap ≡ min cap (a + b + c + 1) = omega linear in e ∙ sum_is
 
 -- ---- all rows
 

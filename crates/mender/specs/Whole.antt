@@ -1,6 +1,6 @@
 -- The whole answer: each way out of the entry is the outcome that `Mended.mended` defines (`told_refused`, `told_mended`).
 -- Assumes nothing.
-use Rattle.std.specs.Prelude.{ℕ, ◌*◌, ◌-◌, ◌≤◌, ◌<◌, ◌≡◌, Bool, true, false, cond, ltb, ℤ, length, get_or}
+use Rattle.std.specs.Prelude.{ℕ, ◌*◌, ◌-◌, ◌≤◌, ◌<◌, ◌≡◌, Bool, true, false, cond, ltb, ℤ, length, get_or, Option, Some, None, Result, Ok, Err}
 use Rattle.std.proofs.Math.Path.{refl, ap}
 use Rattle.std.proofs.Common.{sym, subst, ◌∙◌, arith as linear}
 use mathlib.Core.List.{List, ◌++◌, map}
@@ -18,39 +18,39 @@ use Rattle.mending.specs.Mended.{Mended, mend_verdict, mended, mark_test, part_t
 use Rattle.mending.specs.Mendable.{Mendable, Fits, mendable, fits}
 use Rattle.mending.specs.Capped.{capped_exact}
 use Rattle.mending.specs.Counts.{among_length, reached_are}
-use Rattle.mender.specs.declared.MendAnswer.{MendAnswer}
+use Rattle.script.specs.declared.RowNumber.{RowNumber}
+use Rattle.mender.specs.declared.Counts.{Counts}
+use Rattle.mender.specs.declared.Unmendable.{Unmendable}
+use Rattle.mender.specs.Answers.{number, row, number_of, row_of, words_of, dropped_of, copied_of}
 use Rattle.mender.specs.Checked.{Checked}
 use Rattle.mender.specs.Reaching.{ReachTold}
 use Rattle.mender.specs.Parts.{checked_of}
 use Rattle.mender.specs.Sizing.{Sizings, total_at}
 use Rattle.mender.specs.TableWritten.{TableReady}
 
-abbrev pub refused_answer : ℕ → ℕ → MendAnswer
-refused_answer n r = record { number = n; row = r; words = 0; dropped = 0; copied = 0 }
-
 -- a run of zeros
 abbrev pub Cleared : List ℤ → Type 0
 Cleared ws = ws ≡ zeros (length ws)
 
 -- the answer and both runs are those of the outcome
-pub record Told (m : Mended) (a : MendAnswer) (new os : List ℤ) : Type 0 where
-  pub number : a.number ≡ m.number
-  pub row : a.row ≡ m.row
-  pub words : a.words ≡ m.words
-  pub dropped : a.dropped ≡ m.dropped
-  pub copied : a.copied ≡ m.copied
+pub record Told (m : Mended) (a : Result Counts Unmendable) (new os : List ℤ) : Type 0 where
+  pub number : number_of a ≡ m.number
+  pub row : row_of a ≡ m.row
+  pub words : words_of a ≡ m.words
+  pub dropped : dropped_of a ≡ m.dropped
+  pub copied : copied_of a ≡ m.copied
   pub table : new ≡ m.table
   pub run : os ≡ m.origins
 
-pub told_as : (t : List ℤ) {a a' b b' : ℕ} {r : MendAnswer} {new os : List ℤ} → a ≡ a' → b ≡ b'
+pub told_as : (t : List ℤ) {a a' b b' : ℕ} {r : Result Counts Unmendable} {new os : List ℤ} → a ≡ a' → b ≡ b'
     → Told (mended t a b) r new os → Told (mended t a' b') r new os
 told_as t {a} {a'} {b} {b'} {r} {new} {os} ea eb T =
     subst (λ (n : ℕ). Told (mended t n b') r new os) ea (subst (λ (n : ℕ). Told (mended t a n) r new os) eb T)
 
 -- clause by clause
-pub clauses : {m : Mended} {a : MendAnswer} {new os : List ℤ} → Told m a new os
-    → (a.number ≡ m.number) × ((a.row ≡ m.row) × ((a.words ≡ m.words) × ((a.dropped ≡ m.dropped)
-    × ((a.copied ≡ m.copied) × ((new ≡ m.table) × (os ≡ m.origins))))))
+pub clauses : {m : Mended} {a : Result Counts Unmendable} {new os : List ℤ} → Told m a new os
+    → (number_of a ≡ m.number) × ((row_of a ≡ m.row) × ((words_of a ≡ m.words) × ((dropped_of a ≡ m.dropped)
+    × ((copied_of a ≡ m.copied) × ((new ≡ m.table) × (os ≡ m.origins))))))
 clauses T = (T.number, (T.row, (T.words, (T.dropped, (T.copied, (T.table, T.run))))))
 
 -- a table that passes the tests before 14, and how many rows its script reaches
@@ -62,12 +62,12 @@ pub record Counting (t : List ℤ) (count : ℕ) : Type 0 where
 
 -- ---- ways out
 
-pub told_refused : (t : List ℤ) {a : MendAnswer} {new os : List ℤ} (table_room origins_room n r : ℕ)
-    → mend_verdict t table_room origins_room ≡ refused n r → a ≡ refused_answer n r
-    → new ≡ zeros table_room → os ≡ zeros origins_room → Told (mended t table_room origins_room) a new os
+pub told_refused : (t : List ℤ) {new os : List ℤ} (table_room origins_room : ℕ) (e : Unmendable)
+    → mend_verdict t table_room origins_room ≡ refused (number e) (row e)
+    → new ≡ zeros table_room → os ≡ zeros origins_room → Told (mended t table_room origins_room) (Err e) new os
 unfolding mended
-told_refused t table_room origins_room n r v e en eo =
-    rw (v, mended, e) (record { number = refl; row = refl; words = refl; dropped = refl; copied = refl; table = en; run = eo })
+told_refused t table_room origins_room e v en eo =
+    rw (v, mended) (record { number = refl; row = refl; words = refl; dropped = refl; copied = refl; table = en; run = eo })
 
 module _ {t : List ℤ} {count n : ℕ} {s : List ℕ} {new os : List ℤ} (C : Counting t count) (z : Sizings t (rows t) s)
     (e : n ≡ get_or s (rows t - 1) 0) (cn : Cleared new) (co : Cleared os) where
@@ -79,9 +79,8 @@ module _ {t : List ℤ} {count n : ℕ} {s : List ℕ} {new os : List ℤ} (C : 
   unfolding size_test
   verdict_is {b} d = C.passed (length new) (length os) ∙ rw (← counted_is, ← d)
 
-  pub told_too_long : {a : MendAnswer} → true ≡ too_long (length new) (length os) n → a ≡ refused_answer 14 0
-      → Told (mended t (length new) (length os)) a new os
-  told_too_long d ea = told_refused t (length new) (length os) 14 0 (verdict_is d) ea cn co
+  pub told_too_long : true ≡ too_long (length new) (length os) n → Told (mended t (length new) (length os)) (Err Unmendable.TooLong) new os
+  told_too_long d = told_refused t (length new) (length os) Unmendable.TooLong (verdict_is d) cn co
 
   module _ (d : false ≡ too_long (length new) (length os) n) where
     ok : Mendable t
@@ -115,17 +114,17 @@ module _ {t : List ℤ} {count n : ℕ} {s : List ℕ} {new os : List ℤ} (C : 
         let g = held.few in
         (omega linear, omega linear)
 
-    pub told_mended : {new' os' : List ℤ} → new' ≡ new_table t ++ zeros (length new - 4 * n)
+    pub told_mended : {m : ℕ} {new' os' : List ℤ} → m ≡ rows t → new' ≡ new_table t ++ zeros (length new - 4 * n)
         → os' ≡ map pos (origins t) ++ zeros (length os - n)
         → Told (mended t (length new) (length os))
-        (record { number = 0; row = 0; words = 4 * n; dropped = rows t - count; copied = n - count }) new' os'
+        (Ok (record { words = 4 * n; dropped = m - count; copied = n - count })) new' os'
     unfolding mended
-    told_mended en eo =
+    told_mended em en eo =
         rw (verdict_is d, mended) (record {
           number = refl;
           row = refl;
           words = ap (λ (k : ℕ). 4 * k) total;
-          dropped = ap (λ (k : ℕ). rows t - k) C.counted;
+          dropped = rw (em, C.counted);
           copied = rw (total, C.counted);
           table = en ∙ ap (λ (k : ℕ). new_table t ++ zeros (length new - 4 * k)) total;
           run = eo ∙ ap (λ (k : ℕ). map pos (origins t) ++ zeros (length os - k)) total;
@@ -197,16 +196,16 @@ module _ (t : List ℤ) where
       go accepted (refused m q) w x h = h
       go (refused m q) v w x h = h
 
-  module _ (p : Passed t) {count low : ℕ} (R : ReachTold t count low) where
-    pub marks_refused : low < rows t → (a b : ℕ) → mend_verdict t a b ≡ refused 13 low
+  module _ (p : Passed t) {count : ℕ} (mark : Option RowNumber) (R : ReachTold t count mark) where
+    pub marks_refused : {r : RowNumber} → mark ≡ Some r → (a b : ℕ) → mend_verdict t a b ≡ refused 13 r.0
     unfolding mend_verdict
-    marks_refused h a b = rw (p.length, p.part, p.script, R.tested, lt-ltb low (rows t) h)
+    marks_refused h a b = rw (p.length, p.part, p.script, R.tested, h)
 
-    pub counting : rows t ≤ low → Counting t count
+    pub counting : mark ≡ None → Counting t count
     unfolding mend_verdict
     counting h = record {
       checked = passed_checked p;
-      passed = λ a b. rw (p.length, p.part, p.script, R.tested, le-ltb low (rows t) h);
+      passed = λ a b. rw (p.length, p.part, p.script, R.tested, h);
       counted = R.counted;
       few = R.few;
     }

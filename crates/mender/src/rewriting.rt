@@ -104,10 +104,8 @@ pub fn write_table(
 {
     let kinds = rows::kinds();
     let mut latest: [u16; 2048] = [0; 2048];
-    origins[total - 1] = (table.len() / 4 - 1) as i32;
-    let mut k = total;
-    while 0 < k {
-        k -= 1;
+    origins[total - 1] = (script::row_count(table) - 1) as i32;
+    for k in (0..total).rev() {
         let r = script::field_number(origins[k]);
         write_row(table, &kinds, sizes, &latest, k, r, new, origins);
         latest[r] = k as u16;

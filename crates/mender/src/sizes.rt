@@ -21,9 +21,10 @@ fn part_size(
     ensures { result ≡ Sizing·part-size sizes.now (letter_at of i) (field_number (word table.now r i)) }
 {
     if kinds[of + i] < b'_' {
-        return sizes[script::field(table, r, i)] as usize;
+        sizes[script::field(table, r, i)] as usize
+    } else {
+        0
     }
-    0
 }
 
 // The size of row r, from those of the rows below it.
@@ -35,8 +36,7 @@ fn row_size(table: &[i32], kinds: &[u8; 196], r: usize, sizes: &[u16; 2048]) -> 
     let a = part_size(table, kinds, r, of, 1, sizes);
     let b = part_size(table, kinds, r, of, 2, sizes);
     let c = part_size(table, kinds, r, of, 3, sizes);
-    let size = a + b + c + 1;
-    if size < 2049 { size } else { 2049 }
+    (a + b + c + 1).min(2049)
 }
 
 // The sizes of all rows.
@@ -45,10 +45,7 @@ pub fn count(table: &[i32], sizes: &mut [u16; 2048])
     ensures { Sizings table.now (rows table.now) sizes.new }
 {
     let kinds = rows::kinds();
-    let rows = table.len() / 4;
-    let mut r: usize = 0;
-    while r < rows {
+    for r in 0..script::row_count(table) {
         sizes[r] = row_size(table, &kinds, r, sizes) as u16;
-        r += 1;
     }
 }

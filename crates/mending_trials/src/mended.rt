@@ -1,17 +1,23 @@
 // Tables with shared parts, mended (02, P7): every field of the answer, and every word of both runs, which were 7 before.
 
-use mender::MendAnswer;
+use mender::{Counts, Unmendable};
 use std::io;
 use trial_words::{output, printed};
 
-pub fn say_answer(rt: &impl Print, name: &str, answer: MendAnswer) -> io::Result<()> {
-    let MendAnswer {
-        number,
-        row,
+pub fn say_answer(
+    rt: &impl Print,
+    name: &str,
+    answer: Result<Counts, Unmendable>,
+) -> io::Result<()> {
+    let (number, row, counts) = match answer {
+        Ok(counts) => (0, 0, counts),
+        Err(unmendable) => (unmendable.number(), unmendable.row(), Counts::default()),
+    };
+    let Counts {
         words,
         dropped,
         copied,
-    } = answer;
+    } = counts;
     println!(rt;
         "{name}: number {number}, row {row}, words {words}, dropped {dropped}, copied {copied}"
     )

@@ -8,8 +8,8 @@ use Rattle.mender.specs.TableWritten.{pass_run, pass_start, pass_table, some_row
 use Rattle.mender.proofs.rewriting.write_table.Goals as goal
 
 -- the script's row as a word
-script_row : {t : List ℤ} → Checked t → to_z w32 (of_z w32 (pos (rows t - 1))) ≡ pos (rows t - 1)
-script_row {t} ok = let a = ok.size.short in back {z = pos (rows t - 1)} (omega arith)
+script_row : {t : List ℤ} {n : ℕ} → Checked t → n ≡ rows t → to_z w32 (of_z w32 (pos (n - 1))) ≡ pos (rows t - 1)
+script_row {t} ok e = let a = ok.size.short in rw e (back {z = pos (rows t - 1)} (omega arith))
 
 pub overflow_sub-total : goal.overflow_sub-total
 overflow_sub-total c = omega (arith, some_row c.requires)
@@ -20,13 +20,13 @@ bounds-origins-total c = omega (arith, some_row c.requires, c.requires.origins_h
 pub loop-k-init : goal.loop-k-init
 loop-k-init c = (
   c.kinds-kinds.ensures,
-  (length-replicate {A = ℕ} 2048 0, (c.requires.mendable, pass_start c.requires _ (script_row c.requires.checked))),
+  (length-replicate {A = ℕ} 2048 0, (c.requires.mendable, pass_start c.requires _ (script_row c.requires.checked c.row_count.ensures))),
 )
 
 pub write_row-requires : goal.write_row-requires
 write_row-requires c =
     let i = c.loop-k.invariant in (
-      turn_ready c.requires _ (script_row c.requires.checked) i.1.1.1 c.loop-k-test.true
+      turn_ready c.requires _ (script_row c.requires.checked c.row_count.ensures) i.1.1.1 c.loop-k-test.true
           (rw (back {z = get_or c.loop-k.origins (c.loop-k.k - 1) (pos 0)} (search rules)) at c.field_number-r.ensures),
       i.0,
     )
@@ -34,7 +34,7 @@ write_row-requires c =
 pub bounds-latest-r : goal.bounds-latest-r
 bounds-latest-r c =
     let i = c.loop-k.invariant in
-    let R = turn_ready c.requires _ (script_row c.requires.checked) i.1.1.1 c.loop-k-test.true (rw (back {z = get_or c.loop-k.origins (c.loop-k.k - 1) (pos 0)} (search rules)) at c.field_number-r.ensures) in
+    let R = turn_ready c.requires _ (script_row c.requires.checked c.row_count.ensures) i.1.1.1 c.loop-k-test.true (rw (back {z = get_or c.loop-k.origins (c.loop-k.k - 1) (pos 0)} (search rules)) at c.field_number-r.ensures) in
     omega (arith, R.inside, c.requires.checked.size.short)
 
 pub loop-k-preserved : goal.loop-k-preserved
@@ -44,7 +44,7 @@ loop-k-preserved c =
     (i.0, (length-set c.loop-k.latest _ _ ∙ i.1.0, (i.1.1.0, W)))
 
 pub returns-clause-table : goal.returns-clause-table
-returns-clause-table c = pass_table c.requires _ (script_row c.requires.checked) c.loop-k.invariant.1.1.1 c.loop-k-test.false
+returns-clause-table c = pass_table c.requires _ (script_row c.requires.checked c.row_count.ensures) c.loop-k.invariant.1.1.1 c.loop-k-test.false
 
 pub returns-clause-origins : goal.returns-clause-origins
-returns-clause-origins c = pass_run c.requires _ (script_row c.requires.checked) c.loop-k.invariant.1.1.1 c.loop-k-test.false
+returns-clause-origins c = pass_run c.requires _ (script_row c.requires.checked c.row_count.ensures) c.loop-k.invariant.1.1.1 c.loop-k-test.false

@@ -9,6 +9,3 @@ abbrev pub invariant-loop-k : goal.invariant-loop-k
 invariant-loop-k l =
     (l.kinds ≡ patterns) × ((length l.latest ≡ 2048)
     × ((ok : Mendable l.fn.table) × Wrote l.fn.table ok (length l.initial.new) (length l.initial.origins) l.k l.new l.origins l.latest))
-
-abbrev pub decreases-loop-k : goal.decreases-loop-k
-decreases-loop-k l = l.k

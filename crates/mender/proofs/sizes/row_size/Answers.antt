@@ -1,7 +1,7 @@
 -- One more than the sizes of its parts, capped.
-use Rattle.std.proofs.Common.{arith}
+use Rattle.std.proofs.Common.{arith, ◌∙◌}
 use Rattle.mender.specs.Checked.{field_at, listed_kind}
-use Rattle.mender.specs.Sizing.{first_sized, second_sized, sized_over, sized_under, sum_small, third_sized}
+use Rattle.mender.specs.Sizing.{first_sized, second_sized, sized, sum_small, third_sized}
 use Rattle.mender.proofs.sizes.row_size.Goals as goal
 
 pub overflow_mul-of : goal.overflow_mul-of
@@ -25,24 +25,15 @@ part_size-c-requires c = (
   third_sized c.requires.0 c.requires.1.1.0 c.requires.1.0 c.field-of.ensures,
 )
 
-pub overflow_add-size : goal.overflow_add-size
-overflow_add-size c =
-    record { fits = omega (arith, sum_small c.requires.0 c.requires.1.1.0 c.requires.1.0 c.field-of.ensures c.part_size-a.ensures c.part_size-b.ensures c.part_size-c.ensures) }
+pub overflow_add-a : goal.overflow_add-a
+overflow_add-a c = record { fits = omega (arith, sum_small c.requires.0 c.requires.1.1.0 c.requires.1.0 c.field-of.ensures c.part_size-a.ensures c.part_size-b.ensures c.part_size-c.ensures) }
 
-pub overflow_add-size-2 : goal.overflow_add-size-2
-overflow_add-size-2 c =
-    record { fits = omega (arith, sum_small c.requires.0 c.requires.1.1.0 c.requires.1.0 c.field-of.ensures c.part_size-a.ensures c.part_size-b.ensures c.part_size-c.ensures) }
+pub overflow_add-a-2 : goal.overflow_add-a-2
+overflow_add-a-2 c = record { fits = omega (arith, sum_small c.requires.0 c.requires.1.1.0 c.requires.1.0 c.field-of.ensures c.part_size-a.ensures c.part_size-b.ensures c.part_size-c.ensures) }
 
-pub overflow_add-size-3 : goal.overflow_add-size-3
-overflow_add-size-3 c =
-    record { fits = omega (arith, sum_small c.requires.0 c.requires.1.1.0 c.requires.1.0 c.field-of.ensures c.part_size-a.ensures c.part_size-b.ensures c.part_size-c.ensures) }
+pub overflow_add-a-3 : goal.overflow_add-a-3
+overflow_add-a-3 c = record { fits = omega (arith, sum_small c.requires.0 c.requires.1.1.0 c.requires.1.0 c.field-of.ensures c.part_size-a.ensures c.part_size-b.ensures c.part_size-c.ensures) }
 
-pub returns-then-size-lt2049 : goal.returns-then-size-lt2049
-returns-then-size-lt2049 c =
-    sized_under c.requires.0 c.requires.1.1.0 c.requires.1.0 c.field-of.ensures
-    c.part_size-a.ensures c.part_size-b.ensures c.part_size-c.ensures c.if-size-lt2049.true
-
-pub returns-else-size-lt2049 : goal.returns-else-size-lt2049
-returns-else-size-lt2049 c =
-    sized_over c.requires.0 c.requires.1.1.0 c.requires.1.0 c.field-of.ensures
-    c.part_size-a.ensures c.part_size-b.ensures c.part_size-c.ensures c.if-size-lt2049.false
+pub returns : goal.returns
+returns c =
+    c.min.ensures ∙ sized c.requires.0 c.requires.1.1.0 c.requires.1.0 c.field-of.ensures c.part_size-a.ensures c.part_size-b.ensures c.part_size-c.ensures
