@@ -2,201 +2,98 @@
 
 ghost use Rattle.std.specs.Prelude.{◌<◌, IfOk};
 
-use crate::numbers;
 use machine::RunAnswer;
 use std::io;
 
-fn number_at(found: &[i64; 8192], i: usize) -> i64 {
-    if i < 8192 { found[i] } else { 0 }
-}
-
-// A number that counts something; 0 where it is negative or too large.
-fn count_at(found: &[i64; 8192], i: usize) -> usize
+// A number that counts something; 0 where it is negative or too large, or there is none.
+fn count_at(numbers: &[i64], i: usize) -> usize
     ensures { result < 4096 }
 {
-    let z = number_at(found, i);
-    let m = numbers::magnitude(z);
-    if 0 <= z {
-        if m < 4096 {
-            return m as usize;
-        }
-    }
-    0
-}
-
-// A number as a word of a table; 0 where 32 bits do not hold it.
-fn narrow(z: i64) -> i32 {
-    if numbers::magnitude(z) < 2147483648 {
-        z as i32
-    } else {
-        0
+    match numbers.get(i) {
+        Some(n) if 0 <= *n && *n < 4096 => *n as usize,
+        _ => 0,
     }
 }
 
-// The variable of pair i of those that stand from a place on.
-fn set_variable(found: &[i64; 8192], from: usize, i: usize, variables: &mut [i64; 1024]) {
-    if from < 8192 {
-        if i < 4096 {
-            let at = from + 2 * i;
-            let v = count_at(found, at);
-            if v < 1024 {
-                variables[v] = number_at(found, at + 1);
-            }
+// The variables of pairs: which, and its value.
+fn set_variables(pairs: &[i64], variables: &mut [i64; 1024]) {
+    for pair in pairs.as_chunks::<2>().0 {
+        if let Some(variable) = variables.get_mut(count_at(pair, 0)) {
+            *variable = pair[1];
         }
     }
 }
 
-// The variables of n pairs.
-fn set_variables(found: &[i64; 8192], from: usize, n: usize, variables: &mut [i64; 1024]) {
-    let mut i: usize = 0;
-    while i < n {
-        set_variable(found, from, i, variables);
-        i += 1;
+// The words of a table; 0 where 32 bits do not hold a number.
+fn set_table(numbers: &[i64], table: &mut [i32; 512]) {
+    for (word, number) in table.iter_mut().zip(numbers) {
+        *word = i32::try_from(*number).unwrap_or(0);
     }
 }
 
-// Word i of a table that stands from a place on.
-fn set_word(found: &[i64; 8192], from: usize, i: usize, table: &mut [i32; 512]) {
-    if from < 8192 {
-        if i < 512 {
-            table[i] = narrow(number_at(found, from + i));
+// The values that are not 0, each after its number.
+fn write_values(rt: &impl Print, values: &[i64]) -> io::Result<()> {
+    for (i, value) in values.iter().enumerate() {
+        if *value != 0 {
+            print!(rt; " {i}: {value}")?;
         }
     }
-}
-
-// The n words of a table.
-fn set_table(found: &[i64; 8192], from: usize, n: usize, table: &mut [i32; 512]) {
-    let mut i: usize = 0;
-    while i < n {
-        set_word(found, from, i, table);
-        i += 1;
-    }
-}
-
-fn write_number(rt: &impl Print, name: &[u8], n: u64) -> io::Result<()> {
-    rt.write_all(name)?;
-    rt.print(n)
-}
-
-fn write_answer(rt: &impl Print, answer: RunAnswer) -> io::Result<()> {
-    write_number(rt, b"number ", answer.number as u64)?;
-    write_number(rt, b", row ", answer.row as u64)?;
-    write_number(rt, b", steps ", answer.steps)?;
-    write_number(rt, b", height ", answer.height as u64)
-}
-
-fn write_row(rt: &impl Print, row: u32) -> io::Result<()> {
-    write_number(rt, b" ", row as u64)
-}
-
-fn write_stack(rt: &impl Print, stack: &[u32]) -> io::Result<()> {
-    rt.write_all(b"; stack")?;
-    let mut i: usize = 0;
-    while i < stack.len() {
-        write_row(rt, stack[i])?;
-        i += 1;
-    }
     Ok(())
 }
 
-// A value that is not 0, after its number.
-fn write_value(rt: &impl Print, i: usize, z: i64) -> io::Result<()> {
-    if z != 0 {
-        write_number(rt, b" ", i as u64)?;
-        rt.write_all(b":")?;
-        numbers::write(rt, z)?;
-    }
-    Ok(())
-}
-
-fn write_values(rt: &impl Print, name: &[u8], values: &[i64]) -> io::Result<()> {
-    rt.write_all(name)?;
-    let mut i: usize = 0;
-    while i < values.len() {
-        write_value(rt, i, values[i])?;
-        i += 1;
-    }
-    Ok(())
-}
-
-fn run_slices(
+// Runs a table, and writes what C is told and what is left.
+fn run(
     rt: &impl Print,
     table: &[i32],
     stack: &mut [u32],
     variables: &mut [i64],
-    marks: &mut [i64],
-    limit: usize,
+    limit: u64,
 ) -> io::Result<()> {
-    write_answer(
-        rt,
-        RunAnswer::from(machine::run(table, stack, variables, marks, limit as u64)),
-    )?;
-    write_stack(rt, stack)?;
-    write_values(rt, b"; variables", variables)?;
-    write_values(rt, b"; marks", marks)?;
-    rt.write_all(b"\n")
-}
-
-// The first words of a table, with so many words of stack, which were 9 before: at most 64.
-fn run_part(
-    rt: &impl Print,
-    table: &[i32],
-    words: usize,
-    room: usize,
-    variables: &mut [i64],
-    limit: usize,
-) -> io::Result<()> {
-    let mut stack = [9; 64];
     let mut marks = [0; 2048];
-    if words <= table.len() {
-        if room <= 64 {
-            run_slices(
-                rt,
-                &table[..words],
-                &mut stack[..room],
-                variables,
-                &mut marks,
-                limit,
-            )?;
-        }
+    let told = RunAnswer::from(machine::run(table, stack, variables, &mut marks, limit));
+    let RunAnswer {
+        number,
+        row,
+        steps,
+        height,
+    } = told;
+    print!(rt; "number {number}, row {row}, steps {steps}, height {height}; stack")?;
+    for row in stack {
+        print!(rt; " {row}")?;
     }
-    Ok(())
+    print!(rt; "; variables")?;
+    write_values(rt, variables)?;
+    print!(rt; "; marks")?;
+    write_values(rt, &marks)?;
+    println!(rt)
 }
 
-// The same of a table in an array.
-fn run(
-    rt: &impl Print,
-    table: &[i32; 512],
-    words: usize,
-    room: usize,
-    variables: &mut [i64; 1024],
-    limit: usize,
-) -> io::Result<()> {
-    run_part(rt, table, words, room, variables, limit)
-}
-
-// The call that stands from a place on; where the next one stands.
-fn call(rt: &impl Print, found: &[i64; 8192], at: usize) -> io::Result<usize>
-    requires { at < 8192 }
-    ensures { IfOk result (λ next. at < next) }
+// The call that the numbers begin with; how many of them it has. Its words of stack were 9 before: at most 64.
+fn call(rt: &impl Print, numbers: &[i64]) -> io::Result<usize>
+    ensures { IfOk result (λ used. (0 < used) × (used < 16384)) }
 {
     let mut variables = [0; 1024];
     let mut table = [0; 512];
-    let limit = count_at(found, at);
-    let room = count_at(found, at + 1);
-    let pairs = count_at(found, at + 2);
-    set_variables(found, at + 3, pairs, &mut variables);
-    let from = at + 3 + 2 * pairs;
-    let words = count_at(found, from);
-    set_table(found, from + 1, words, &mut table);
-    run(rt, &table, words, room, &mut variables, limit)?;
-    Ok(from + 1 + words)
+    let mut stack = [9; 64];
+    let limit = count_at(numbers, 0);
+    let room = count_at(numbers, 1);
+    let from = 3 + 2 * count_at(numbers, 2);
+    set_variables(numbers.get(3..from).unwrap_or(&[]), &mut variables);
+    let words = count_at(numbers, from);
+    let end = from + 1 + words;
+    set_table(numbers.get(from + 1..end).unwrap_or(&[]), &mut table);
+    if let Some(table) = table.get(..words) {
+        if let Some(stack) = stack.get_mut(..room) {
+            run(rt, table, stack, &mut variables, limit as u64)?;
+        }
+    }
+    Ok(end)
 }
 
-pub fn all(rt: &impl Print, found: &[i64; 8192], count: usize) -> io::Result<()> {
-    let mut at: usize = 0;
-    while at < 8192 && at < count {
-        at = call(rt, found, at)?;
+pub fn all(rt: &impl Print, numbers: &[i64]) -> io::Result<()> {
+    let mut at = 0;
+    while at < numbers.len() {
+        at += call(rt, &numbers[at..])?;
     }
     Ok(())
 }

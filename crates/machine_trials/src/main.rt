@@ -12,7 +12,6 @@ mod calls; // one call
 fn main(rt: HostRuntime) -> io::Result<()> {
     let mut text = [0; 65536];
     let n = input_reader::read_full(&mut rt.reader(), &mut text)?;
-    let mut found: [i64; 8192] = [0; 8192];
-    let count = numbers::read(&text[..n], &mut found);
-    calls::all(&rt, &found, count)
+    let numbers = numbers::read::<8192>(&text[..n]);
+    calls::all(&rt, &numbers)
 }
