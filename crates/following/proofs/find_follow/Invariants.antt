@@ -6,6 +6,3 @@ use Rattle.following.proofs.find_follow.Given as goal
 
 abbrev pub invariant-loop-r : goal.invariant-loop-r
 invariant-loop-r l = (l.r ≤ rows l.table) × Filled l.table l.follow l.r
-
-abbrev pub decreases-loop-r : goal.decreases-loop-r
-decreases-loop-r l = l.r
