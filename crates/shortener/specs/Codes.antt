@@ -8,6 +8,12 @@ use Rattle.shortening.specs.Simplify.{Shape, constant_0, constant_1, is_true, is
 use Rattle.shortening.specs.Simplify as Simplify
 use Rattle.shortening.specs.Shapes.{not_change, changed_shape, truth_changed_shape}
 
+-- an entry by its numbers: where the node ends, its shape when it is shortened, and what it becomes
+pub record Coded : Type 0 where
+  pub end : ℕ
+  pub shape : ℕ
+  pub change : ℕ
+
 -- the shape that a number stands for
 abbrev pub shaped : ℕ → Shape
 shaped zero = constant_0
@@ -84,6 +90,10 @@ pair_code k x y =
     (cond (eqb k 5) (change_code (arith_change order Times (shaped x) (shaped y)))
     (cond (eqb k 23) (truth_change_code (join_change And (shaped x) (shaped y)))
     (cond (eqb k 25) (truth_change_code (join_change Implies (shaped x) (shaped y))) kept_code))))
+
+pub other_pair : (k : ℕ) → (k ≡ 3 → ⊥) → (k ≡ 4 → ⊥) → (k ≡ 5 → ⊥) → (k ≡ 23 → ⊥) → (k ≡ 25 → ⊥) → (x y : ℕ) → kept_code ≡ pair_code k x y
+unfolding pair_code
+other_pair k h₃ h₄ h₅ h₂₃ h₂₅ x y = rw (ne_eqb k 3 h₃, ne_eqb k 4 h₄, ne_eqb k 5 h₅, ne_eqb k 23 h₂₃, ne_eqb k 25 h₂₅)
 
 -- the shape of what a node becomes
 unfoldable pub changed_shape_code : ℕ → ℕ → ℕ → ℕ

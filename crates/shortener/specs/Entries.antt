@@ -4,10 +4,10 @@ use Rattle.std.specs.Prelude.{ℕ, ◌+◌, List, cond, ◌≡◌, eqb, ℤ, pos
 use Rattle.std.proofs.Common.{ne_eqb}
 use Rattle.script.specs.Rows.{field_number}
 use Rattle.shortening.specs.Simplify.{is_true, is_false, number_shape, shape_number}
-use Rattle.shortener.specs.declared.plan.Entry.{Entry}
+use Rattle.shortener.specs.Codes.{Coded}
 use Rattle.shortener.specs.Codes.{kept_code, numbered_code, other_code, not_code, pair_code, changed_shape_code}
 
-abbrev pub entry : ℕ → ℕ → ℕ → Entry
+abbrev pub entry : ℕ → ℕ → ℕ → Coded
 entry e s t = record { end = e; shape = s; change = t }
 
 abbrev pub number_code : ℤ → ℕ
@@ -21,14 +21,14 @@ module _ (es ss : List ℕ) where
   shape at = get_or ss at 0
 
   -- what becomes of it gives its shape
-  abbrev changed_entry : ℕ → ℕ → ℕ → ℕ → Entry
+  abbrev changed_entry : ℕ → ℕ → ℕ → ℕ → Coded
   changed_entry e t x y = entry e (changed_shape_code t x y) t
 
-  unfoldable pub not_entry : ℕ → Entry
+  unfoldable pub not_entry : ℕ → Coded
   not_entry at = changed_entry (end (at + 1)) (not_code (shape (at + 1))) (shape (at + 1)) other_code
 
 module _ (k : ℕ) (es ss : List ℕ) where
-  unfoldable pub pair_entry : ℕ → Entry
+  unfoldable pub pair_entry : ℕ → Coded
   pair_entry at =
       let middle = end es ss (at + 1) in
       let x = shape es ss (at + 1) in
@@ -36,7 +36,7 @@ module _ (k : ℕ) (es ss : List ℕ) where
       changed_entry es ss (end es ss middle) (pair_code k x y) x y
 
 -- by the kind k
-unfoldable pub entry_of : ℕ → List ℤ → List ℕ → List ℕ → ℕ → Entry
+unfoldable pub entry_of : ℕ → List ℤ → List ℕ → List ℕ → ℕ → Coded
 entry_of k ws es ss at =
     cond (eqb k 1) (entry (at + 2) (number_code (get_or ws (at + 1) (pos 0))) numbered_code)
     (cond (eqb k 2) (entry (at + 2) other_code numbered_code)
@@ -48,7 +48,7 @@ entry_of k ws es ss at =
     (cond (eqb k 22) (not_entry es ss at)
     (pair_entry k es ss at))))))))
 
-abbrev pub entry_at : List ℤ → List ℕ → List ℕ → ℕ → Entry
+abbrev pub entry_at : List ℤ → List ℕ → List ℕ → ℕ → Coded
 entry_at ws es ss at = entry_of (field_number (get_or ws at (pos 0))) ws es ss at
 
 -- ---- a kind that is none of those with an arm of their own

@@ -7,7 +7,7 @@ use Rattle.script.specs.Syntax.{Expr, const, var, mark, arith, neg, choose, Form
 use Rattle.theorems.specs.WordsAt.{Stands, Node, expression, formula, words_of, size}
 use Rattle.shortening.specs.Simplify.{Shape, shape, truth_shape, shape_number, Change, TruthChange, order, arith_change, join_change, shorten, shortenᶠ}
 use Rattle.shortening.specs.Shapes.{not_change}
-use Rattle.shortener.specs.declared.plan.Entry.{Entry}
+use Rattle.shortener.specs.Codes.{Coded}
 use Rattle.shortener.specs.Codes.{kept_code, numbered_code, change_code, truth_change_code}
 use Rattle.shortener.specs.Entries.{entry}
 
@@ -40,7 +40,7 @@ node_change (formula (join c f g)) = truth_change_code (join_step c f g)
 
 -- ---- right entries
 
-pub record Right (at : ℕ) (x : Node) (e : Entry) : Type 0 where
+pub record Right (at : ℕ) (x : Node) (e : Coded) : Type 0 where
   pub end : e.end ≡ at + size x
   pub shape : e.shape ≡ shape_number (node_shape x)
   pub change : e.change ≡ node_change x

@@ -4,7 +4,7 @@ use Rattle.std.specs.Prelude.{ℕ, ◌+◌, ◌-◌, ◌≤◌, ◌<◌, ◌≡�
 use Rattle.std.proofs.Common.{◌∙◌, arith as linear, eqb-true, length-set, get_or-set_same, get_or-set_other}
 use Rattle.std.proofs.lemmas.Bool.{eqb-false}
 use Rattle.theorems.specs.WordsAt.{Stands, Node, words_of, node_inside}
-use Rattle.shortener.specs.declared.plan.Entry.{Entry}
+use Rattle.shortener.specs.Codes.{Coded}
 use Rattle.shortener.specs.Entries.{entry, entry_at}
 use Rattle.shortener.specs.NodeEntries.{Right, Known}
 use Rattle.shortener.specs.EntryLaws.{entered}
@@ -23,7 +23,7 @@ pub record Planned (ws : List ℤ) (es ss ks : List ℕ) : Type 0 where
 pub known_none : (ws : List ℤ) (es ss ks : List ℕ) → Known ws es ss ks (length ws)
 known_none ws es ss ks = record { right = λ at x h s. absurd (let i = node_inside x s in omega linear) }
 
-pub roomy_set : {ws : List ℤ} {es ss ks : List ℕ} (at : ℕ) (e : Entry) → Roomy ws es ss ks
+pub roomy_set : {ws : List ℤ} {es ss ks : List ℕ} (at : ℕ) (e : Coded) → Roomy ws es ss ks
     → Roomy ws (set es at e.end) (set ss at e.shape) (set ks at e.change)
 roomy_set {es = es} {ss = ss} {ks = ks} at e r = record {
   short = r.short;
@@ -32,7 +32,7 @@ roomy_set {es = es} {ss = ss} {ks = ks} at e r = record {
   changes = rw (length-set ks at e.change) r.changes;
 }
 
-module _ (ws : List ℤ) (es ss ks : List ℕ) (at : ℕ) (e : Entry) where
+module _ (ws : List ℤ) (es ss ks : List ℕ) (at : ℕ) (e : Coded) where
   pub known_more : Roomy ws es ss ks → at < length ws → Known ws es ss ks (at + 1) → ((x : Node) → Stands ws at (words_of x) → Right at x e)
       → Known ws (set es at e.end) (set ss at e.shape) (set ks at e.change) at
   known_more r h k here = record { right = λ q x i s. by_place q x i s (eqb q at) refl }
@@ -69,7 +69,7 @@ back_none {ws} {es} {ss} {ks} r = record {
   known = known_none ws es ss ks;
 }
 
-module _ {ws : List ℤ} {es₀ ss₀ ks₀ es ss ks : List ℕ} {at : ℕ} {e : Entry} where
+module _ {ws : List ℤ} {es₀ ss₀ ks₀ es ss ks : List ℕ} {at : ℕ} {e : Coded} where
   pub back_one : BackTo ws es₀ ss₀ ks₀ es ss ks at → 0 < at → e ≡ entry_at ws es ss (at - 1)
       → BackTo ws es₀ ss₀ ks₀ (set es (at - 1) e.end) (set ss (at - 1) e.shape) (set ks (at - 1) e.change) (at - 1)
   back_one b h p =

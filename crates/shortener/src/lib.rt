@@ -16,13 +16,13 @@ ghost use Rattle.shortener.specs.Parts.{Ordered, Stands, Told, chosen};
 use clearing::clear;
 use lines::write_lines;
 use list_reader::Missing;
-use plan::plan;
+use plan::{BLANK, plan};
 use script::Line;
 
 // The most words that a list has.
 const LONGEST: usize = 16384;
 
-// The most words of a list that is given shorter runs, which are cleared sooner.
+// The most words of a list that is given fewer entries, which are cleared sooner.
 const BRIEF: usize = 512;
 
 // Why no list is written, by the number of the refusal: the words are no list, or the new list has no room.
@@ -40,20 +40,18 @@ impl Refusal {
     }
 }
 
-// Writes the list, which has so many conditions, shortened, with runs for N words; gives the place past it.
+// Writes the list, which has so many conditions, shortened, with entries for N words; gives the place past it.
 #[tactic(auto, using(crate::specs::Whole::ready))]
 fn write_within<const N: usize>(list: &[i32], count: usize, short: &mut [i32]) -> usize
     requires { Counted list.now count × (length list.now ≤ N) × (N ≤ 16384) }
     ensures { WrittenShort list.now short.old result short.new }
 {
-    let mut ends = [0u16; N];
-    let mut shapes = [0u8; N];
-    let mut changes = [0u8; N];
-    plan(list, &mut ends, &mut shapes, &mut changes);
-    write_lines(list, count, &ends, &mut changes, short)
+    let mut entries = [BLANK; N];
+    plan(list, &mut entries);
+    write_lines(list, count, &mut entries, short)
 }
 
-// The same, with runs as short as the list allows.
+// The same, with as few entries as the list allows.
 fn write_short(list: &[i32], count: usize, short: &mut [i32]) -> usize
     requires { Counted list.now count }
     ensures { WrittenShort list.now short.old result short.new }

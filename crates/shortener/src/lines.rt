@@ -1,8 +1,9 @@
 // The lines of a list, each with its formula shortened and its trailer, and the count, in the form of the list.
 
+ghost use Rattle.shortener.specs.Runs.{ends, changes};
 ghost use Rattle.shortener.specs.Lines.{Trailing, Trailed, Ready, AllWritten};
 
-use crate::plan::place;
+use crate::plan::{Entry, place};
 use crate::writing::write_formula;
 use formula_writer::{push, push_two};
 
@@ -32,26 +33,18 @@ fn write_trailer(
 }
 
 // Writes all lines of a list, which has so many, and the count.
-pub fn write_lines(
-    list: &[i32],
-    count: usize,
-    ends: &[u16],
-    changes: &mut [u8],
-    short: &mut [i32],
-) -> usize
-    requires { Ready list.now count ends.now changes.old }
+pub fn write_lines(list: &[i32], count: usize, entries: &mut [Entry], short: &mut [i32]) -> usize
+    requires { Ready list.now count (ends entries.old) (changes entries.old) }
     ensures { AllWritten list.now count short.old result short.new }
 {
     let tail = list_reader::trailer_length(list);
     let mut at = 0;
     let mut p = 0;
-    let mut left = count;
-    while 0 < left {
-        let end = place(ends[at]);
-        let past = write_formula(list, at, end, ends, changes, short, p);
+    for _left in (0..count).rev() {
+        let end = place(entries[at].end);
+        let past = write_formula(list, at, end, entries, short, p);
         p = write_trailer(list, tail, end, short, p, past);
         at = end + tail;
-        left = left - 1;
     }
     push(short, p, list[at])
 }

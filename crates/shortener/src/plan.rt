@@ -2,160 +2,159 @@
 // becomes. All words are gone through from the last one back, so that the parts of a node are known before it. What is found at a
 // word that is no kind is of no use, and does no harm: nothing looks there.
 
-ghost use Rattle.std.specs.Prelude.{◌≡◌, ◌+◌, ◌<◌, pos, length, get_or};
+ghost use Rattle.std.specs.Prelude.{◌≡◌, ℕ, ◌+◌, ◌<◌, pos, length, get_or};
+ghost use Rattle.script.specs.Kinds.{kind_of};
 ghost use Rattle.shortener.specs.Codes.{kept_code, numbered_code, other_code};
 ghost use Rattle.shortener.specs.Entries.{entry, number_code, pair_entry, not_entry, entry_at};
 ghost use Rattle.shortener.specs.Planning.{Roomy, Planned};
+ghost use Rattle.shortener.specs.Runs.{shape_told, coded, ends, shapes, changes, blank};
 
-use crate::rules::{
-    IS_FALSE, IS_TRUE, KEPT, KEPT_WITH_NUMBER, ONE, OTHER, ZERO, changed_shape, not_change,
-    pair_change,
-};
-use kind_numbers as kinds;
-use script::field_number;
+use crate::rules::{Change, Shape, changed_shape, not_change, pair_change};
+use script::{Kind, field_number};
 
 // Of a node: the place past it, its shape when it is shortened, and what it becomes.
 #[derive(Clone, Copy)]
-struct Entry {
+pub struct Entry {
     pub end: u16,
-    pub shape: u8,
-    pub change: u8,
+    pub shape: Shape,
+    pub change: Change,
 }
 
-// A place, which the runs have in 16 bits, since the longest list has 16,384 words; the one cast.
+// The entry of which nothing is known.
+pub const BLANK: Entry = Entry {
+    end: 0,
+    shape: Shape::Zero,
+    change: Change::Kept,
+};
+
+// A place, which the entries have in 16 bits, since the longest list has 16,384 words; the one cast.
 pub fn place(end: u16) -> usize
     ensures { result ≡ end }
 {
     end as usize
 }
 
-// The place past the part that begins at a place; 0 past the run's end.
-fn end_at(ends: &[u16], at: usize) -> u16
-    ensures { result ≡ get_or ends.now at 0 }
+// The entry of the part that begins at a place; the blank one past the run's end.
+fn part_at(entries: &[Entry], at: usize) -> Entry
+    ensures { result ≡ get_or entries.now at blank }
 {
-    if at < ends.len() { ends[at] } else { 0 }
-}
-
-// The shape of the part that begins at a place; 0 past the run's end.
-fn shape_at(shapes: &[u8], at: usize) -> u8
-    ensures { result ≡ get_or shapes.now at 0 }
-{
-    if at < shapes.len() { shapes[at] } else { 0 }
+    if at < entries.len() {
+        entries[at]
+    } else {
+        BLANK
+    }
 }
 
 // The shape of the constant whose number stands at a place; that of 0 past the words' end.
-fn number_shape(words: &[i32], at: usize) -> u8
-    ensures { result ≡ number_code (get_or words.now at (pos 0)) }
+fn number_shape(words: &[i32], at: usize) -> Shape
+    ensures { shape_told result ≡ number_code (get_or words.now at (pos 0)) }
 {
     if words.len() <= at {
-        return ZERO;
+        return Shape::Zero;
     }
     let number = words[at];
     match number {
-        0 => ZERO,
-        1 => ONE,
-        _ => OTHER,
+        0 => Shape::Zero,
+        1 => Shape::One,
+        _ => Shape::Other,
     }
 }
 
 // The entry of a not at a place.
-#[tactic(auto, unfolding(crate::specs::Entries::not_entry))]
-fn not_entry(at: usize, ends: &[u16], shapes: &[u8]) -> Entry
+fn not_entry(at: usize, entries: &[Entry]) -> Entry
     requires { at < 16384 }
-    ensures { result ≡ not_entry ends.now shapes.now at }
+    ensures { coded result ≡ not_entry (ends entries.now) (shapes entries.now) at }
 {
-    let end = end_at(ends, at + 1);
-    let x = shape_at(shapes, at + 1);
-    let change = not_change(x);
-    let shape = changed_shape(change, x, OTHER);
-    Entry { end, shape, change }
+    let part = part_at(entries, at + 1);
+    let change = not_change(part.shape);
+    let shape = changed_shape(change, part.shape, Shape::Other);
+    Entry {
+        end: part.end,
+        shape,
+        change,
+    }
 }
 
 // The entry of a node with two parts at a place.
-#[tactic(auto, unfolding(crate::specs::Entries::pair_entry))]
-fn pair_entry(kind: usize, at: usize, ends: &[u16], shapes: &[u8]) -> Entry
+fn pair_entry(kind: Kind, at: usize, entries: &[Entry]) -> Entry
     requires { at < 16384 }
-    ensures { result ≡ pair_entry kind ends.now shapes.now at }
+    ensures { (k : ℕ) → kind ≡ kind_of k → coded result ≡ pair_entry k (ends entries.now) (shapes entries.now) at }
 {
-    let middle = place(end_at(ends, at + 1));
-    let end = end_at(ends, middle);
-    let x = shape_at(shapes, at + 1);
-    let y = shape_at(shapes, middle);
-    let change = pair_change(kind, x, y);
-    let shape = changed_shape(change, x, y);
-    Entry { end, shape, change }
+    let first = part_at(entries, at + 1);
+    let second = part_at(entries, place(first.end));
+    let change = pair_change(kind, first.shape, second.shape);
+    let shape = changed_shape(change, first.shape, second.shape);
+    Entry {
+        end: second.end,
+        shape,
+        change,
+    }
 }
 
 // The entry of a constant, a variable or a mark at a place.
-fn number_entry(at: usize, shape: u8) -> Entry
+fn number_entry(at: usize, shape: Shape) -> Entry
     requires { at < 16384 }
-    ensures { result ≡ entry (at + 2) shape numbered_code }
+    ensures { coded result ≡ entry (at + 2) (shape_told shape) numbered_code }
 {
     Entry {
         end: (at + 2) as u16,
         shape,
-        change: KEPT_WITH_NUMBER,
+        change: Change::KeptWithNumber,
     }
 }
 
 // The entry of true or false at a place.
-fn truth_entry(at: usize, shape: u8) -> Entry
+fn truth_entry(at: usize, shape: Shape) -> Entry
     requires { at < 16384 }
-    ensures { result ≡ entry (at + 1) shape kept_code }
+    ensures { coded result ≡ entry (at + 1) (shape_told shape) kept_code }
 {
     Entry {
         end: (at + 1) as u16,
         shape,
-        change: KEPT,
+        change: Change::Kept,
     }
 }
 
 // The entry of a node that always stays, and whose last part ends at a place.
 fn kept_entry(end: u16) -> Entry
-    ensures { result ≡ entry end other_code kept_code }
+    ensures { coded result ≡ entry end other_code kept_code }
 {
     Entry {
         end,
-        shape: OTHER,
-        change: KEPT,
+        shape: Shape::Other,
+        change: Change::Kept,
     }
 }
 
 // The entry of the word at a place, with those of all words after it.
-#[tactic(auto, unfolding(crate::specs::Entries::entry_of))]
-fn entry_at(words: &[i32], at: usize, ends: &[u16], shapes: &[u8]) -> Entry
+fn entry_at(words: &[i32], at: usize, entries: &[Entry]) -> Entry
     requires { (at < length words.now) × (at < 16384) }
-    ensures { result ≡ entry_at words.now ends.now shapes.now at }
+    ensures { coded result ≡ entry_at words.now (ends entries.now) (shapes entries.now) at }
 {
-    let kind = field_number(words[at]);
+    let kind = Kind::from(field_number(words[at]));
     match kind {
-        kinds::CONSTANT => number_entry(at, number_shape(words, at + 1)),
-        kinds::VARIABLE => number_entry(at, OTHER),
-        kinds::MARK => number_entry(at, OTHER),
-        kinds::TRUE => truth_entry(at, IS_TRUE),
-        kinds::FALSE => truth_entry(at, IS_FALSE),
-        kinds::NEGATE => kept_entry(end_at(ends, at + 1)),
-        kinds::CHOOSE => {
-            let formula = place(end_at(ends, at + 1));
-            let chosen = place(end_at(ends, formula));
-            kept_entry(end_at(ends, chosen))
+        Kind::Constant => number_entry(at, number_shape(words, at + 1)),
+        Kind::Variable => number_entry(at, Shape::Other),
+        Kind::Mark => number_entry(at, Shape::Other),
+        Kind::True => truth_entry(at, Shape::True),
+        Kind::False => truth_entry(at, Shape::False),
+        Kind::Negate => kept_entry(part_at(entries, at + 1).end),
+        Kind::Choose => {
+            let formula = part_at(entries, at + 1);
+            let chosen = part_at(entries, place(formula.end));
+            kept_entry(part_at(entries, place(chosen.end)).end)
         }
-        kinds::NOT => not_entry(at, ends, shapes),
-        _ => pair_entry(kind, at, ends, shapes),
+        Kind::Not => not_entry(at, entries),
+        _ => pair_entry(kind, at, entries),
     }
 }
 
 // Finds the entries of all words.
-pub fn plan(words: &[i32], ends: &mut [u16], shapes: &mut [u8], changes: &mut [u8])
-    requires { Roomy words.now ends.old shapes.old changes.old }
-    ensures { Planned words.now ends.new shapes.new changes.new }
+pub fn plan(words: &[i32], entries: &mut [Entry])
+    requires { Roomy words.now (ends entries.old) (shapes entries.old) (changes entries.old) }
+    ensures { Planned words.now (ends entries.new) (shapes entries.new) (changes entries.new) }
 {
-    let mut at = words.len();
-    while 0 < at {
-        at = at - 1;
-        let entry = entry_at(words, at, ends, shapes);
-        ends[at] = entry.end;
-        shapes[at] = entry.shape;
-        changes[at] = entry.change;
+    for at in (0..words.len()).rev() {
+        entries[at] = entry_at(words, at, entries);
     }
 }

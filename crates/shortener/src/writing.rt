@@ -1,11 +1,13 @@
 // A formula written anew, word after word, as its entries say: each word once at most, and none moved.
 
+ghost use Rattle.std.specs.Prelude.{◌≡◌};
 ghost use Rattle.shortener.specs.Turns.{Begins, WroteShort};
+ghost use Rattle.shortener.specs.Runs.{ends, changes};
 
-use crate::plan::place;
-use crate::rules::{FALSE, FIRST, KEPT, KEPT_WITH_NUMBER, NEGATED_SECOND, PASSED, SECOND, TRUE};
+use crate::plan::{Entry, place};
+use crate::rules::Change;
 use formula_writer::{push, push_kind, push_two};
-use kind_numbers as kinds;
+use script::Kind;
 
 // Writes the formula that stands in the words from `first` to `end`, shortened, from the place `start` on. A part that is
 // dropped behind a part that is written is noted when its node is met, and passed over when it is reached.
@@ -13,46 +15,45 @@ pub fn write_formula(
     words: &[i32],
     first: usize,
     end: usize,
-    ends: &[u16],
-    changes: &mut [u8],
+    entries: &mut [Entry],
     short: &mut [i32],
     start: usize,
 ) -> usize
-    requires { Begins words.now first end ends.now changes.old }
-    ensures { WroteShort words.now first end changes.old short.old start result changes.new short.new }
+    requires { Begins words.now first end (ends entries.old) (changes entries.old) }
+    ensures wrote { WroteShort words.now first end (changes entries.old) short.old start result (changes entries.new) short.new }
+    ensures ends { ends entries.new ≡ ends entries.old }
 {
     let mut at = first;
     let mut p = start;
     while at < end {
-        let change = changes[at];
-        match change {
-            KEPT => {
+        match entries[at].change {
+            Change::Kept => {
                 p = push(short, p, words[at]);
-                at = at + 1;
+                at += 1;
             }
-            KEPT_WITH_NUMBER => {
+            Change::KeptWithNumber => {
                 p = push_two(short, p, words[at], words[at + 1]);
-                at = at + 2;
+                at += 2;
             }
-            FIRST => {
-                let dropped = place(ends[at + 1]);
-                changes[dropped] = PASSED;
-                at = at + 1;
+            Change::First => {
+                let dropped = place(entries[at + 1].end);
+                entries[dropped].change = Change::Passed;
+                at += 1;
             }
-            SECOND => at = place(ends[at + 1]),
-            NEGATED_SECOND => {
-                p = push_kind(short, p, kinds::NEGATE);
-                at = place(ends[at + 1]);
+            Change::Second => at = place(entries[at + 1].end),
+            Change::NegatedSecond => {
+                p = push_kind(short, p, Kind::Negate as usize);
+                at = place(entries[at + 1].end);
             }
-            TRUE => {
-                p = push_kind(short, p, kinds::TRUE);
-                at = place(ends[at]);
+            Change::True => {
+                p = push_kind(short, p, Kind::True as usize);
+                at = place(entries[at].end);
             }
-            FALSE => {
-                p = push_kind(short, p, kinds::FALSE);
-                at = place(ends[at]);
+            Change::False => {
+                p = push_kind(short, p, Kind::False as usize);
+                at = place(entries[at].end);
             }
-            _ => at = place(ends[at]),
+            Change::Passed => at = place(entries[at].end),
         }
     }
     p

@@ -1,32 +1,51 @@
-use Rattle.std.proofs.Common.{ap, [], ◌∷◌, pos, get_or, rules}
+use Rattle.std.proofs.Common.{◌∙◌, refl, ap, [], ◌∷◌, pos, get_or, rules}
 use Rattle.script.specs.Laws.{back}
 use Rattle.theorems.specs.Writing.{wrote_as}
 use Rattle.shortener.specs.Lines.{lining}
-use Rattle.shortener.specs.LineTurns.{begins, trailing, lined, all_lined}
+use Rattle.shortener.specs.LineTurns.{end_read, begins, trailing, lined, all_lined}
+use Rattle.shortener.specs.Runs.{blank}
+use Rattle.shortener.proofs.Entered.{in_ends, end_at, begins_as}
 use Rattle.shortener.proofs.lines.write_lines.Goals as goal
 
 pub loop-left-init : goal.loop-left-init
-loop-left-init c = lining c.requires
+loop-left-init c = (refl, lining c.requires)
 
 -- ---- a line
 
 pub write_formula-past-requires : goal.write_formula-past-requires
-write_formula-past-requires c = rw c.place-end.ensures (begins c.loop-left.invariant c.loop-left-test.true)
+write_formula-past-requires c =
+    let same = c.loop-left.invariant.0 in
+    let es = c.loop-left.entries in
+    let t = c.loop-left.invariant.1 in
+    let more = c.loop-left-test.true in
+    let within = in_ends es (rw same (end_read t more)) in
+    begins_as (end_at es blank within c.args.entries.now same c.place-end.ensures) same (begins t more)
 
 pub write_trailer-p-requires : goal.write_trailer-p-requires
 write_trailer-p-requires c =
-    rw c.place-end.ensures
-    (trailing c.loop-left.invariant c.loop-left-test.true (rw c.place-end.ensures at c.write_formula-past.ensures) c.trailer_length-tail.ensures)
+    let same = c.loop-left.invariant.0 in
+    let es = c.loop-left.entries in
+    let t = c.loop-left.invariant.1 in
+    let more = c.loop-left-test.true in
+    let within = in_ends es (rw same (end_read t more)) in
+    let end = end_at es blank within c.args.entries.now same c.place-end.ensures in
+    rw end (trailing t more (rw end at c.write_formula-past.ensures.wrote) c.trailer_length-tail.ensures)
 
 pub loop-left-preserved : goal.loop-left-preserved
 loop-left-preserved c =
-    rw c.place-end.ensures
-    (lined c.loop-left.invariant c.loop-left-test.true (rw c.place-end.ensures at c.write_formula-past.ensures) c.trailer_length-tail.ensures
-    (rw c.place-end.ensures at c.write_trailer-p.ensures))
+    let same = c.loop-left.invariant.0 in
+    let es = c.loop-left.entries in
+    let t = c.loop-left.invariant.1 in
+    let more = c.loop-left-test.true in
+    let within = in_ends es (rw same (end_read t more)) in
+    let end = end_at es blank within c.args.entries.now same c.place-end.ensures in (
+      c.write_formula-past.ensures.ends ∙ same,
+      rw end (lined t more (rw end at c.write_formula-past.ensures.wrote) c.trailer_length-tail.ensures (rw end at c.write_trailer-p.ensures)),
+    )
 
 -- ---- the count
 
 pub returns : goal.returns
 returns c =
-    all_lined c.loop-left.invariant c.loop-left-test.false
+    all_lined c.loop-left.invariant.1 c.loop-left-test.false
     (wrote_as (ap (λ z. z ∷ []) (back {z = get_or c.args.list.now c.loop-left.at (pos 0)} (search rules))) c.push.ensures)

@@ -1,9 +1,13 @@
-use Rattle.std.proofs.Common.{ap, ℕ, ◌+◌, ◌<◌, [], ◌∷◌, pos, get_or, arith, rules}
-use Rattle.shortener.specs.Arms.{PastChanges}
+use Rattle.std.proofs.Common.{◌∙◌, refl, ap, ℕ, ◌+◌, ◌<◌, [], ◌∷◌, pos, get_or, length, arith, rules}
 use Rattle.script.specs.Laws.{back}
 use Rattle.theorems.specs.Writing.{wrote_as, wrote_nothing}
+use Rattle.shortener.specs.declared.rules.Change.TheVariants.{Passed}
+use Rattle.shortener.specs.declared.plan.Entry.{Entry}
+use Rattle.shortener.specs.Arms.{PastChanges}
 use Rattle.shortener.specs.Turns.{begin, end_turn}
-use Rattle.shortener.specs.Moves.{here, in_changes, in_ends, kept_turn, number_here, numbered_turn, first_parts, first_turn, second_parts, second_turn, moves_on, value_turn, passes_on, passed_turn}
+use Rattle.shortener.specs.Moves.{here, in_changes, kept_turn, number_here, numbered_turn, first_parts, first_turn, second_parts, second_turn, moves_on, value_turn, passes_on, passed_turn}
+use Rattle.shortener.specs.Runs.{blank}
+use Rattle.shortener.proofs.Entered.{in_run, change_at, end_at, ends_same, noted_turn}
 use Rattle.shortener.proofs.writing.write_formula.Goals as goal
 
 -- none of the arms before it
@@ -11,122 +15,231 @@ past : (k : ℕ) → 6 < k → PastChanges k
 past k h = search rules
 
 pub loop-at-init : goal.loop-at-init
-loop-at-init c = begin c.requires
+loop-at-init c = (refl, begin c.requires)
 
-pub bounds-changes-at : goal.bounds-changes-at
-bounds-changes-at c = in_changes c.loop-at.invariant c.loop-at-test.true
+pub offset_bounds-entries-at : goal.offset_bounds-entries-at
+offset_bounds-entries-at c = omega (arith, here c.loop-at.invariant.1 c.loop-at-test.true)
+
+pub bounds : goal.bounds
+bounds c = in_run c.loop-at.entries (in_changes c.loop-at.invariant.1 c.loop-at-test.true)
 
 -- ---- its kind is written, with its number or without
 
 pub offset_bounds-words-at : goal.offset_bounds-words-at
-offset_bounds-words-at c = omega (arith, here c.loop-at.invariant c.loop-at-test.true)
+offset_bounds-words-at c = omega (arith, here c.loop-at.invariant.1 c.loop-at-test.true)
 
 pub bounds-words-at : goal.bounds-words-at
-bounds-words-at c = here c.loop-at.invariant c.loop-at-test.true
+bounds-words-at c = here c.loop-at.invariant.1 c.loop-at-test.true
 
-pub loop-at-preserved-in-0 : goal.loop-at-preserved-in-0
-loop-at-preserved-in-0 c = kept_turn c.loop-at.invariant c.loop-at-test.true c.in-0.is
-    (wrote_as (ap (λ z. z ∷ []) (back {z = get_or c.args.words.now c.loop-at.at (pos 0)} (search rules))) c.push-p.ensures)
+pub loop-at-preserved-in-Kept : goal.loop-at-preserved-in-Kept
+loop-at-preserved-in-Kept c =
+    let t = c.loop-at.invariant.1 in
+    let more = c.loop-at-test.true in
+    let es = c.loop-at.entries in
+    let within = in_run es (in_changes t more) in
+    let told = change_at es blank within c.in-Kept.is in (
+      c.loop-at.invariant.0,
+      kept_turn t more told
+          (wrote_as (ap (λ z. z ∷ []) (back {z = get_or c.args.words.now c.loop-at.at (pos 0)} (search rules))) c.push-p.ensures),
+    )
 
-pub offset_bounds-words-at-in-1 : goal.offset_bounds-words-at-in-1
-offset_bounds-words-at-in-1 c = omega (arith, here c.loop-at.invariant c.loop-at-test.true)
+pub bounds-words-at-in-KeptWithNumber : goal.bounds-words-at-in-KeptWithNumber
+bounds-words-at-in-KeptWithNumber c = here c.loop-at.invariant.1 c.loop-at-test.true
 
-pub bounds-words-at-in-1 : goal.bounds-words-at-in-1
-bounds-words-at-in-1 c = here c.loop-at.invariant c.loop-at-test.true
+pub bounds-words-at-in-KeptWithNumber-2 : goal.bounds-words-at-in-KeptWithNumber-2
+bounds-words-at-in-KeptWithNumber-2 c =
+    let t = c.loop-at.invariant.1 in
+    let more = c.loop-at-test.true in
+    let es = c.loop-at.entries in
+    let within = in_run es (in_changes t more) in
+    let told = change_at es blank within c.in-KeptWithNumber.is in
+    number_here t more told
 
-pub offset_bounds-words-at-in-1-2 : goal.offset_bounds-words-at-in-1-2
-offset_bounds-words-at-in-1-2 c = omega (arith, number_here c.loop-at.invariant c.loop-at-test.true c.in-1.is)
-
-pub bounds-words-at-in-1-2 : goal.bounds-words-at-in-1-2
-bounds-words-at-in-1-2 c = number_here c.loop-at.invariant c.loop-at-test.true c.in-1.is
-
-pub loop-at-preserved-in-1 : goal.loop-at-preserved-in-1
-loop-at-preserved-in-1 c = let w = back {z = get_or c.args.words.now c.loop-at.at (pos 0)} (search rules) in
+pub loop-at-preserved-in-KeptWithNumber : goal.loop-at-preserved-in-KeptWithNumber
+loop-at-preserved-in-KeptWithNumber c =
+    let t = c.loop-at.invariant.1 in
+    let more = c.loop-at-test.true in
+    let es = c.loop-at.entries in
+    let within = in_run es (in_changes t more) in
+    let told = change_at es blank within c.in-KeptWithNumber.is in
+    let w = back {z = get_or c.args.words.now c.loop-at.at (pos 0)} (search rules) in
     let z = back {z = get_or c.args.words.now (c.loop-at.at + 1) (pos 0)} (search rules) in
-    numbered_turn c.loop-at.invariant c.loop-at-test.true c.in-1.is (wrote_as (λ i. w i ∷ z i ∷ []) c.push_two-p.ensures)
+    (c.loop-at.invariant.0, numbered_turn t more told (wrote_as (λ i. w i ∷ z i ∷ []) c.push_two-p.ensures))
 
 -- ---- its first part is written, or its second
 
-pub bounds-ends-at : goal.bounds-ends-at
-bounds-ends-at c =
-    let p = first_parts c.loop-at.invariant c.loop-at-test.true c.in-2.is in
-    omega (arith, p.first, c.loop-at.invariant.begun.ended.room)
+pub bounds-entries-at : goal.bounds-entries-at
+bounds-entries-at c =
+    let t = c.loop-at.invariant.1 in
+    let more = c.loop-at-test.true in
+    let es = c.loop-at.entries in
+    let within = in_run es (in_changes t more) in
+    let told = change_at es blank within c.in-First.is in
+    let p = first_parts t more told in
+    in_run es (omega (arith, p.first, t.begun.room, t.same.length))
 
-pub bounds-changes-dropped : goal.bounds-changes-dropped
-bounds-changes-dropped c =
-    let p = first_parts c.loop-at.invariant c.loop-at-test.true c.in-2.is in
-    omega (arith, c.place-dropped.ensures, p.second, c.loop-at.invariant.begun.room, c.loop-at.invariant.same.length)
+pub bounds-entries-dropped : goal.bounds-entries-dropped
+bounds-entries-dropped c =
+    let t = c.loop-at.invariant.1 in
+    let more = c.loop-at-test.true in
+    let es = c.loop-at.entries in
+    let within = in_run es (in_changes t more) in
+    let told = change_at es blank within c.in-First.is in
+    let p = first_parts t more told in
+    let after : c.loop-at.at + 1 < length es = in_run es (omega (arith, p.first, t.begun.room, t.same.length)) in
+    let dropped = end_at es blank after c.args.entries.now c.loop-at.invariant.0 c.place-dropped.ensures in
+    in_run es (omega (arith, dropped, p.second, t.begun.room, t.same.length))
 
-pub loop-at-preserved-in-2 : goal.loop-at-preserved-in-2
-loop-at-preserved-in-2 c = rw c.place-dropped.ensures (first_turn c.loop-at.invariant c.loop-at-test.true c.in-2.is)
+pub loop-at-preserved-in-First : goal.loop-at-preserved-in-First
+loop-at-preserved-in-First c =
+    let t = c.loop-at.invariant.1 in
+    let more = c.loop-at-test.true in
+    let es = c.loop-at.entries in
+    let within = in_run es (in_changes t more) in
+    let told = change_at es blank within c.in-First.is in
+    let p = first_parts t more told in
+    let after : c.loop-at.at + 1 < length es = in_run es (omega (arith, p.first, t.begun.room, t.same.length)) in
+    let dropped = end_at es blank after c.args.entries.now c.loop-at.invariant.0 c.place-dropped.ensures in
+    let n = c.place-dropped.result in
+    let old = get_or es n blank in
+    let e : Entry = record { end = old.end; shape = old.shape; change = Passed } in
+    (ends_same es n blank e refl ∙ c.loop-at.invariant.0, noted_turn es n e dropped refl (first_turn t more told))
 
-pub bounds-ends-at-in-3 : goal.bounds-ends-at-in-3
-bounds-ends-at-in-3 c =
-    let p = second_parts c.loop-at.invariant c.loop-at-test.true [] 3 (omega arith) (λ x h. h) c.in-3.is in
-    omega (arith, p.first, c.loop-at.invariant.begun.ended.room)
+pub bounds-entries-at-in-Second : goal.bounds-entries-at-in-Second
+bounds-entries-at-in-Second c =
+    let t = c.loop-at.invariant.1 in
+    let more = c.loop-at-test.true in
+    let es = c.loop-at.entries in
+    let within = in_run es (in_changes t more) in
+    let told = change_at es blank within c.in-Second.is in
+    let p = second_parts t more ([]) 3 (omega arith) (λ x h. h) told in
+    in_run es (omega (arith, p.first, t.begun.room, t.same.length))
 
-pub loop-at-smaller-in-3 : goal.loop-at-smaller-in-3
-loop-at-smaller-in-3 c =
-    let p = second_parts c.loop-at.invariant c.loop-at-test.true [] 3 (omega arith) (λ x h. h) c.in-3.is in
-    omega (arith, c.place-at.ensures, p.later)
+pub loop-at-smaller-in-Second : goal.loop-at-smaller-in-Second
+loop-at-smaller-in-Second c =
+    let t = c.loop-at.invariant.1 in
+    let more = c.loop-at-test.true in
+    let es = c.loop-at.entries in
+    let within = in_run es (in_changes t more) in
+    let told = change_at es blank within c.in-Second.is in
+    let p = second_parts t more ([]) 3 (omega arith) (λ x h. h) told in
+    let after : c.loop-at.at + 1 < length es = in_run es (omega (arith, p.first, t.begun.room, t.same.length)) in
+    omega (arith, end_at es blank after c.args.entries.now c.loop-at.invariant.0 c.place-at.ensures, p.later, more)
 
-pub loop-at-preserved-in-3 : goal.loop-at-preserved-in-3
-loop-at-preserved-in-3 c =
-    rw c.place-at.ensures
-    (second_turn c.loop-at.invariant c.loop-at-test.true [] 3 (omega arith) (λ x h. h) c.in-3.is (wrote_nothing _ _))
+pub loop-at-preserved-in-Second : goal.loop-at-preserved-in-Second
+loop-at-preserved-in-Second c =
+    let t = c.loop-at.invariant.1 in
+    let more = c.loop-at-test.true in
+    let es = c.loop-at.entries in
+    let within = in_run es (in_changes t more) in
+    let told = change_at es blank within c.in-Second.is in
+    let p = second_parts t more ([]) 3 (omega arith) (λ x h. h) told in
+    let after : c.loop-at.at + 1 < length es = in_run es (omega (arith, p.first, t.begun.room, t.same.length)) in (
+      c.loop-at.invariant.0,
+      rw (end_at es blank after c.args.entries.now c.loop-at.invariant.0 c.place-at.ensures)
+          (second_turn t more ([]) 3 (omega arith) (λ x h. h) told (wrote_nothing _ _)),
+    )
 
-pub bounds-ends-at-in-4 : goal.bounds-ends-at-in-4
-bounds-ends-at-in-4 c =
-    let p = second_parts c.loop-at.invariant c.loop-at-test.true (pos 8 ∷ []) 4 (omega arith) (λ x h. h) c.in-4.is in
-    omega (arith, p.first, c.loop-at.invariant.begun.ended.room)
+pub bounds-entries-at-in-NegatedSecond : goal.bounds-entries-at-in-NegatedSecond
+bounds-entries-at-in-NegatedSecond c =
+    let t = c.loop-at.invariant.1 in
+    let more = c.loop-at-test.true in
+    let es = c.loop-at.entries in
+    let within = in_run es (in_changes t more) in
+    let told = change_at es blank within c.in-NegatedSecond.is in
+    let p = second_parts t more (pos 8 ∷ []) 4 (omega arith) (λ x h. h) told in
+    in_run es (omega (arith, p.first, t.begun.room, t.same.length))
 
-pub loop-at-smaller-in-4 : goal.loop-at-smaller-in-4
-loop-at-smaller-in-4 c =
-    let p = second_parts c.loop-at.invariant c.loop-at-test.true (pos 8 ∷ []) 4 (omega arith) (λ x h. h) c.in-4.is in
-    omega (arith, c.place-at-in-4.ensures, p.later)
+pub loop-at-smaller-in-NegatedSecond : goal.loop-at-smaller-in-NegatedSecond
+loop-at-smaller-in-NegatedSecond c =
+    let t = c.loop-at.invariant.1 in
+    let more = c.loop-at-test.true in
+    let es = c.loop-at.entries in
+    let within = in_run es (in_changes t more) in
+    let told = change_at es blank within c.in-NegatedSecond.is in
+    let p = second_parts t more (pos 8 ∷ []) 4 (omega arith) (λ x h. h) told in
+    let after : c.loop-at.at + 1 < length es = in_run es (omega (arith, p.first, t.begun.room, t.same.length)) in
+    omega (arith, end_at es blank after c.args.entries.now c.loop-at.invariant.0 c.place-at-in-NegatedSecond.ensures, p.later, more)
 
-pub loop-at-preserved-in-4 : goal.loop-at-preserved-in-4
-loop-at-preserved-in-4 c =
-    rw c.place-at-in-4.ensures
-    (second_turn c.loop-at.invariant c.loop-at-test.true (pos 8 ∷ []) 4 (omega arith) (λ x h. h) c.in-4.is c.push_kind-p.ensures)
+pub loop-at-preserved-in-NegatedSecond : goal.loop-at-preserved-in-NegatedSecond
+loop-at-preserved-in-NegatedSecond c =
+    let t = c.loop-at.invariant.1 in
+    let more = c.loop-at-test.true in
+    let es = c.loop-at.entries in
+    let within = in_run es (in_changes t more) in
+    let told = change_at es blank within c.in-NegatedSecond.is in
+    let p = second_parts t more (pos 8 ∷ []) 4 (omega arith) (λ x h. h) told in
+    let after : c.loop-at.at + 1 < length es = in_run es (omega (arith, p.first, t.begun.room, t.same.length)) in (
+      c.loop-at.invariant.0,
+      rw (end_at es blank after c.args.entries.now c.loop-at.invariant.0 c.place-at-in-NegatedSecond.ensures)
+          (second_turn t more (pos 8 ∷ []) 4 (omega arith) (λ x h. h) told c.push_kind-p.ensures),
+    )
 
 -- ---- a value is written
 
-pub bounds-ends-at-in-5 : goal.bounds-ends-at-in-5
-bounds-ends-at-in-5 c = in_ends c.loop-at.invariant c.loop-at-test.true
+pub loop-at-smaller-in-True : goal.loop-at-smaller-in-True
+loop-at-smaller-in-True c =
+    let t = c.loop-at.invariant.1 in
+    let more = c.loop-at-test.true in
+    let es = c.loop-at.entries in
+    let within = in_run es (in_changes t more) in
+    let told = change_at es blank within c.in-True.is in
+    omega (arith, end_at es blank within c.args.entries.now c.loop-at.invariant.0 c.place-at-in-True.ensures, moves_on t more 5 (omega arith) told, more)
 
-pub loop-at-smaller-in-5 : goal.loop-at-smaller-in-5
-loop-at-smaller-in-5 c =
-    omega (arith, c.place-at-in-5.ensures, moves_on c.loop-at.invariant c.loop-at-test.true 5 (omega arith) c.in-5.is)
+pub loop-at-preserved-in-True : goal.loop-at-preserved-in-True
+loop-at-preserved-in-True c =
+    let t = c.loop-at.invariant.1 in
+    let more = c.loop-at-test.true in
+    let es = c.loop-at.entries in
+    let within = in_run es (in_changes t more) in
+    let told = change_at es blank within c.in-True.is in (
+      c.loop-at.invariant.0,
+      rw (end_at es blank within c.args.entries.now c.loop-at.invariant.0 c.place-at-in-True.ensures)
+          (value_turn t more (pos 16) 5 (omega arith) (λ x h. h) told c.push_kind-p-in-True.ensures),
+    )
 
-pub loop-at-preserved-in-5 : goal.loop-at-preserved-in-5
-loop-at-preserved-in-5 c =
-    rw c.place-at-in-5.ensures
-    (value_turn c.loop-at.invariant c.loop-at-test.true (pos 16) 5 (omega arith) (λ x h. h) c.in-5.is c.push_kind-p-in-5.ensures)
+pub loop-at-smaller-in-False : goal.loop-at-smaller-in-False
+loop-at-smaller-in-False c =
+    let t = c.loop-at.invariant.1 in
+    let more = c.loop-at-test.true in
+    let es = c.loop-at.entries in
+    let within = in_run es (in_changes t more) in
+    let told = change_at es blank within c.in-False.is in
+    omega (arith, end_at es blank within c.args.entries.now c.loop-at.invariant.0 c.place-at-in-False.ensures, moves_on t more 6 (omega arith) told, more)
 
-pub bounds-ends-at-in-6 : goal.bounds-ends-at-in-6
-bounds-ends-at-in-6 c = in_ends c.loop-at.invariant c.loop-at-test.true
-
-pub loop-at-smaller-in-6 : goal.loop-at-smaller-in-6
-loop-at-smaller-in-6 c =
-    omega (arith, c.place-at-in-6.ensures, moves_on c.loop-at.invariant c.loop-at-test.true 6 (omega arith) c.in-6.is)
-
-pub loop-at-preserved-in-6 : goal.loop-at-preserved-in-6
-loop-at-preserved-in-6 c =
-    rw c.place-at-in-6.ensures
-    (value_turn c.loop-at.invariant c.loop-at-test.true (pos 17) 6 (omega arith) (λ x h. h) c.in-6.is c.push_kind-p-in-6.ensures)
+pub loop-at-preserved-in-False : goal.loop-at-preserved-in-False
+loop-at-preserved-in-False c =
+    let t = c.loop-at.invariant.1 in
+    let more = c.loop-at-test.true in
+    let es = c.loop-at.entries in
+    let within = in_run es (in_changes t more) in
+    let told = change_at es blank within c.in-False.is in (
+      c.loop-at.invariant.0,
+      rw (end_at es blank within c.args.entries.now c.loop-at.invariant.0 c.place-at-in-False.ensures)
+          (value_turn t more (pos 17) 6 (omega arith) (λ x h. h) told c.push_kind-p-in-False.ensures),
+    )
 
 -- ---- it is passed over
 
-pub bounds-ends-at-in_default : goal.bounds-ends-at-in_default
-bounds-ends-at-in_default c = in_ends c.loop-at.invariant c.loop-at-test.true
-
 pub loop-at-smaller : goal.loop-at-smaller
 loop-at-smaller c =
-    omega (arith, c.place-at-in_default.ensures, passes_on c.loop-at.invariant c.loop-at-test.true (past _ (search rules)))
+    let t = c.loop-at.invariant.1 in
+    let more = c.loop-at-test.true in
+    let es = c.loop-at.entries in
+    let within = in_run es (in_changes t more) in
+    let told = change_at es blank within c.in-Passed.is in
+    omega (arith, end_at es blank within c.args.entries.now c.loop-at.invariant.0 c.place-at-in-Passed.ensures, passes_on t more (past _ (omega (arith, told))), more)
 
 pub loop-at-preserved : goal.loop-at-preserved
-loop-at-preserved c = rw c.place-at-in_default.ensures (passed_turn c.loop-at.invariant c.loop-at-test.true (past _ (search rules)))
+loop-at-preserved c =
+    let t = c.loop-at.invariant.1 in
+    let more = c.loop-at-test.true in
+    let es = c.loop-at.entries in
+    let within = in_run es (in_changes t more) in
+    let told = change_at es blank within c.in-Passed.is in (
+      c.loop-at.invariant.0,
+      rw (end_at es blank within c.args.entries.now c.loop-at.invariant.0 c.place-at-in-Passed.ensures) (passed_turn t more (past _ (omega (arith, told)))),
+    )
 
-pub returns : goal.returns
-returns c = end_turn c.loop-at.invariant c.loop-at-test.false
+pub returns-clause-wrote : goal.returns-clause-wrote
+returns-clause-wrote c = end_turn c.loop-at.invariant.1 c.loop-at-test.false
