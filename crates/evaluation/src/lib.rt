@@ -88,70 +88,70 @@ fn connected(kind: Kind, a: bool, b: bool) -> bool
 
 // ---- all below a row
 
-// The value of the expression at row r; in code, or else in an annotation.
-#[cycle(truth_at_value_at)]
-pub fn value_at(
-    table: &[i32],
-    variables: &[i64],
-    marks: &[i64],
-    code: bool,
-    r: usize,
-) -> Result<i64, Stop>
-    requires { Lent table.now variables.now marks.now r }
-    ensures { worked result
-        ≡ work mode_64 (state_of variables.now marks.now) code
-        (expr_at table.now r) }
-{
-    let kind = kind_at(table, r);
-    match kind {
-        Kind::Constant => Ok(table[4 * r + 1] as i64),
-        Kind::Variable => Ok(variables[field(table, r, 1)]),
-        Kind::Plus | Kind::Minus | Kind::Times | Kind::Div | Kind::Mod => {
-            let a = value_at(table, variables, marks, code, field(table, r, 1))?;
-            let b = value_at(table, variables, marks, code, field(table, r, 2))?;
-            combined(operator_of(kind), code, a, b)
-        }
-        Kind::Negate => negated(value_at(table, variables, marks, code, field(table, r, 1))?),
-        Kind::Mark => Ok(marks[field(table, r, 1)]),
-        Kind::Choose => {
-            if truth_at(table, variables, marks, code, field(table, r, 1))? {
-                value_at(table, variables, marks, code, field(table, r, 2))
-            } else {
-                value_at(table, variables, marks, code, field(table, r, 3))
-            }
-        }
-        _ => Ok(0),
-    }
+// What rows are worked out in: an accepted table, the values of variables and marks, and whether it is code (a guard or an
+// assigned expression) or else an annotation.
+#[derive(Clone, Copy)]
+pub struct State<'a> {
+    pub table: &'a [i32],
+    pub variables: &'a [i64],
+    pub marks: &'a [i64],
+    pub code: bool,
 }
 
-// The truth of the formula at row r; in code, or else in an annotation.
-#[cycle(truth_at_value_at)]
-pub fn truth_at(
-    table: &[i32],
-    variables: &[i64],
-    marks: &[i64],
-    code: bool,
-    r: usize,
-) -> Result<bool, Stop>
-    requires { Lent table.now variables.now marks.now r }
-    ensures { worked result
-        ≡ judge mode_64 (state_of variables.now marks.now) code
-        (formula_at table.now r) }
-{
-    let kind = kind_at(table, r);
-    match kind {
-        Kind::False => Ok(false),
-        Kind::Less | Kind::AtMost | Kind::Equal | Kind::Unequal => {
-            let x = value_at(table, variables, marks, code, field(table, r, 1))?;
-            let y = value_at(table, variables, marks, code, field(table, r, 2))?;
-            Ok(related(kind, x, y))
+impl State<'_> {
+    // The value of the expression at row r.
+    #[cycle(truth_at_value_at)]
+    pub fn value_at(&self, r: usize) -> Result<i64, Stop>
+        requires { Lent self.now.table.now self.now.variables.now self.now.marks.now r }
+        ensures { worked result
+            ≡ work mode_64 (state_of self.now.variables.now self.now.marks.now) self.now.code
+            (expr_at self.now.table.now r) }
+    {
+        let kind = kind_at(self.table, r);
+        match kind {
+            Kind::Constant => Ok(self.table[4 * r + 1] as i64),
+            Kind::Variable => Ok(self.variables[field(self.table, r, 1)]),
+            Kind::Plus | Kind::Minus | Kind::Times | Kind::Div | Kind::Mod => {
+                let a = self.value_at(field(self.table, r, 1))?;
+                let b = self.value_at(field(self.table, r, 2))?;
+                combined(operator_of(kind), self.code, a, b)
+            }
+            Kind::Negate => negated(self.value_at(field(self.table, r, 1))?),
+            Kind::Mark => Ok(self.marks[field(self.table, r, 1)]),
+            Kind::Choose => {
+                if self.truth_at(field(self.table, r, 1))? {
+                    self.value_at(field(self.table, r, 2))
+                } else {
+                    self.value_at(field(self.table, r, 3))
+                }
+            }
+            _ => Ok(0),
         }
-        Kind::Not => Ok(!truth_at(table, variables, marks, code, field(table, r, 1))?),
-        Kind::And | Kind::Or | Kind::Implies => {
-            let a = truth_at(table, variables, marks, code, field(table, r, 1))?;
-            let b = truth_at(table, variables, marks, code, field(table, r, 2))?;
-            Ok(connected(kind, a, b))
+    }
+
+    // The truth of the formula at row r.
+    #[cycle(truth_at_value_at)]
+    pub fn truth_at(&self, r: usize) -> Result<bool, Stop>
+        requires { Lent self.now.table.now self.now.variables.now self.now.marks.now r }
+        ensures { worked result
+            ≡ judge mode_64 (state_of self.now.variables.now self.now.marks.now) self.now.code
+            (formula_at self.now.table.now r) }
+    {
+        let kind = kind_at(self.table, r);
+        match kind {
+            Kind::False => Ok(false),
+            Kind::Less | Kind::AtMost | Kind::Equal | Kind::Unequal => {
+                let x = self.value_at(field(self.table, r, 1))?;
+                let y = self.value_at(field(self.table, r, 2))?;
+                Ok(related(kind, x, y))
+            }
+            Kind::Not => Ok(!self.truth_at(field(self.table, r, 1))?),
+            Kind::And | Kind::Or | Kind::Implies => {
+                let a = self.truth_at(field(self.table, r, 1))?;
+                let b = self.truth_at(field(self.table, r, 2))?;
+                Ok(connected(kind, a, b))
+            }
+            _ => Ok(true),
         }
-        _ => Ok(true),
     }
 }

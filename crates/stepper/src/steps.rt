@@ -10,7 +10,7 @@ ghost use Rattle.stepper.specs.Steps.{Stage, Tried, failure_of, stepped};
 ghost use Rattle.stepper.specs.Statements.{passing};
 
 use crate::stack::take_next;
-use evaluation::{Stop, truth_at, value_at};
+use evaluation::{State, Stop};
 use script::{Kind, field, kind_at, row_count};
 
 // Why a step fails, with its number.
@@ -50,7 +50,13 @@ fn assign(
 {
     let variable = field(table, at, 1);
     let expression = field(table, at, 2);
-    variables[variable] = value_at(table, variables, marks, true, expression)?;
+    let state = State {
+        table,
+        variables,
+        marks,
+        code: true,
+    };
+    variables[variable] = state.value_at(expression)?;
     Ok(take_next(table, stack, height))
 }
 
@@ -68,7 +74,13 @@ fn assert_true(
         stack.new variables.now marks.now result }
 {
     let formula = field(table, at, 1);
-    if truth_at(table, variables, marks, false, formula)? {
+    let state = State {
+        table,
+        variables,
+        marks,
+        code: false,
+    };
+    if state.truth_at(formula)? {
         Ok(take_next(table, stack, height))
     } else {
         Err(Failure::Untrue)
@@ -101,7 +113,13 @@ fn choose_side(
         stack.new variables.now marks.now result }
 {
     let guard = field(table, at, 1);
-    let holds = truth_at(table, variables, marks, true, guard)?;
+    let state = State {
+        table,
+        variables,
+        marks,
+        code: true,
+    };
+    let holds = state.truth_at(guard)?;
     let side = side(table, at, holds);
     let left = take_next(table, stack, height);
     stack[left] = side as u32;
@@ -125,7 +143,13 @@ fn begin_pass(
     let note = field(table, at, 2);
     let body = field(table, at, 3);
     let variant = field(table, note, 2);
-    marks[at] = value_at(table, variables, marks, false, variant)?;
+    let state = State {
+        table,
+        variables,
+        marks,
+        code: false,
+    };
+    marks[at] = state.value_at(variant)?;
     let left = take_next(table, stack, height);
     stack[left] = at as u32;
     stack[left + 1] = body as u32;
@@ -146,7 +170,13 @@ fn test_guard(
         stack.new variables.now marks.new result }
 {
     let guard = field(table, at, 1);
-    if truth_at(table, variables, marks, true, guard)? {
+    let state = State {
+        table,
+        variables,
+        marks,
+        code: true,
+    };
+    if state.truth_at(guard)? {
         begin_pass(table, stack, height, variables, marks, at)
     } else {
         Ok(take_next(table, stack, height))

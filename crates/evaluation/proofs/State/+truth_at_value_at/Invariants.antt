@@ -1,5 +1,5 @@
 -- Links fall: the row is the measure.
-use Rattle.evaluation.proofs.+truth_at_value_at.Given as goal
+use Rattle.evaluation.proofs.State.+truth_at_value_at.Given as goal
 
 abbrev pub decreases-truth_at : goal.decreases-truth_at
 decreases-truth_at l = l.r
