@@ -185,14 +185,17 @@ pub fn write_formula(
             }
             Kind::Less | Kind::AtMost | Kind::Equal | Kind::Unequal => {
                 p = push_kind(list, p, number);
-                p = write_expression(table, RowNumber(field(table, row, 1)), list, path, j, p);
-                return write_expression(table, RowNumber(field(table, row, 2)), list, path, j, p);
+                let first = RowNumber(field(table, row, 1));
+                let second = RowNumber(field(table, row, 2));
+                p = write_expression(table, first, list, path, j, p);
+                return write_expression(table, second, list, path, j, p);
             }
             // a connective
             _ => {
                 p = push_kind(list, p, number);
-                p = write_formula(table, RowNumber(field(table, row, 1)), list, path, j, p);
+                let first = RowNumber(field(table, row, 1));
                 row = field(table, row, 2);
+                p = write_formula(table, first, list, path, j, p);
             }
         }
     }
