@@ -4,6 +4,8 @@
 // A node's last part is a turn of the loop; a call is for the parts before it. A row is not taken apart: the writers go by
 // its kind, and each arm that ends returns its own answer, since a value that arms share is copied.
 
+// (a) Public parameters stay as they are: table, list, path and place are passed one by one, `push_kind` takes a number.
+
 #![tactic(auto)]
 
 pub mod path; // what a path has of an assignment, and the search for the latest one
@@ -70,7 +72,7 @@ pub fn push_mark(list: &mut [i32], at: usize, r: RowNumber) -> usize
     push_two(list, at, Kind::Mark as i32, r.0 as i32)
 }
 
-// What stands in the place of a variable.
+// What stands in the place of a variable. (a) `Replaced` names both, and neither is a failure: no Option, no Result.
 #[derive(Clone, Copy)]
 enum Replacement {
     // the variable itself, which was written; the place of the next word

@@ -1,5 +1,5 @@
 -- What the generator tells, as the four numbers of 01: a refusal's number and row, and the answer of a call. Assumes nothing.
-use Rattle.std.specs.Prelude.{ℕ, Result, Ok, Err}
+use Rattle.std.specs.Prelude.{ℕ, ◌≡◌, refl, Result, Ok, Err}
 use Rattle.script.specs.declared.Answer.{Answer}
 use Rattle.script.specs.Generated.{refusal}
 use Rattle.rows.specs.Numbers as Numbers
@@ -20,3 +20,9 @@ row Room = 0
 abbrev pub answer_of : Result Plan Refusal → Answer
 answer_of (Ok p) = record { number = 0; row = 0; conditions = p.conditions; words = p.words }
 answer_of (Err e) = refusal (number e) (row e)
+
+-- ---- computed at the two that are no table's, and at a list
+
+told : (answer_of (Err Scratch) ≡ refusal 11 0) × (answer_of (Err Room) ≡ refusal 12 0)
+    × (answer_of (Ok (record { conditions = 4; words = 98 })) ≡ record { number = 0; row = 0; conditions = 4; words = 98 })
+told = (refl, refl, refl)
