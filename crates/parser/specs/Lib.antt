@@ -1,3 +1,4 @@
 pub mod Symbols
 pub mod Machine
 pub mod Wrong
+pub mod Readers

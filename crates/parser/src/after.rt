@@ -1,15 +1,17 @@
 // A token after a part.
 
-ghost use Rattle.std.specs.Prelude.{◌≡◌, []};
-ghost use Rattle.parser.specs.Machine.{config, form_kind, is_last, is_group, bodies_after, close_form, close_mark, open_body, next_place, push_infix, go_on};
+ghost use Rattle.std.specs.Prelude.{◌≡◌};
+ghost use Rattle.parser.specs.Readers.{machine, SameRuns};
+ghost use Rattle.parser.specs.Machine.{form_kind, bodies_after, close_form, close_mark, open_body, next_place, push_infix, go_on};
 ghost use Rattle.parser.specs.Machine.{reduce as Machine·reduce, close as Machine·close, after as Machine·after};
 
 use crate::frames::{first_part, frame, put, second_part, top_frame};
+use crate::reader::Reader;
 use crate::rows::{write_operator, write_row};
 use crate::sorts::{begins, fits};
 use crate::states::{complete, due, refused, with_bodies, with_rows};
 use crate::symbols::{binding, closing, end_of, hold, hole, maker, operand_sort};
-use crate::{PART, State, symbols};
+use crate::{PART, symbols};
 use script::Kind;
 
 // What is left when operators have taken a part: its sort, rows written, frames.
@@ -58,21 +60,6 @@ fn form_kind(place: usize) -> usize
     }
 }
 
-fn is_last(place: usize) -> bool
-    ensures { result ≡ is_last place }
-{
-    matches!(
-        place,
-        symbols::WHEN_THIRD | symbols::IF_ELSE | symbols::WHILE_BODY | symbols::POSTCONDITION
-    )
-}
-
-fn is_group(place: usize) -> bool
-    ensures { result ≡ is_group place }
-{
-    matches!(place, symbols::GROUP | symbols::EXPRESSION_GROUP)
-}
-
 // A body is closed with its loop.
 fn bodies_after(place: usize, bodies: usize) -> usize
     ensures { result ≡ bodies_after place bodies }
@@ -84,142 +71,138 @@ fn bodies_after(place: usize, bodies: usize) -> usize
     }
 }
 
-#[tactic(auto, unfolding(crate::specs::Machine::close_form))]
-fn close_form(words: &mut [i32], s: State, f: usize) -> State
-    ensures state { result ≡ (close_form (config s [] words.old) f).state }
-    ensures words { words.new ≡ (close_form (config s [] words.old) f).words }
-{
-    let rows = s.rows;
-    let place = f % 64;
-    let written = write_row(
-        words,
-        rows,
-        form_kind(place),
-        first_part(f),
-        second_part(f),
-        rows.saturating_sub(1),
-    );
-    let next = with_bodies(s, bodies_after(place, s.bodies));
-    complete(next, maker(f), written, s.top.saturating_sub(1))
-}
-
-#[tactic(auto, unfolding(crate::specs::Machine::close_mark))]
-fn close_mark(words: &mut [i32], s: State) -> State
-    ensures state { result ≡ (close_mark (config s [] words.old)).state }
-    ensures words { words.new ≡ (close_mark (config s [] words.old)).words }
-{
-    let rows = write_row(words, s.rows, Kind::Mark as usize, s.number, 0, 0);
-    complete(s, symbols::EXPRESSION, rows, s.top.saturating_sub(1))
-}
-
-// The note is written, and the body begins.
-#[tactic(auto, unfolding(crate::specs::Machine::open_body))]
-fn open_body(stack: &mut [u32], words: &mut [i32], s: State, f: usize) -> State
-    ensures state { result ≡ (open_body (config s stack.old words.old) f).state }
-    ensures stack { stack.new ≡ (open_body (config s stack.old words.old) f).stack }
-    ensures words { words.new ≡ (open_body (config s stack.old words.old) f).words }
-{
-    let rows = write_row(
-        words,
-        s.rows,
-        Kind::Note as usize,
-        second_part(f),
-        s.rows.saturating_sub(1),
-        0,
-    );
-    let top = put(
-        stack,
-        s.top.saturating_sub(1),
-        frame(symbols::WHILE_BODY, first_part(f), rows.saturating_sub(1)),
-    );
-    let next = with_bodies(s, s.bodies % 65536 + 1);
-    due(with_rows(next, rows), PART, top)
-}
-
-#[tactic(auto, unfolding(crate::specs::Machine::next_place))]
-fn next_place(stack: &mut [u32], s: State, f: usize) -> State
-    ensures state { result ≡ (next_place (config s stack.old []) f).state }
-    ensures stack { stack.new ≡ (next_place (config s stack.old []) f).stack }
-{
-    let top = put(
-        stack,
-        s.top.saturating_sub(1),
-        frame(f % 64 + 1, second_part(f), s.rows.saturating_sub(1)),
-    );
-    due(s, PART, top)
-}
-
-// The part at a place is complete.
-#[tactic(auto, unfolding(crate::specs::Machine::close, crate::specs::Machine::close_mark, crate::specs::Machine::close_form, crate::specs::Machine::open_body, crate::specs::Machine::next_place))]
-fn close(stack: &mut [u32], words: &mut [i32], s: State, f: usize) -> State
-    ensures state { result ≡ (Machine·close (config s stack.old words.old) f).state }
-    ensures stack { stack.new ≡ (Machine·close (config s stack.old words.old) f).stack }
-    ensures words { words.new ≡ (Machine·close (config s stack.old words.old) f).words }
-{
-    let place = f % 64;
-    if is_group(place) {
-        return complete(s, s.sort, s.rows, s.top.saturating_sub(1));
+impl Reader<'_> {
+    #[tactic(auto, unfolding(crate::specs::Machine::close_form))]
+    fn close_form(&mut self, f: usize)
+        ensures moves { machine self.new ≡ close_form (machine self.old) f }
+        ensures lent { SameRuns self.old self.new }
+    {
+        let s = self.state;
+        let place = f % 64;
+        let rows = write_row(
+            self.words,
+            s.rows,
+            form_kind(place),
+            first_part(f),
+            second_part(f),
+            s.rows.saturating_sub(1),
+        );
+        let next = with_bodies(s, bodies_after(place, s.bodies));
+        self.state = complete(next, maker(f), rows, s.top.saturating_sub(1));
     }
-    if place == symbols::IN_MARK {
-        return close_mark(words, s);
-    }
-    if is_last(place) {
-        return close_form(words, s, f);
-    }
-    if place == symbols::WHILE_FALL {
-        open_body(stack, words, s, f)
-    } else {
-        next_place(stack, s, f)
-    }
-}
 
-#[tactic(auto, unfolding(crate::specs::Machine::push_infix))]
-fn push_infix(stack: &mut [u32], s: State, token: usize) -> State
-    ensures state { result ≡ (push_infix (config s stack.old []) token).state }
-    ensures stack { stack.new ≡ (push_infix (config s stack.old []) token).stack }
-{
-    let top = put(stack, s.top, frame(token, s.rows.saturating_sub(1), 0));
-    due(s, PART, top)
-}
+    #[tactic(auto, unfolding(crate::specs::Machine::close_mark))]
+    fn close_mark(&mut self)
+        ensures moves { machine self.new ≡ close_mark (machine self.old) }
+        ensures lent { SameRuns self.old self.new }
+    {
+        let s = self.state;
+        let rows = write_row(self.words, s.rows, Kind::Mark as usize, s.number, 0, 0);
+        self.state = complete(s, symbols::EXPRESSION, rows, s.top.saturating_sub(1));
+    }
 
-// What the token does to the part that operators have left.
-#[tactic(auto, unfolding(crate::specs::Machine::go_on, crate::specs::Machine::push_infix))]
-fn go_on(stack: &mut [u32], words: &mut [i32], s: State, token: usize, place: usize) -> State
-    ensures state { result ≡ (go_on (config s stack.old words.old) token place).state }
-    ensures stack { stack.new ≡ (go_on (config s stack.old words.old) token place).stack }
-    ensures words { words.new ≡ (go_on (config s stack.old words.old) token place).words }
-{
-    let f = top_frame(stack, s.top);
-    if operand_sort(token) == s.sort {
-        if begins(hole(f), maker(token)) {
-            return push_infix(stack, s, token);
+    // The note is written, and the body begins.
+    #[tactic(auto, unfolding(crate::specs::Machine::open_body))]
+    fn open_body(&mut self, f: usize)
+        ensures moves { machine self.new ≡ open_body (machine self.old) f }
+        ensures lent { SameRuns self.old self.new }
+    {
+        let s = self.state;
+        let rows = write_row(
+            self.words,
+            s.rows,
+            Kind::Note as usize,
+            second_part(f),
+            s.rows.saturating_sub(1),
+            0,
+        );
+        let top = put(
+            self.stack,
+            s.top.saturating_sub(1),
+            frame(symbols::WHILE_BODY, first_part(f), rows.saturating_sub(1)),
+        );
+        let next = with_bodies(s, s.bodies % 65536 + 1);
+        self.state = due(with_rows(next, rows), PART, top);
+    }
+
+    #[tactic(auto, unfolding(crate::specs::Machine::next_place))]
+    fn next_place(&mut self, f: usize)
+        ensures moves { machine self.new ≡ next_place (machine self.old) f }
+        ensures lent { SameRuns self.old self.new }
+    {
+        let s = self.state;
+        let top = put(
+            self.stack,
+            s.top.saturating_sub(1),
+            frame(f % 64 + 1, second_part(f), s.rows.saturating_sub(1)),
+        );
+        self.state = due(s, PART, top);
+    }
+
+    // The part at a place is complete.
+    #[tactic(auto, unfolding(crate::specs::Machine::close))]
+    fn close(&mut self, f: usize)
+        ensures moves { machine self.new ≡ Machine·close (machine self.old) f }
+        ensures lent { SameRuns self.old self.new }
+    {
+        let s = self.state;
+        match f % 64 {
+            symbols::GROUP | symbols::EXPRESSION_GROUP => {
+                self.state = complete(s, s.sort, s.rows, s.top.saturating_sub(1));
+            }
+            symbols::IN_MARK => self.close_mark(),
+            symbols::WHEN_THIRD | symbols::IF_ELSE | symbols::WHILE_BODY | symbols::POSTCONDITION =>
+                self.close_form(f),
+            symbols::WHILE_FALL => self.open_body(f),
+            _ => self.next_place(f),
         }
-        return refused(s, place);
     }
-    if end_of(f) == closing(token) && fits(hole(f), s.sort) {
-        close(stack, words, s, f)
-    } else {
-        refused(s, place)
-    }
-}
 
-#[tactic(auto, unfolding(crate::specs::Machine::after))]
-pub fn after(stack: &mut [u32], words: &mut [i32], s: State, token: usize, place: usize) -> State
-    ensures state { result ≡ (Machine·after (config s stack.old words.old) token place).state }
-    ensures stack { stack.new ≡ (Machine·after (config s stack.old words.old) token place).stack }
-    ensures words { words.new ≡ (Machine·after (config s stack.old words.old) token place).words }
-{
-    let part = Reduction {
-        sort: s.sort,
-        rows: s.rows,
-        top: s.top,
-    };
-    let left = reduce(stack, words, binding(token), part);
-    go_on(
-        stack,
-        words,
-        complete(s, left.sort, left.rows, left.top),
-        token,
-        place,
-    )
+    #[tactic(auto, unfolding(crate::specs::Machine::push_infix))]
+    fn push_infix(&mut self, token: usize)
+        ensures moves { machine self.new ≡ push_infix (machine self.old) token }
+        ensures lent { SameRuns self.old self.new }
+    {
+        let s = self.state;
+        let top = put(self.stack, s.top, frame(token, s.rows.saturating_sub(1), 0));
+        self.state = due(s, PART, top);
+    }
+
+    // What the token does to the part that operators have left.
+    #[tactic(auto, unfolding(crate::specs::Machine::go_on))]
+    fn go_on(&mut self, token: usize, place: usize)
+        ensures moves { machine self.new ≡ go_on (machine self.old) token place }
+        ensures lent { SameRuns self.old self.new }
+    {
+        let s = self.state;
+        let f = self.top_frame();
+        if operand_sort(token) == s.sort {
+            if begins(hole(f), maker(token)) {
+                self.push_infix(token);
+            } else {
+                self.state = refused(s, place);
+            }
+        } else if end_of(f) == closing(token) && fits(hole(f), s.sort) {
+            self.close(f);
+        } else {
+            self.state = refused(s, place);
+        }
+    }
+
+    #[tactic(auto, unfolding(crate::specs::Machine::after))]
+    pub fn after(&mut self, token: usize, place: usize)
+        ensures moves { machine self.new ≡ Machine·after (machine self.old) token place }
+        ensures lent { SameRuns self.old self.new }
+    {
+        let s = self.state;
+        let part = Reduction {
+            sort: s.sort,
+            rows: s.rows,
+            top: s.top,
+        };
+        let stack = &mut *self.stack;
+        let left = reduce(stack, self.words, binding(token), part);
+        self.state = complete(s, left.sort, left.rows, left.top);
+        self.go_on(token, place);
+    }
 }

@@ -1,11 +1,13 @@
 // A token where a part begins.
 
-ghost use Rattle.std.specs.Prelude.{◌≡◌, []};
+ghost use Rattle.std.specs.Prelude.{◌≡◌};
 ghost use Rattle.grammar.specs.Ranges.{limit, mark_fits};
-ghost use Rattle.parser.specs.Machine.{config, begin_count, constant_word, begin_constant, begin_numeral, begin_variable, begin_assignment, begin_name, is_leaf, due_after, begin_leaf, begin_form, begin_word};
+ghost use Rattle.parser.specs.Readers.{machine, SameRuns};
+ghost use Rattle.parser.specs.Machine.{begin_count, constant_word, begin_constant, begin_numeral, begin_variable, begin_assignment, begin_name, is_leaf, due_after, begin_leaf, begin_form, begin_word};
 ghost use Rattle.parser.specs.Machine.{opened as Machine·opened, begin as Machine·begin};
 
-use crate::frames::{frame, put, top_frame};
+use crate::frames::{frame, put};
+use crate::reader::Reader;
 use crate::rows::{write_constant, write_row};
 use crate::sorts::begins;
 use crate::states::{complete, counted, due, kept, noted, refused};
@@ -47,83 +49,6 @@ fn constant_word(minus: bool, n: usize) -> i32
     (if minus { -value } else { value }) as i32
 }
 
-// A constant; right after a unary minus, whose frame goes.
-#[tactic(auto, unfolding(crate::specs::Machine::begin_constant))]
-fn begin_constant(words: &mut [i32], s: State, minus: bool, n: usize, place: usize) -> State
-    ensures state { result ≡ (begin_constant (config s [] words.old) minus n place).state }
-    ensures words { words.new ≡ (begin_constant (config s [] words.old) minus n place).words }
-{
-    let rows = write_constant(words, s.rows, constant_word(minus, n));
-    let next = noted(s, n <= largest(minus), place);
-    let top = if minus {
-        s.top.saturating_sub(1)
-    } else {
-        s.top
-    };
-    complete(next, symbols::EXPRESSION, rows, top)
-}
-
-#[tactic(auto, unfolding(crate::specs::Machine::begin_numeral, crate::specs::Machine::begin_constant))]
-fn begin_numeral(stack: &[u32], words: &mut [i32], s: State, n: usize, place: usize) -> State
-    ensures state { result ≡ (begin_numeral (config s stack.now words.old) n place).state }
-    ensures words { words.new ≡ (begin_numeral (config s stack.now words.old) n place).words }
-{
-    let top = top_frame(stack, s.top);
-    let h = hole(top);
-    if h == symbols::NUMBER {
-        return begin_count(s, n, place);
-    }
-    if begins(h, symbols::EXPRESSION) {
-        begin_constant(words, s, top % 64 == symbols::NEGATE, n, place)
-    } else {
-        refused(s, place)
-    }
-}
-
-#[tactic(auto, unfolding(crate::specs::Machine::begin_variable))]
-fn begin_variable(words: &mut [i32], s: State, v: usize, place: usize) -> State
-    ensures state { result ≡ (begin_variable (config s [] words.old) v place).state }
-    ensures words { words.new ≡ (begin_variable (config s [] words.old) v place).words }
-{
-    let in_range = v < VARIABLES;
-    let rows = write_row(
-        words,
-        s.rows,
-        Kind::Variable as usize,
-        kept(in_range, v),
-        0,
-        0,
-    );
-    complete(noted(s, in_range, place), symbols::EXPRESSION, rows, s.top)
-}
-
-#[tactic(auto, unfolding(crate::specs::Machine::begin_assignment))]
-fn begin_assignment(stack: &mut [u32], s: State, v: usize, place: usize) -> State
-    ensures state { result ≡ (begin_assignment (config s stack.old []) v place).state }
-    ensures stack { stack.new ≡ (begin_assignment (config s stack.old []) v place).stack }
-{
-    let in_range = v < VARIABLES;
-    let top = put(stack, s.top, frame(symbols::ASSIGN, kept(in_range, v), 0));
-    due(noted(s, in_range, place), BECOMES, top)
-}
-
-#[tactic(auto, unfolding(crate::specs::Machine::begin_name, crate::specs::Machine::begin_assignment, crate::specs::Machine::begin_variable))]
-fn begin_name(stack: &mut [u32], words: &mut [i32], s: State, v: usize, place: usize) -> State
-    ensures state { result ≡ (begin_name (config s stack.old words.old) v place).state }
-    ensures stack { stack.new ≡ (begin_name (config s stack.old words.old) v place).stack }
-    ensures words { words.new ≡ (begin_name (config s stack.old words.old) v place).words }
-{
-    let h = hole(top_frame(stack, s.top));
-    if h == symbols::STATEMENT {
-        return begin_assignment(stack, s, v, place);
-    }
-    if begins(h, symbols::EXPRESSION) {
-        begin_variable(words, s, v, place)
-    } else {
-        refused(s, place)
-    }
-}
-
 // True, false and skip.
 fn is_leaf(token: usize) -> bool
     ensures { result ≡ is_leaf token }
@@ -162,57 +87,128 @@ fn due_after(token: usize) -> usize
     }
 }
 
-#[tactic(auto, unfolding(crate::specs::Machine::begin_leaf))]
-fn begin_leaf(words: &mut [i32], s: State, token: usize) -> State
-    ensures state { result ≡ (begin_leaf (config s [] words.old) token).state }
-    ensures words { words.new ≡ (begin_leaf (config s [] words.old) token).words }
-{
-    let rows = write_row(words, s.rows, token, 0, 0, 0);
-    complete(s, beginning(token), rows, s.top)
-}
-
-#[tactic(auto, unfolding(crate::specs::Machine::begin_form))]
-fn begin_form(stack: &mut [u32], s: State, token: usize) -> State
-    ensures state { result ≡ (begin_form (config s stack.old []) token).state }
-    ensures stack { stack.new ≡ (begin_form (config s stack.old []) token).stack }
-{
-    let h = hole(top_frame(stack, s.top));
-    let top = put(stack, s.top, frame(opened(token, h), 0, 0));
-    due(s, due_after(token), top)
-}
-
-#[tactic(auto, unfolding(crate::specs::Machine::begin_word, crate::specs::Machine::begin_leaf, crate::specs::Machine::begin_form))]
-fn begin_word(stack: &mut [u32], words: &mut [i32], s: State, token: usize, place: usize) -> State
-    ensures state { result ≡ (begin_word (config s stack.old words.old) token place).state }
-    ensures stack { stack.new ≡ (begin_word (config s stack.old words.old) token place).stack }
-    ensures words { words.new ≡ (begin_word (config s stack.old words.old) token place).words }
-{
-    let h = hole(top_frame(stack, s.top));
-    if begins(h, beginning(token)) {
-        if is_leaf(token) {
-            return begin_leaf(words, s, token);
-        }
-        return begin_form(stack, s, token);
+impl Reader<'_> {
+    // A constant; right after a unary minus, whose frame goes.
+    #[tactic(auto, unfolding(crate::specs::Machine::begin_constant))]
+    fn begin_constant(&mut self, minus: bool, n: usize, place: usize)
+        ensures moves { machine self.new ≡ begin_constant (machine self.old) minus n place }
+        ensures lent { SameRuns self.old self.new }
+    {
+        let s = self.state;
+        let rows = write_constant(self.words, s.rows, constant_word(minus, n));
+        let next = noted(s, n <= largest(minus), place);
+        let top = if minus {
+            s.top.saturating_sub(1)
+        } else {
+            s.top
+        };
+        self.state = complete(next, symbols::EXPRESSION, rows, top);
     }
-    refused(s, place)
-}
 
-#[tactic(auto, using(crate::proofs::Laws::numeral_stack), unfolding(crate::specs::Machine::begin))]
-pub fn begin(
-    stack: &mut [u32],
-    words: &mut [i32],
-    s: State,
-    token: usize,
-    value: usize,
-    place: usize,
-) -> State
-    ensures state { result ≡ (Machine·begin (config s stack.old words.old) token value place).state }
-    ensures stack { stack.new ≡ (Machine·begin (config s stack.old words.old) token value place).stack }
-    ensures words { words.new ≡ (Machine·begin (config s stack.old words.old) token value place).words }
-{
-    match token {
-        tokens::NUMERAL => begin_numeral(stack, words, s, value, place),
-        tokens::VARIABLE => begin_name(stack, words, s, value, place),
-        _ => begin_word(stack, words, s, token, place),
+    #[tactic(auto, unfolding(crate::specs::Machine::begin_numeral))]
+    fn begin_numeral(&mut self, n: usize, place: usize)
+        ensures moves { machine self.new ≡ begin_numeral (machine self.old) n place }
+        ensures lent { SameRuns self.old self.new }
+    {
+        let s = self.state;
+        let top = self.top_frame();
+        let h = hole(top);
+        if h == symbols::NUMBER {
+            self.state = begin_count(s, n, place);
+        } else if begins(h, symbols::EXPRESSION) {
+            self.begin_constant(top % 64 == symbols::NEGATE, n, place);
+        } else {
+            self.state = refused(s, place);
+        }
+    }
+
+    #[tactic(auto, unfolding(crate::specs::Machine::begin_variable))]
+    fn begin_variable(&mut self, v: usize, place: usize)
+        ensures moves { machine self.new ≡ begin_variable (machine self.old) v place }
+        ensures lent { SameRuns self.old self.new }
+    {
+        let s = self.state;
+        let in_range = v < VARIABLES;
+        let variable = kept(in_range, v);
+        let rows = write_row(self.words, s.rows, Kind::Variable as usize, variable, 0, 0);
+        self.state = complete(noted(s, in_range, place), symbols::EXPRESSION, rows, s.top);
+    }
+
+    #[tactic(auto, unfolding(crate::specs::Machine::begin_assignment))]
+    fn begin_assignment(&mut self, v: usize, place: usize)
+        ensures moves { machine self.new ≡ begin_assignment (machine self.old) v place }
+        ensures lent { SameRuns self.old self.new }
+    {
+        let s = self.state;
+        let in_range = v < VARIABLES;
+        let top = put(
+            self.stack,
+            s.top,
+            frame(symbols::ASSIGN, kept(in_range, v), 0),
+        );
+        self.state = due(noted(s, in_range, place), BECOMES, top);
+    }
+
+    #[tactic(auto, unfolding(crate::specs::Machine::begin_name))]
+    fn begin_name(&mut self, v: usize, place: usize)
+        ensures moves { machine self.new ≡ begin_name (machine self.old) v place }
+        ensures lent { SameRuns self.old self.new }
+    {
+        let h = hole(self.top_frame());
+        if h == symbols::STATEMENT {
+            self.begin_assignment(v, place);
+        } else if begins(h, symbols::EXPRESSION) {
+            self.begin_variable(v, place);
+        } else {
+            self.state = refused(self.state, place);
+        }
+    }
+
+    #[tactic(auto, unfolding(crate::specs::Machine::begin_leaf))]
+    fn begin_leaf(&mut self, token: usize)
+        ensures moves { machine self.new ≡ begin_leaf (machine self.old) token }
+        ensures lent { SameRuns self.old self.new }
+    {
+        let s = self.state;
+        let rows = write_row(self.words, s.rows, token, 0, 0, 0);
+        self.state = complete(s, beginning(token), rows, s.top);
+    }
+
+    #[tactic(auto, unfolding(crate::specs::Machine::begin_form))]
+    fn begin_form(&mut self, token: usize)
+        ensures moves { machine self.new ≡ begin_form (machine self.old) token }
+        ensures lent { SameRuns self.old self.new }
+    {
+        let s = self.state;
+        let h = hole(self.top_frame());
+        let top = put(self.stack, s.top, frame(opened(token, h), 0, 0));
+        self.state = due(s, due_after(token), top);
+    }
+
+    #[tactic(auto, unfolding(crate::specs::Machine::begin_word))]
+    fn begin_word(&mut self, token: usize, place: usize)
+        ensures moves { machine self.new ≡ begin_word (machine self.old) token place }
+        ensures lent { SameRuns self.old self.new }
+    {
+        let h = hole(self.top_frame());
+        if !begins(h, beginning(token)) {
+            self.state = refused(self.state, place);
+        } else if is_leaf(token) {
+            self.begin_leaf(token);
+        } else {
+            self.begin_form(token);
+        }
+    }
+
+    #[tactic(auto, unfolding(crate::specs::Machine::begin))]
+    pub fn begin(&mut self, token: usize, value: usize, place: usize)
+        ensures moves { machine self.new ≡ Machine·begin (machine self.old) token value place }
+        ensures lent { SameRuns self.old self.new }
+    {
+        match token {
+            tokens::NUMERAL => self.begin_numeral(value, place),
+            tokens::VARIABLE => self.begin_name(value, place),
+            _ => self.begin_word(token, place),
+        }
     }
 }

@@ -8,12 +8,15 @@ mod frames; // the stack
 mod rows; // the rows
 mod sorts; // which sorts fit
 mod states; // what a move leaves
+mod reader; // what reads
 mod begin; // a token where a part begins
 mod after; // a token after a part
 
-ghost use Rattle.std.specs.Prelude.{◌≡◌, []};
+ghost use Rattle.std.specs.Prelude.{◌≡◌};
+ghost use Rattle.parser.specs.Readers.{machine, SameRuns};
 ghost use Rattle.parser.specs.Machine.{config, at_post, expect as Machine·expect, take_part, take_after, take as Machine·take};
 
+use reader::Reader;
 use scanner::tokens;
 
 // What is due: a part; what goes on after a part; an opening bracket; `:=`; nothing, since a token was refused.
@@ -52,68 +55,77 @@ pub struct State {
     pub place: usize,
 }
 
-// Post, where the operator that waits is a semicolon: that is given up.
-#[tactic(auto, unfolding(crate::specs::Machine::at_post))]
-fn at_post(stack: &mut [u32], words: &mut [i32], s: State, place: usize) -> State
-    ensures state { result ≡ (at_post (config s stack.old words.old) place).state }
-    ensures stack { stack.new ≡ (at_post (config s stack.old words.old) place).stack }
-    ensures words { words.new ≡ (at_post (config s stack.old words.old) place).words }
-{
-    if frames::top_frame(stack, s.top) % 64 == symbols::SEMICOLON {
-        let before = states::complete(s, symbols::STATEMENT, s.rows, s.top.saturating_sub(1));
-        after::after(stack, words, before, tokens::POST, place)
-    } else {
-        states::refused(s, place)
+impl Reader<'_> {
+    // Post, where the operator that waits is a semicolon: that is given up.
+    #[tactic(auto, unfolding(crate::specs::Machine::at_post))]
+    fn at_post(&mut self, place: usize)
+        ensures moves { machine self.new ≡ at_post (machine self.old) place }
+        ensures lent { SameRuns self.old self.new }
+    {
+        let s = self.state;
+        if self.top_frame() % 64 == symbols::SEMICOLON {
+            self.state = states::complete(s, symbols::STATEMENT, s.rows, s.top.saturating_sub(1));
+            self.after(tokens::POST, place);
+        } else {
+            self.state = states::refused(s, place);
+        }
     }
-}
 
-// A token of which only one is due.
-#[tactic(auto, unfolding(crate::specs::Machine::expect))]
-fn expect(s: State, token: usize, due: usize, place: usize) -> State
-    ensures { result ≡ (Machine·expect (config s [] []) token due place).state }
-{
-    if token == due {
-        states::due(s, PART, s.top)
-    } else {
-        states::refused(s, place)
+    // A token of which only one is due.
+    #[tactic(auto, unfolding(crate::specs::Machine::expect))]
+    fn expect(&mut self, token: usize, due: usize, place: usize)
+        ensures moves { machine self.new ≡ Machine·expect (machine self.old) token due place }
+        ensures lent { SameRuns self.old self.new }
+    {
+        let s = self.state;
+        self.state = if token == due {
+            states::due(s, PART, s.top)
+        } else {
+            states::refused(s, place)
+        };
     }
-}
 
-#[tactic(auto, unfolding(crate::specs::Machine::take_part))]
-fn take_part(
-    stack: &mut [u32],
-    words: &mut [i32],
-    s: State,
-    token: usize,
-    value: usize,
-    place: usize,
-) -> State
-    ensures state { result ≡ (take_part (config s stack.old words.old) token value place).state }
-    ensures stack { stack.new ≡ (take_part (config s stack.old words.old) token value place).stack }
-    ensures words { words.new ≡ (take_part (config s stack.old words.old) token value place).words }
-{
-    if token == tokens::POST {
-        at_post(stack, words, s, place)
-    } else {
-        begin::begin(stack, words, s, token, value, place)
+    #[tactic(auto, unfolding(crate::specs::Machine::take_part))]
+    fn take_part(&mut self, token: usize, value: usize, place: usize)
+        ensures moves { machine self.new ≡ take_part (machine self.old) token value place }
+        ensures lent { SameRuns self.old self.new }
+    {
+        if token == tokens::POST {
+            self.at_post(place);
+        } else {
+            self.begin(token, value, place);
+        }
     }
-}
 
-#[tactic(auto, unfolding(crate::specs::Machine::take_after))]
-fn take_after(stack: &mut [u32], words: &mut [i32], s: State, token: usize, place: usize) -> State
-    ensures state { result ≡ (take_after (config s stack.old words.old) token place).state }
-    ensures stack { stack.new ≡ (take_after (config s stack.old words.old) token place).stack }
-    ensures words { words.new ≡ (take_after (config s stack.old words.old) token place).words }
-{
-    if token == tokens::POST {
-        states::refused(s, place)
-    } else {
-        after::after(stack, words, s, token, place)
+    #[tactic(auto, unfolding(crate::specs::Machine::take_after))]
+    fn take_after(&mut self, token: usize, place: usize)
+        ensures moves { machine self.new ≡ take_after (machine self.old) token place }
+        ensures lent { SameRuns self.old self.new }
+    {
+        if token == tokens::POST {
+            self.state = states::refused(self.state, place);
+        } else {
+            self.after(token, place);
+        }
+    }
+
+    // Once a token was refused, nothing changes.
+    #[tactic(auto, unfolding(crate::specs::Machine::take))]
+    fn take(&mut self, token: usize, value: usize, place: usize)
+        ensures moves { machine self.new ≡ Machine·take (machine self.old) token value place }
+        ensures lent { SameRuns self.old self.new }
+    {
+        match self.state.mode {
+            PART => self.take_part(token, value, place),
+            AFTER => self.take_after(token, place),
+            BRACKET => self.expect(token, tokens::OPEN, place),
+            BECOMES => self.expect(token, tokens::BECOMES, place),
+            _ => {}
+        }
     }
 }
 
 // Takes a token with its value, at a place; once one was refused, nothing changes.
-#[tactic(auto, unfolding(crate::specs::Machine::take, crate::specs::Machine::expect))]
 pub fn take(
     stack: &mut [u32],
     words: &mut [i32],
@@ -126,12 +138,11 @@ pub fn take(
     ensures stack { stack.new ≡ (Machine·take (config s stack.old words.old) token value place).stack }
     ensures words { words.new ≡ (Machine·take (config s stack.old words.old) token value place).words }
 {
-    let mode = s.mode;
-    match mode {
-        PART => take_part(stack, words, s, token, value, place),
-        AFTER => take_after(stack, words, s, token, place),
-        BRACKET => expect(s, token, tokens::OPEN, place),
-        BECOMES => expect(s, token, tokens::BECOMES, place),
-        _ => s,
-    }
+    let mut reader = Reader {
+        state: s,
+        stack,
+        words,
+    };
+    reader.take(token, value, place);
+    reader.state
 }
