@@ -19,7 +19,8 @@ ghost use Rattle.parser.specs.Machine.{config, at_post, expect as Machine·expec
 use reader::Reader;
 use scanner::tokens;
 
-// What is due: a part; what goes on after a part; an opening bracket; `:=`; nothing, since a token was refused.
+// What is due: a part; what goes on after a part; an opening bracket; `:=`; nothing, since a token was refused. No enum, and no Option
+// for `FULL` and `NOWHERE`: `take` takes a state with any numbers, and `Control` and `Data` (`Encoding` in `parsing`) speak of these.
 pub const PART: usize = 0;
 
 pub const AFTER: usize = 1;
