@@ -9,6 +9,8 @@ use lib.IntN.{ℤ, pos, negsuc}
 use lib.Dec.{eqb, ltb}
 use lib.ListN.{length}
 use borrow.Author.Tests.{ltb-true, ltb-false}
+use mir.Facts.{to_z-of_z}
+use Rattle.std.proofs.Common.{FitsSigned, w32, to_z, of_z}
 use Rattle.script.specs.declared.Line.{Line}
 use Rattle.script.specs.Listing.{guarded, Found, line, line_at, line_at_within, no_line}
 use Rattle.list_reader.specs.declared.lines.Trailer.{Trailer}
@@ -85,3 +87,7 @@ pub line_at_fits : (ws : List ℤ) (i : ℤ) {l : Line} → l ≡ line_at ws i �
 unfolding line_at_within
 line_at_fits ws i q =
     rw (q, line_at_within, lines_are) (when_fits ws (ltb 0 (claimed ws)) (claimed ws) (length ws - 1) i)
+
+-- from an index as a local holds it
+pub line_read_fits : (ws : List ℤ) (i : ℤ) {l : Line} → FitsSigned w32 i → l ≡ line_at ws (to_z w32 (of_z w32 i)) → Fits ws l
+line_read_fits ws i h q = line_at_fits ws i (rw (to_z-of_z h) at q)

@@ -1,14 +1,16 @@
 // The line that ends at a place: a trailer and the formula before it. A trailer has three words or four, as the last word of the
 // list tells (02, P9).
 
-ghost use Rattle.std.specs.Prelude.{◌≡◌, ◌+◌, ◌≤◌, length};
+ghost use Rattle.std.specs.Prelude.{◌≡◌, ◌+◌, ◌≤◌, ◌<◌, pos, length, get_or};
+ghost use Rattle.script.specs.Rows.{field_number};
+ghost use Rattle.script.specs.Kinds.{kind_of};
 ghost use Rattle.script.specs.declared.Line.{Line};
 ghost use Rattle.script.specs.Listing.{rule_of, below, last_word, step_back};
 ghost use Rattle.list_reader.specs.Lines.{is_some, line_ending, Tail, trailer_at, is_line, found_by, start_found};
 ghost use Rattle.list_reader.specs.Lines.{trailer_line, line_told, refusal, Told, place_after};
 
 use crate::formulas::is_formula;
-use script::Line;
+use script::{Kind, Line};
 
 // Why there is no line, by the number of the refusal: the words are no list, or a list without that line.
 #[derive(Clone, Copy, PartialEq, Eq, Debug)]
@@ -40,6 +42,14 @@ pub fn last_word(words: &[i32]) -> i32
 {
     let n = words.len();
     if n == 0 { 0 } else { words[n - 1] }
+}
+
+// The kind that a word is.
+pub fn kind_at(words: &[i32], at: usize) -> Kind
+    requires { at < length words.now }
+    ensures { result ≡ kind_of (field_number (get_or words.now at (pos 0))) }
+{
+    Kind::from(script::field_number(words[at]))
 }
 
 // How many words a trailer has.

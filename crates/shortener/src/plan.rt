@@ -10,7 +10,8 @@ ghost use Rattle.shortener.specs.Planning.{Roomy, Planned};
 ghost use Rattle.shortener.specs.Runs.{shape_told, coded, ends, shapes, changes, blank};
 
 use crate::rules::{Change, Shape, changed_shape, not_change, pair_change};
-use script::{Kind, field_number};
+use list_reader::kind_at;
+use script::Kind;
 
 // Of a node: the place past it, its shape when it is shortened, and what it becomes.
 #[derive(Clone, Copy)]
@@ -131,7 +132,7 @@ fn entry_at(words: &[i32], at: usize, entries: &[Entry]) -> Entry
     requires { (at < length words.now) × (at < 16384) }
     ensures { coded result ≡ entry_at words.now (ends entries.now) (shapes entries.now) at }
 {
-    let kind = Kind::from(field_number(words[at]));
+    let kind = kind_at(words, at);
     match kind {
         Kind::Constant => number_entry(at, number_shape(words, at + 1)),
         Kind::Variable => number_entry(at, Shape::Other),

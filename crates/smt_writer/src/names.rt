@@ -9,6 +9,7 @@ ghost use Rattle.smt.specs.Pieces.{declaration_text, declarations_text};
 ghost use Rattle.smt_writer.specs.Nodes.{Spells, Spelled};
 ghost use Rattle.smt_writer.specs.Noted.{names, reference_at, variable_place, mark_place, noted, past, top_of, declared_if, declared_from};
 
+use list_reader::kind_at;
 use script::{Kind, RowNumber, VARIABLES, VariableNumber, field_number};
 use text::{push_byte, push_number, push_text};
 
@@ -64,7 +65,7 @@ fn note_names(formula: &[i32], flags: &mut [u8]) -> Tops
     let mut variables = 0;
     let mut marks = 0;
     while i < formula.len() {
-        match Kind::from(field_number(formula[i])) {
+        match kind_at(formula, i) {
             Kind::Constant => i += 2,
             Kind::Variable => {
                 variables = note(flags, field_number(formula[i + 1]), variables);

@@ -12,7 +12,7 @@ ghost use Rattle.smt_writer.specs.Turns.{Begins, Written};
 ghost use Rattle.smt_writer.specs.Divisions.{DividesBy, ByZero, Divided};
 
 use crate::names::{write_mark, write_variable};
-use list_reader::expression_end;
+use list_reader::{expression_end, kind_at};
 use script::{Kind, RowNumber, VariableNumber, field_number};
 use text::{magnitude, push_byte, push_number, push_repeated, push_text};
 
@@ -155,7 +155,7 @@ pub fn write_node(words: &[i32], first: usize, text: &mut [u8], start: usize) ->
     let mut p = start;
     let mut closing = 0;
     while p <= text.len() {
-        let kind = Kind::from(field_number(words[at]));
+        let kind = kind_at(words, at);
         match shape_of(kind) {
             Shape::Leaf => {
                 let q = write_leaf(text, p, kind, words[at + 1]);

@@ -6,7 +6,7 @@ use mir.Facts.{to_z-of_z}
 use Rattle.script.specs.declared.Line.{Line}
 use Rattle.theorems.specs.Clearing.{all_cleared}
 use Rattle.list_reader.proofs.Part.{part_is}
-use Rattle.list_reader.proofs.Fitting.{line_at_fits}
+use Rattle.list_reader.proofs.Fitting.{line_read_fits}
 use Rattle.smt_writer.specs.Nodes.{spells_as, spelled_as}
 use Rattle.smt_writer.specs.Entry.{found_answered, found_spelled}
 use Rattle.smt_writer.proofs.Refusals.{refused}
@@ -22,25 +22,25 @@ returns-in_err-line c =
 pub offset_bounds-list-line : goal.offset_bounds-list-line
 offset_bounds-list-line c =
     let told = c.in_ok-line.ensures in
-    let fit = line_at_fits c.args.list.now c.args.index (rw (to_z-of_z c.ranges.index) at told.0) in
+    let fit = line_read_fits c.args.list.now c.args.index c.ranges.index told.0 in
     omega (arith, fit.ordered, fit.within)
 
 pub slice_bounds-write_fitting-count : goal.slice_bounds-write_fitting-count
 slice_bounds-write_fitting-count c =
     let told = c.in_ok-line.ensures in
-    let fit = line_at_fits c.args.list.now c.args.index (rw (to_z-of_z c.ranges.index) at told.0) in
+    let fit = line_read_fits c.args.list.now c.args.index c.ranges.index told.0 in
     omega (arith, fit.ordered)
 
 pub slice_bounds-write_fitting-start : goal.slice_bounds-write_fitting-start
 slice_bounds-write_fitting-start c =
     let told = c.in_ok-line.ensures in
-    let fit = line_at_fits c.args.list.now c.args.index (rw (to_z-of_z c.ranges.index) at told.0) in
+    let fit = line_read_fits c.args.list.now c.args.index c.ranges.index told.0 in
     omega (arith, fit.ordered)
 
 pub slice_bounds-write_fitting-end : goal.slice_bounds-write_fitting-end
 slice_bounds-write_fitting-end c =
     let told = c.in_ok-line.ensures in
-    let fit = line_at_fits c.args.list.now c.args.index (rw (to_z-of_z c.ranges.index) at told.0) in
+    let fit = line_read_fits c.args.list.now c.args.index c.ranges.index told.0 in
     omega (arith, fit.within)
 
 pub write_fitting-requires : goal.write_fitting-requires

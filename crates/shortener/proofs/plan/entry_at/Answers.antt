@@ -1,7 +1,6 @@
 -- `shortener::plan::entry_at` meets its contract: each kind by its number, then every other kind.
-use Rattle.std.proofs.Common.{◌≡◌, ◌∙◌, ◌+◌, ℕ, List, ℤ, refl, sym, ap, pos, get_or, rules}
+use Rattle.std.proofs.Common.{◌≡◌, ◌∙◌, ◌+◌, ℕ, List, ℤ, refl, sym, ap, pos, get_or}
 use Rattle.script.specs.Kinds.{kind_of, number_read, other_read}
-use Rattle.script.specs.Laws.{back}
 use Rattle.script.specs.Rows.{field_number}
 use Rattle.shortener.specs.Codes.{Coded, kept_code, numbered_code, other_code}
 use Rattle.shortener.specs.Entries.{entry, entry_of, other_entry}
@@ -16,7 +15,7 @@ of_kind ws es ss at p q = p ∙ ap (λ k. entry_of k ws es ss at) (sym q)
 pub returns-in-Constant : goal.returns-in-Constant
 unfolding entry_of
 returns-in-Constant c =
-    let e = c.from-kind.ensures ∙ ap kind_of (c.field_number.ensures ∙ ap field_number (back {z = get_or c.args.words.now c.args.at (pos 0)} (search rules))) in
+    let e = c.kind_at-kind.ensures in
     of_kind c.args.words.now (ends c.args.entries.now) (shapes c.args.entries.now) c.args.at
     (c.number_entry.ensures ∙ ap (λ s. entry (c.args.at + 2) s numbered_code) c.number_shape.ensures)
     (number_read e c.in-Constant.is refl)
@@ -24,7 +23,7 @@ returns-in-Constant c =
 pub returns-in-Variable : goal.returns-in-Variable
 unfolding entry_of
 returns-in-Variable c =
-    let e = c.from-kind.ensures ∙ ap kind_of (c.field_number.ensures ∙ ap field_number (back {z = get_or c.args.words.now c.args.at (pos 0)} (search rules))) in
+    let e = c.kind_at-kind.ensures in
     of_kind c.args.words.now (ends c.args.entries.now) (shapes c.args.entries.now) c.args.at
     (c.number_entry-in-Variable.ensures)
     (number_read e c.in-Variable.is refl)
@@ -32,7 +31,7 @@ returns-in-Variable c =
 pub returns-in-Mark : goal.returns-in-Mark
 unfolding entry_of
 returns-in-Mark c =
-    let e = c.from-kind.ensures ∙ ap kind_of (c.field_number.ensures ∙ ap field_number (back {z = get_or c.args.words.now c.args.at (pos 0)} (search rules))) in
+    let e = c.kind_at-kind.ensures in
     of_kind c.args.words.now (ends c.args.entries.now) (shapes c.args.entries.now) c.args.at
     (c.number_entry-in-Mark.ensures)
     (number_read e c.in-Mark.is refl)
@@ -40,7 +39,7 @@ returns-in-Mark c =
 pub returns-in-True : goal.returns-in-True
 unfolding entry_of
 returns-in-True c =
-    let e = c.from-kind.ensures ∙ ap kind_of (c.field_number.ensures ∙ ap field_number (back {z = get_or c.args.words.now c.args.at (pos 0)} (search rules))) in
+    let e = c.kind_at-kind.ensures in
     of_kind c.args.words.now (ends c.args.entries.now) (shapes c.args.entries.now) c.args.at
     (c.truth_entry.ensures)
     (number_read e c.in-True.is refl)
@@ -48,7 +47,7 @@ returns-in-True c =
 pub returns-in-False : goal.returns-in-False
 unfolding entry_of
 returns-in-False c =
-    let e = c.from-kind.ensures ∙ ap kind_of (c.field_number.ensures ∙ ap field_number (back {z = get_or c.args.words.now c.args.at (pos 0)} (search rules))) in
+    let e = c.kind_at-kind.ensures in
     of_kind c.args.words.now (ends c.args.entries.now) (shapes c.args.entries.now) c.args.at
     (c.truth_entry-in-False.ensures)
     (number_read e c.in-False.is refl)
@@ -56,7 +55,7 @@ returns-in-False c =
 pub returns-in-Negate : goal.returns-in-Negate
 unfolding entry_of
 returns-in-Negate c =
-    let e = c.from-kind.ensures ∙ ap kind_of (c.field_number.ensures ∙ ap field_number (back {z = get_or c.args.words.now c.args.at (pos 0)} (search rules))) in
+    let e = c.kind_at-kind.ensures in
     of_kind c.args.words.now (ends c.args.entries.now) (shapes c.args.entries.now) c.args.at
     (c.kept_entry.ensures ∙ ap (λ n. entry n other_code kept_code) (end_read c.args.entries.now (c.args.at + 1) c.part_at.ensures))
     (number_read e c.in-Negate.is refl)
@@ -68,7 +67,7 @@ returns-in-Choose c =
     let formula = c.place.ensures ∙ end_read es (c.args.at + 1) c.part_at-formula.ensures in
     let chosen = c.place-in-Choose.ensures ∙ end_read_at es c.place.result c.part_at-chosen.ensures formula in
     let last = end_read_at es c.place-in-Choose.result c.part_at-in-Choose.ensures chosen in
-    let e = c.from-kind.ensures ∙ ap kind_of (c.field_number.ensures ∙ ap field_number (back {z = get_or c.args.words.now c.args.at (pos 0)} (search rules))) in
+    let e = c.kind_at-kind.ensures in
     of_kind c.args.words.now (ends c.args.entries.now) (shapes c.args.entries.now) c.args.at
     (c.kept_entry-in-Choose.ensures ∙ ap (λ n. entry n other_code kept_code) last)
     (number_read e c.in-Choose.is refl)
@@ -76,7 +75,7 @@ returns-in-Choose c =
 pub returns-in-Not : goal.returns-in-Not
 unfolding entry_of
 returns-in-Not c =
-    let e = c.from-kind.ensures ∙ ap kind_of (c.field_number.ensures ∙ ap field_number (back {z = get_or c.args.words.now c.args.at (pos 0)} (search rules))) in
+    let e = c.kind_at-kind.ensures in
     of_kind c.args.words.now (ends c.args.entries.now) (shapes c.args.entries.now) c.args.at
     (c.not_entry.ensures)
     (number_read e c.in-Not.is refl)
@@ -88,6 +87,6 @@ returns-in_default c =
     let es = c.args.entries.now in
     let k = field_number (get_or ws c.args.at (pos 0)) in
     let d = c.in_default in
-    let e = c.from-kind.ensures ∙ ap kind_of (c.field_number.ensures ∙ ap field_number (back {z = get_or c.args.words.now c.args.at (pos 0)} (search rules))) in
+    let e = c.kind_at-kind.ensures in
     c.pair_entry.ensures k e
     ∙ other_entry k ((((((((tt, other_read e d.not-Constant refl), other_read e d.not-Variable refl), other_read e d.not-Mark refl), other_read e d.not-True refl), other_read e d.not-False refl), other_read e d.not-Negate refl), other_read e d.not-Choose refl), other_read e d.not-Not refl) ws (ends es) (shapes es) c.args.at

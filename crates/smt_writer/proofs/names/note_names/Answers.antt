@@ -16,24 +16,21 @@ loop-i-init c = (c.requires.flags_len, λ f s. all_left s)
 pub loop-i-preserved-in-Constant : goal.loop-i-preserved-in-Constant
 loop-i-preserved-in-Constant c =
     let inv = c.loop-i.invariant in
-    let read = c.field_number.ensures ∙ ap field_number (back {z = get_or c.args.formula.now c.loop-i.i (pos 0)} (search rules)) in
-    (inv.0, λ f s. constant_left (inv.1 f s) c.loop-i-test.true read (number_read c.from.ensures c.in-Constant.is refl))
+    (inv.0, λ f s. constant_left (inv.1 f s) c.loop-i-test.true refl (number_read c.kind_at.ensures c.in-Constant.is refl))
 
 -- ---- a variable
 
-pub bounds-formula-i-in-Variable : goal.bounds-formula-i-in-Variable
-bounds-formula-i-in-Variable c =
+pub bounds-formula-i : goal.bounds-formula-i
+bounds-formula-i c =
     let left = c.loop-i.invariant.1 c.requires.spelled.claim c.requires.spelled.spells in
-    let read = c.field_number.ensures ∙ ap field_number (back {z = get_or c.args.formula.now c.loop-i.i (pos 0)} (search rules)) in
-    (variable_here left c.loop-i-test.true read (number_read c.from.ensures c.in-Variable.is refl)).within
+    (variable_here left c.loop-i-test.true refl (number_read c.kind_at.ensures c.in-Variable.is refl)).within
 
 pub note-variables-requires : goal.note-variables-requires
 note-variables-requires c =
     let inv = c.loop-i.invariant in
     let left = inv.1 c.requires.spelled.claim c.requires.spelled.spells in
-    let read = c.field_number.ensures ∙ ap field_number (back {z = get_or c.args.formula.now c.loop-i.i (pos 0)} (search rules)) in
-    let number = c.field_number-in-Variable.ensures ∙ ap field_number (back {z = get_or c.args.formula.now (c.loop-i.i + 1) (pos 0)} (search rules)) in
-    let named = variable_here left c.loop-i-test.true read (number_read c.from.ensures c.in-Variable.is refl) in
+    let number = c.field_number.ensures ∙ ap field_number (back {z = get_or c.args.formula.now (c.loop-i.i + 1) (pos 0)} (search rules)) in
+    let named = variable_here left c.loop-i-test.true refl (number_read c.kind_at.ensures c.in-Variable.is refl) in
     let n = number_told named number in
     let low = named.low in
     let size = inv.0 in
@@ -42,13 +39,12 @@ note-variables-requires c =
 pub loop-i-preserved-in-Variable : goal.loop-i-preserved-in-Variable
 loop-i-preserved-in-Variable c =
     let inv = c.loop-i.invariant in
-    let read = c.field_number.ensures ∙ ap field_number (back {z = get_or c.args.formula.now c.loop-i.i (pos 0)} (search rules)) in
-    let number = c.field_number-in-Variable.ensures ∙ ap field_number (back {z = get_or c.args.formula.now (c.loop-i.i + 1) (pos 0)} (search rules)) in
+    let number = c.field_number.ensures ∙ ap field_number (back {z = get_or c.args.formula.now (c.loop-i.i + 1) (pos 0)} (search rules)) in
     let noted = c.note-variables.ensures in (
       ap length noted.flags ∙ (length-set c.loop-i.flags _ 1 ∙ inv.0),
       λ f s.
           let g = inv.1 f s in
-          let v = variable_here g c.loop-i-test.true read (number_read c.from.ensures c.in-Variable.is refl) in
+          let v = variable_here g c.loop-i-test.true refl (number_read c.kind_at.ensures c.in-Variable.is refl) in
           let told = number_told v number in
           name_left g variable v told noted.flags (noted.top ∙ ap (λ (n : ℕ). past n c.loop-i.variables) told) refl,
     )
@@ -58,16 +54,14 @@ loop-i-preserved-in-Variable c =
 pub bounds-formula-i-in-Mark : goal.bounds-formula-i-in-Mark
 bounds-formula-i-in-Mark c =
     let left = c.loop-i.invariant.1 c.requires.spelled.claim c.requires.spelled.spells in
-    let read = c.field_number.ensures ∙ ap field_number (back {z = get_or c.args.formula.now c.loop-i.i (pos 0)} (search rules)) in
-    (mark_here left c.loop-i-test.true read (number_read c.from.ensures c.in-Mark.is refl)).within
+    (mark_here left c.loop-i-test.true refl (number_read c.kind_at.ensures c.in-Mark.is refl)).within
 
 pub note-marks-requires : goal.note-marks-requires
 note-marks-requires c =
     let inv = c.loop-i.invariant in
     let left = inv.1 c.requires.spelled.claim c.requires.spelled.spells in
-    let read = c.field_number.ensures ∙ ap field_number (back {z = get_or c.args.formula.now c.loop-i.i (pos 0)} (search rules)) in
     let number = c.field_number-in-Mark.ensures ∙ ap field_number (back {z = get_or c.args.formula.now (c.loop-i.i + 1) (pos 0)} (search rules)) in
-    let named = mark_here left c.loop-i-test.true read (number_read c.from.ensures c.in-Mark.is refl) in
+    let named = mark_here left c.loop-i-test.true refl (number_read c.kind_at.ensures c.in-Mark.is refl) in
     let n = number_told named number in
     let low = named.low in
     let size = inv.0 in
@@ -76,13 +70,12 @@ note-marks-requires c =
 pub loop-i-preserved-in-Mark : goal.loop-i-preserved-in-Mark
 loop-i-preserved-in-Mark c =
     let inv = c.loop-i.invariant in
-    let read = c.field_number.ensures ∙ ap field_number (back {z = get_or c.args.formula.now c.loop-i.i (pos 0)} (search rules)) in
     let number = c.field_number-in-Mark.ensures ∙ ap field_number (back {z = get_or c.args.formula.now (c.loop-i.i + 1) (pos 0)} (search rules)) in
     let noted = c.note-marks.ensures in (
       ap length noted.flags ∙ (length-set c.loop-i.flags _ 1 ∙ inv.0),
       λ f s.
           let g = inv.1 f s in
-          let v = mark_here g c.loop-i-test.true read (number_read c.from.ensures c.in-Mark.is refl) in
+          let v = mark_here g c.loop-i-test.true refl (number_read c.kind_at.ensures c.in-Mark.is refl) in
           let told = ap (λ (n : ℕ). variables + n) (number_told v number) in
           name_left g mark v told noted.flags refl (noted.top ∙ ap (λ (n : ℕ). past n c.loop-i.marks) told),
     )
@@ -93,13 +86,12 @@ pub loop-i-preserved : goal.loop-i-preserved
 unfolding kind_of
 loop-i-preserved c =
     let inv = c.loop-i.invariant in
-    let read = c.field_number.ensures ∙ ap field_number (back {z = get_or c.args.formula.now c.loop-i.i (pos 0)} (search rules)) in
-    let other : Numberless c.field_number.result = record {
-      constant = other_read c.from.ensures c.in_default.not-Constant refl;
-      variable = other_read c.from.ensures c.in_default.not-Variable refl;
-      mark = other_read c.from.ensures c.in_default.not-Mark refl;
+    let other : Numberless (field_number (get_or c.args.formula.now c.loop-i.i (pos 0))) = record {
+      constant = other_read c.kind_at.ensures c.in_default.not-Constant refl;
+      variable = other_read c.kind_at.ensures c.in_default.not-Variable refl;
+      mark = other_read c.kind_at.ensures c.in_default.not-Mark refl;
     } in
-    (inv.0, λ f s. other_left (inv.1 f s) c.loop-i-test.true read other)
+    (inv.0, λ f s. other_left (inv.1 f s) c.loop-i-test.true refl other)
 
 -- ---- past the last word
 

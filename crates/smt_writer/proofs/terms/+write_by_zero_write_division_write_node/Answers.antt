@@ -1,7 +1,7 @@
 -- `smt_writer::terms::write_node`, `write_division` and `write_by_zero` meet their contracts: whatever writes the part at hand
 -- writes the whole, and each turn goes on by the law of its shape.
 use Prim.Native.Nat.{ℕ, ◌+◌, ◌*◌, ◌-◌, ◌<◌, ◌≤◌}
-use Rattle.std.proofs.Common.{◌≡◌, ◌∙◌, refl, ap, pos, get_or, eq-eqb, ne_eqb, arith, rules}
+use Rattle.std.proofs.Common.{◌≡◌, refl, pos, get_or, eq-eqb, ne_eqb, arith, rules}
 use Rattle.script.specs.Rows.{field_number}
 use Rattle.script.specs.Kinds.{kind_of, number_read, other_read}
 use Rattle.script.specs.Laws.{back}
@@ -76,42 +76,34 @@ division_falls measure forward inside = omega arith
 
 -- ---- at a kind word
 
-pub write_node-offset_bounds-words-at : goal.write_node-offset_bounds-words-at
-write_node-offset_bounds-words-at t c = omega (arith, within c.loop-p.invariant c.loop-p-test.true)
-
-pub write_node-bounds-words-at : goal.write_node-bounds-words-at
-write_node-bounds-words-at t c = within c.loop-p.invariant c.loop-p-test.true
+pub write_node-kind_at-kind-requires : goal.write_node-kind_at-kind-requires
+write_node-kind_at-kind-requires t c = within c.loop-p.invariant c.loop-p-test.true
 
 -- ---- a constant, a variable or a mark
 
 pub write_node-overflow_add-at : goal.write_node-overflow_add-at
 write_node-overflow_add-at t c =
-    let read = c.field_number.ensures ∙ ap field_number (back {z = get_or c.args.words.now c.loop-p.at (pos 0)} (search rules)) in
-    let number = number_inside c.loop-p.invariant c.loop-p-test.true read (c.shape_of.ensures _ c.from-kind.ensures) c.in-Leaf.is in
+    let number = number_inside c.loop-p.invariant c.loop-p-test.true refl (c.shape_of.ensures _ c.kind_at-kind.ensures) c.in-Leaf.is in
     omega (arith, number)
 
-pub write_node-offset_bounds-words-at-in-Leaf : goal.write_node-offset_bounds-words-at-in-Leaf
-write_node-offset_bounds-words-at-in-Leaf t c =
-    let read = c.field_number.ensures ∙ ap field_number (back {z = get_or c.args.words.now c.loop-p.at (pos 0)} (search rules)) in
-    let number = number_inside c.loop-p.invariant c.loop-p-test.true read (c.shape_of.ensures _ c.from-kind.ensures) c.in-Leaf.is in
+pub write_node-offset_bounds-words-at : goal.write_node-offset_bounds-words-at
+write_node-offset_bounds-words-at t c =
+    let number = number_inside c.loop-p.invariant c.loop-p-test.true refl (c.shape_of.ensures _ c.kind_at-kind.ensures) c.in-Leaf.is in
     omega (arith, number)
 
 pub write_node-overflow_add-result : goal.write_node-overflow_add-result
 write_node-overflow_add-result t c =
-    let read = c.field_number.ensures ∙ ap field_number (back {z = get_or c.args.words.now c.loop-p.at (pos 0)} (search rules)) in
-    let number = number_inside c.loop-p.invariant c.loop-p-test.true read (c.shape_of.ensures _ c.from-kind.ensures) c.in-Leaf.is in
+    let number = number_inside c.loop-p.invariant c.loop-p-test.true refl (c.shape_of.ensures _ c.kind_at-kind.ensures) c.in-Leaf.is in
     omega (arith, number)
 
-pub write_node-bounds-words-at-in-Leaf : goal.write_node-bounds-words-at-in-Leaf
-write_node-bounds-words-at-in-Leaf t c =
-    let read = c.field_number.ensures ∙ ap field_number (back {z = get_or c.args.words.now c.loop-p.at (pos 0)} (search rules)) in
-    number_inside c.loop-p.invariant c.loop-p-test.true read (c.shape_of.ensures _ c.from-kind.ensures) c.in-Leaf.is
+pub write_node-bounds-words-at : goal.write_node-bounds-words-at
+write_node-bounds-words-at t c =
+    number_inside c.loop-p.invariant c.loop-p-test.true refl (c.shape_of.ensures _ c.kind_at-kind.ensures) c.in-Leaf.is
 
 pub write_node-returns-in-Leaf : goal.write_node-returns-in-Leaf
 write_node-returns-in-Leaf t c =
-    let read = c.field_number.ensures ∙ ap field_number (back {z = get_or c.args.words.now c.loop-p.at (pos 0)} (search rules)) in
-    leaf_left c.loop-p.invariant c.loop-p-test.true read (c.shape_of.ensures _ c.from-kind.ensures) c.in-Leaf.is
-    (back {z = get_or c.args.words.now (c.loop-p.at + 1) (pos 0)} (search rules)) refl (c.write_leaf-q.ensures _ c.from-kind.ensures) c.push_repeated-place.ensures
+    leaf_left c.loop-p.invariant c.loop-p-test.true refl (c.shape_of.ensures _ c.kind_at-kind.ensures) c.in-Leaf.is
+    (back {z = get_or c.args.words.now (c.loop-p.at + 1) (pos 0)} (search rules)) refl (c.write_leaf-q.ensures _ c.kind_at-kind.ensures) c.push_repeated-place.ensures
 
 -- ---- true or false
 
@@ -120,9 +112,8 @@ write_node-overflow_add-result-in-Truth t c = omega (arith, within c.loop-p.inva
 
 pub write_node-returns-in-Truth : goal.write_node-returns-in-Truth
 write_node-returns-in-Truth t c =
-    let read = c.field_number.ensures ∙ ap field_number (back {z = get_or c.args.words.now c.loop-p.at (pos 0)} (search rules)) in
-    truth_left c.loop-p.invariant c.loop-p-test.true read (c.shape_of.ensures _ c.from-kind.ensures) c.in-Truth.is refl
-    (c.write_truth-q.ensures _ c.from-kind.ensures) c.push_repeated-place-in-Truth.ensures
+    truth_left c.loop-p.invariant c.loop-p-test.true refl (c.shape_of.ensures _ c.kind_at-kind.ensures) c.in-Truth.is refl
+    (c.write_truth-q.ensures _ c.kind_at-kind.ensures) c.push_repeated-place-in-Truth.ensures
 
 -- ---- one part
 
@@ -140,21 +131,19 @@ write_node-loop-p-smaller-in-Single t c = omega (arith, within c.loop-p.invarian
 
 pub write_node-loop-p-preserved-in-Single : goal.write_node-loop-p-preserved-in-Single
 write_node-loop-p-preserved-in-Single t c =
-    let read = c.field_number.ensures ∙ ap field_number (back {z = get_or c.args.words.now c.loop-p.at (pos 0)} (search rules)) in
-    single_turn c.loop-p.invariant c.loop-p-test.true read (c.shape_of.ensures _ c.from-kind.ensures) c.in-Single.is (c.write_opening-p.ensures _ c.from-kind.ensures)
+    single_turn c.loop-p.invariant c.loop-p-test.true refl (c.shape_of.ensures _ c.kind_at-kind.ensures) c.in-Single.is (c.write_opening-p.ensures _ c.kind_at-kind.ensures)
 
 -- ---- a division
 
 pub write_node-write_division-before-requires : goal.write_node-write_division-before-requires
-write_node-write_division-before-requires t c =
-    let read = c.field_number.ensures ∙ ap field_number (back {z = get_or c.args.words.now c.loop-p.at (pos 0)} (search rules)) in (
-      division_falls c.decreases c.loop-p.invariant.forward (within c.loop-p.invariant c.loop-p-test.true),
-      record {
-        number = c.field_number.result;
-        is = c.from-kind.ensures;
-        divides = divides c.loop-p.invariant c.loop-p-test.true read (c.shape_of.ensures _ c.from-kind.ensures) c.in-Division.is;
-      },
-    )
+write_node-write_division-before-requires t c = (
+  division_falls c.decreases c.loop-p.invariant.forward (within c.loop-p.invariant c.loop-p-test.true),
+  record {
+    number = field_number (get_or c.args.words.now c.loop-p.at (pos 0));
+    is = c.kind_at-kind.ensures;
+    divides = divides c.loop-p.invariant c.loop-p-test.true refl (c.shape_of.ensures _ c.kind_at-kind.ensures) c.in-Division.is;
+  },
+)
 
 pub write_node-overflow_add-closing-in-Division : goal.write_node-overflow_add-closing-in-Division
 write_node-overflow_add-closing-in-Division t c =
@@ -164,15 +153,13 @@ write_node-overflow_add-closing-in-Division t c =
 
 pub write_node-loop-p-smaller-in-Division : goal.write_node-loop-p-smaller-in-Division
 write_node-loop-p-smaller-in-Division t c =
-    let read = c.field_number.ensures ∙ ap field_number (back {z = get_or c.args.words.now c.loop-p.at (pos 0)} (search rules)) in
     let here = within c.loop-p.invariant c.loop-p-test.true in
-    let d = divides c.loop-p.invariant c.loop-p-test.true read (c.shape_of.ensures _ c.from-kind.ensures) c.in-Division.is in
-    omega (arith, here, (c.write_division-before.ensures _ c.from-kind.ensures).divisor d.dividend d.divisor d.stands)
+    let d = divides c.loop-p.invariant c.loop-p-test.true refl (c.shape_of.ensures _ c.kind_at-kind.ensures) c.in-Division.is in
+    omega (arith, here, (c.write_division-before.ensures _ c.kind_at-kind.ensures).divisor d.dividend d.divisor d.stands)
 
 pub write_node-loop-p-preserved-in-Division : goal.write_node-loop-p-preserved-in-Division
 write_node-loop-p-preserved-in-Division t c =
-    let read = c.field_number.ensures ∙ ap field_number (back {z = get_or c.args.words.now c.loop-p.at (pos 0)} (search rules)) in
-    division_turn c.loop-p.invariant c.loop-p-test.true read (c.shape_of.ensures _ c.from-kind.ensures) c.in-Division.is (c.write_division-before.ensures _ c.from-kind.ensures)
+    division_turn c.loop-p.invariant c.loop-p-test.true refl (c.shape_of.ensures _ c.kind_at-kind.ensures) c.in-Division.is (c.write_division-before.ensures _ c.kind_at-kind.ensures)
 
 -- ---- three parts
 
@@ -180,19 +167,17 @@ pub write_node-overflow_add-at-in-Choice : goal.write_node-overflow_add-at-in-Ch
 write_node-overflow_add-at-in-Choice t c = omega (arith, within c.loop-p.invariant c.loop-p-test.true)
 
 pub write_node-write_node-formula-requires : goal.write_node-write_node-formula-requires
-write_node-write_node-formula-requires t c =
-    let read = c.field_number.ensures ∙ ap field_number (back {z = get_or c.args.words.now c.loop-p.at (pos 0)} (search rules)) in (
-      part_falls c.decreases c.loop-p.invariant.forward (within c.loop-p.invariant c.loop-p-test.true) (omega arith),
-      λ r. test_begins c.loop-p.invariant c.loop-p-test.true read (c.shape_of.ensures _ c.from-kind.ensures) c.in-Choice.is,
-    )
+write_node-write_node-formula-requires t c = (
+  part_falls c.decreases c.loop-p.invariant.forward (within c.loop-p.invariant c.loop-p-test.true) (omega arith),
+  λ r. test_begins c.loop-p.invariant c.loop-p-test.true refl (c.shape_of.ensures _ c.kind_at-kind.ensures) c.in-Choice.is,
+)
 
 pub write_node-write_node-chosen-requires : goal.write_node-write_node-chosen-requires
 write_node-write_node-chosen-requires t c =
-    let read = c.field_number.ensures ∙ ap field_number (back {z = get_or c.args.words.now c.loop-p.at (pos 0)} (search rules)) in
     let forward = c.write_node-formula.ensures.forward in (
       part_falls c.decreases c.loop-p.invariant.forward (within c.loop-p.invariant c.loop-p-test.true) (omega arith),
-      chosen_begins c.loop-p.invariant c.loop-p-test.true read (c.shape_of.ensures _ c.from-kind.ensures) c.in-Choice.is
-          (c.write_opening-p-in-Choice.ensures _ c.from-kind.ensures) c.write_node-formula.ensures c.push_byte-p.ensures,
+      chosen_begins c.loop-p.invariant c.loop-p-test.true refl (c.shape_of.ensures _ c.kind_at-kind.ensures) c.in-Choice.is
+          (c.write_opening-p-in-Choice.ensures _ c.kind_at-kind.ensures) c.write_node-formula.ensures c.push_byte-p.ensures,
     )
 
 pub write_node-overflow_add-closing-in-Choice : goal.write_node-overflow_add-closing-in-Choice
@@ -208,9 +193,8 @@ write_node-loop-p-smaller-in-Choice t c =
 
 pub write_node-loop-p-preserved-in-Choice : goal.write_node-loop-p-preserved-in-Choice
 write_node-loop-p-preserved-in-Choice t c =
-    let read = c.field_number.ensures ∙ ap field_number (back {z = get_or c.args.words.now c.loop-p.at (pos 0)} (search rules)) in
-    choice_turn c.loop-p.invariant c.loop-p-test.true read (c.shape_of.ensures _ c.from-kind.ensures) c.in-Choice.is
-    (c.write_opening-p-in-Choice.ensures _ c.from-kind.ensures) c.write_node-formula.ensures c.push_byte-p.ensures c.write_node-chosen.ensures
+    choice_turn c.loop-p.invariant c.loop-p-test.true refl (c.shape_of.ensures _ c.kind_at-kind.ensures) c.in-Choice.is
+    (c.write_opening-p-in-Choice.ensures _ c.kind_at-kind.ensures) c.write_node-formula.ensures c.push_byte-p.ensures c.write_node-chosen.ensures
     c.push_byte-p-in-Choice.ensures
 
 -- ---- two parts
@@ -219,11 +203,10 @@ pub write_node-overflow_add-at-in-Pair : goal.write_node-overflow_add-at-in-Pair
 write_node-overflow_add-at-in-Pair t c = omega (arith, within c.loop-p.invariant c.loop-p-test.true)
 
 pub write_node-write_node-side-requires : goal.write_node-write_node-side-requires
-write_node-write_node-side-requires t c =
-    let read = c.field_number.ensures ∙ ap field_number (back {z = get_or c.args.words.now c.loop-p.at (pos 0)} (search rules)) in (
-      part_falls c.decreases c.loop-p.invariant.forward (within c.loop-p.invariant c.loop-p-test.true) (omega arith),
-      λ r. first_begins c.loop-p.invariant c.loop-p-test.true read (c.shape_of.ensures _ c.from-kind.ensures) c.in-Pair.is,
-    )
+write_node-write_node-side-requires t c = (
+  part_falls c.decreases c.loop-p.invariant.forward (within c.loop-p.invariant c.loop-p-test.true) (omega arith),
+  λ r. first_begins c.loop-p.invariant c.loop-p-test.true refl (c.shape_of.ensures _ c.kind_at-kind.ensures) c.in-Pair.is,
+)
 
 pub write_node-overflow_add-closing-in-Pair : goal.write_node-overflow_add-closing-in-Pair
 write_node-overflow_add-closing-in-Pair t c =
@@ -238,9 +221,8 @@ write_node-loop-p-smaller t c =
 
 pub write_node-loop-p-preserved : goal.write_node-loop-p-preserved
 write_node-loop-p-preserved t c =
-    let read = c.field_number.ensures ∙ ap field_number (back {z = get_or c.args.words.now c.loop-p.at (pos 0)} (search rules)) in
-    pair_turn c.loop-p.invariant c.loop-p-test.true read (c.shape_of.ensures _ c.from-kind.ensures) c.in-Pair.is
-    (c.write_opening-p-in-Pair.ensures _ c.from-kind.ensures) c.write_node-side.ensures c.push_byte-p-in-Pair.ensures
+    pair_turn c.loop-p.invariant c.loop-p-test.true refl (c.shape_of.ensures _ c.kind_at-kind.ensures) c.in-Pair.is
+    (c.write_opening-p-in-Pair.ensures _ c.kind_at-kind.ensures) c.write_node-side.ensures c.push_byte-p-in-Pair.ensures
 
 -- ---- no room is left
 
