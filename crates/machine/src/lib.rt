@@ -63,36 +63,32 @@ impl From<Result<Played, Refusal>> for RunAnswer {
     ghost from_gives = { λ ended told. told ≡ answer_of ended };
 
     fn from(ended: Result<Played, Refusal>) -> RunAnswer {
-        let (number, row, steps, height) = match ended {
-            Ok(
-                Played {
-                    end: End::Done,
-                    steps,
-                    height,
-                },
-            ) => (0, 0, steps, height),
-            Ok(
-                Played {
-                    end: End::Failed(failure, row),
-                    steps,
-                    height,
-                },
-            ) => (failure as usize, row.0, steps, height),
-            Ok(
-                Played {
-                    end: End::Spent(row),
-                    steps,
-                    height,
-                },
-            ) => (54, row.0, steps, height),
-            Err(Refusal::Table(refusal)) => (refusal.fault.number(), refusal.row.0, 0, 0),
-            Err(Refusal::Short) => (51, 0, 0, 0),
-        };
-        RunAnswer {
-            number,
-            row,
-            steps,
-            height,
+        match ended {
+            Ok(played) => {
+                let (number, row) = match played.end {
+                    End::Done => (0, 0),
+                    End::Failed(failure, row) => (failure as usize, row.0),
+                    End::Spent(row) => (54, row.0),
+                };
+                RunAnswer {
+                    number,
+                    row,
+                    steps: played.steps,
+                    height: played.height,
+                }
+            }
+            Err(refusal) => {
+                let (number, row) = match refusal {
+                    Refusal::Table(refusal) => (refusal.fault.number(), refusal.row.0),
+                    Refusal::Short => (51, 0),
+                };
+                RunAnswer {
+                    number,
+                    row,
+                    steps: 0,
+                    height: 0,
+                }
+            }
         }
     }
 }
@@ -107,7 +103,8 @@ fn too_short(words: usize, height: usize, rows: usize, variables: usize, marks: 
     words < rows || words - rows < height || variables < VARIABLES || marks < MARKS
 }
 
-// Steps until nothing is left to do, a step fails, or the limit is spent.
+// Steps until nothing is left to do, a step fails, or the limit is spent. The loop goes by the height: a `for` over the steps would
+// test it and the limit twice.
 fn play(
     table: &[i32],
     stack: &mut [u32],

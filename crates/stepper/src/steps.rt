@@ -1,5 +1,6 @@
 // One step, of the statement that is due: first what is to be worked out, then, where that succeeds, what is written. A step that
-// fails writes nothing.
+// fails writes nothing. The lent runs are parameters: of a struct that holds them as `&mut` each step would also have to ensure that
+// all three references stay.
 
 ghost use Rattle.std.specs.Prelude.{◌≡◌, cond, ◌+◌, ◌*◌, ◌<◌, length};
 ghost use Rattle.script.specs.Kinds.{number};
