@@ -5,27 +5,34 @@ ghost use Rattle.std.specs.Prelude.{◌<◌, IfOk};
 use machine::RunAnswer;
 use std::io;
 
-// A number that counts something; 0 where it is negative or too large, or there is none.
+// A number, or 0 where there is none.
+fn number_at(numbers: &[i64], i: usize) -> i64 {
+    numbers.get(i).copied().unwrap_or(0)
+}
+
+// A number that counts something; 0 where it is negative or too large.
 fn count_at(numbers: &[i64], i: usize) -> usize
     ensures { result < 4096 }
 {
-    match numbers.get(i) {
-        Some(n) if 0 <= *n && *n < 4096 => *n as usize,
+    match number_at(numbers, i) {
+        n @ 0..4096 => n as usize,
         _ => 0,
     }
 }
 
-// The variables of pairs: which, and its value.
-fn set_variables(pairs: &[i64], variables: &mut [i64; 1024]) {
-    for pair in pairs.as_chunks::<2>().0 {
-        if let Some(variable) = variables.get_mut(count_at(pair, 0)) {
-            *variable = pair[1];
+// The variables of so many pairs: which, and its value.
+fn set_variables(numbers: &[i64], pairs: usize, variables: &mut [i64; 1024])
+    requires { pairs < 4096 }
+{
+    for i in 0..pairs {
+        if let Some(variable) = variables.get_mut(count_at(numbers, 3 + 2 * i)) {
+            *variable = number_at(numbers, 4 + 2 * i);
         }
     }
 }
 
-// The words of a table; 0 where 32 bits do not hold a number.
-fn set_table(numbers: &[i64], table: &mut [i32; 512]) {
+// The first words of a table; 0 where 32 bits do not hold a number.
+fn set_table(numbers: &[i64], table: &mut [i32]) {
     for (word, number) in table.iter_mut().zip(numbers) {
         *word = i32::try_from(*number).unwrap_or(0);
     }
@@ -77,12 +84,13 @@ fn call(rt: &impl Print, numbers: &[i64]) -> io::Result<usize>
     let mut stack = [9; 64];
     let limit = count_at(numbers, 0);
     let room = count_at(numbers, 1);
-    let from = 3 + 2 * count_at(numbers, 2);
-    set_variables(numbers.get(3..from).unwrap_or(&[]), &mut variables);
+    let pairs = count_at(numbers, 2);
+    set_variables(numbers, pairs, &mut variables);
+    let from = 3 + 2 * pairs;
     let words = count_at(numbers, from);
     let end = from + 1 + words;
-    set_table(numbers.get(from + 1..end).unwrap_or(&[]), &mut table);
-    if let Some(table) = table.get(..words) {
+    if let Some(table) = table.get_mut(..words) {
+        set_table(numbers.get(from + 1..).unwrap_or(&[]), table);
         if let Some(stack) = stack.get_mut(..room) {
             run(rt, table, stack, &mut variables, limit as u64)?;
         }

@@ -12,6 +12,15 @@ fn signed(value: u64, is_negative: bool) -> i64 {
     number.unwrap_or(0)
 }
 
+// One digit more; a number has 19 digits at most, and those after them are passed over.
+fn with_digit(value: u64, byte: u8) -> u64 {
+    if value < 1000000000000000000 && byte.is_ascii_digit() {
+        10 * value + u64::from(byte - b'0')
+    } else {
+        value
+    }
+}
+
 // The numbers of the text, each of which another byte ends: as many as there is room for.
 pub fn read<const N: usize>(text: &[u8]) -> ArrayVec<i64, N> {
     let mut found = ArrayVec::new();
@@ -19,12 +28,7 @@ pub fn read<const N: usize>(text: &[u8]) -> ArrayVec<i64, N> {
     let mut is_negative = false;
     for byte in text {
         if byte.is_ascii_digit() {
-            let before = value.unwrap_or(0);
-            value = Some(
-                before
-                    .saturating_mul(10)
-                    .saturating_add(u64::from(*byte - b'0')),
-            );
+            value = Some(with_digit(value.unwrap_or(0), *byte));
         } else {
             if let Some(value) = value {
                 let _ = found.try_push(signed(value, is_negative));
