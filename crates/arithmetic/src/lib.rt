@@ -36,11 +36,7 @@ pub fn times(a: i64, b: i64) -> Option<i64>
 pub fn rem(n: i64, d: i64) -> i64
     ensures { result ≡ modZ n d }
 {
-    if d == 0 {
-        n
-    } else {
-        n.wrapping_rem_euclid(d)
-    }
+    if d == 0 { n } else { n.wrapping_rem_euclid(d) }
 }
 
 // The one quotient that is too large is that of the least number by -1.

@@ -388,9 +388,7 @@ pub extern "C" fn leqwarti_go_on(
     ensures variables { variables.new ≡ (machine_on mode_64 table.now stack.old variables.old marks.old limit begun).vars }
     ensures marks { marks.new ≡ (machine_on mode_64 table.now stack.old variables.old marks.old limit begun).marks }
 {
-    let stopped = RunAnswer::from(machine::go_on(
-        table, stack, begun, variables, marks, limit,
-    ));
+    let stopped = RunAnswer::from(machine::go_on(table, stack, begun, variables, marks, limit));
     *number = stopped.number;
     *row = stopped.row;
     *steps = stopped.steps;
