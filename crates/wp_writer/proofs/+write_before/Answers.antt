@@ -2,10 +2,13 @@
 use Rattle.std.proofs.Common.{◌≡◌, ℕ, arith, refl, length-set, ◌∙◌}
 use Rattle.script.specs.declared.kinds.Kind.{Kind}
 use Rattle.script.specs.declared.kinds.Kind.TheVariants.{Skip, Assign, Sequence, If, While}
+use Rattle.script.specs.declared.Row.{Row}
+use Rattle.script.specs.declared.StatementRow.TheVariants.{Assign as Row·Assign, If as Row·If}
+use Rattle.script.specs.Rows.{row, var_no, word}
 use Rattle.script.specs.Kinds.{kind_of, number_read, other_read}
 use Rattle.script.specs.Laws.{back}
 use Rattle.theorems.specs.Writing.{then}
-use Rattle.following.specs.Kinds.{Past, skip_row, assign_row, sequence_row, if_row}
+use Rattle.following.specs.Kinds.{Past, number, skip_row, assign_row, sequence_row, if_row}
 use Rattle.following.specs.Parts.{left_first, left_else}
 use Rattle.wp_writer.specs.Same.{same_refl}
 use Rattle.wp_writer.specs.Walked.{turned, written, written_full, written_end}
@@ -13,6 +16,7 @@ use Rattle.wp_writer.specs.Steps.{next_falls, in_table, in_scratch, loop_here, s
 use Rattle.wp_writer.specs.Assignments.{value_divisors, assignment_here, assign_falls, assign_step}
 use Rattle.wp_writer.specs.Branches.{guard_ready, guard_divisors, then_ready, branch_step}
 use Rattle.wp_writer.proofs.+write_before.Goals as goal
+use Rattle.wp_writer.proofs.+write_before.Goals.{After-field, After-field-y}
 
 -- the kinds of statements that have an arm of their own
 past : {k : Kind} {n : ℕ} → k ≡ kind_of n → (k ≡ Skip → ⊥) → (k ≡ Assign → ⊥) → (k ≡ Sequence → ⊥) → (k ≡ If → ⊥) → (k ≡ While → ⊥) → Past n
@@ -49,18 +53,22 @@ loop-s-preserved-in-Skip t c =
 
 -- ---- an assignment
 
+assigned : (t : ℕ) (c : After-field t)
+    → row c.args.table.now c.loop-s.s ≡ Row.Statement (Row·Assign (var_no (word c.args.table.now c.loop-s.s 1)) (number c.field.result))
+assigned t c = assign_row c.args.table.now c.loop-s.s refl (number_read c.kind_at.ensures c.in-Assign.is refl) c.field.ensures
+
 pub field-requires : goal.field-requires
 field-requires t c =
     (in_table _ _ _ _ _ _ c.loop-s.invariant.before c.loop-s-test.true, omega arith)
 
 pub write_conjunct-p-requires : goal.write_conjunct-p-requires
 write_conjunct-p-requires t c =
-    let r = assign_row c.args.table.now c.loop-s.s refl (number_read c.kind_at.ensures c.in-Assign.is refl) c.field.ensures in
+    let r = assigned t (goal.at.write_conjunct-p-requires t c).After-field in
     value_divisors _ _ _ _ _ _ c.loop-s.invariant.before c.loop-s-test.true r
 
 pub entry-requires : goal.entry-requires
 entry-requires t c =
-    let r = assign_row c.args.table.now c.loop-s.s refl (number_read c.kind_at.ensures c.in-Assign.is refl) c.field.ensures in
+    let r = assigned t (goal.at.entry-requires t c).After-field in
     (c.loop-s.invariant.before.course.table, assignment_here _ _ _ _ _ _ c.loop-s.invariant.before c.loop-s-test.true r)
 
 pub next-s-requires-in-Assign : goal.next-s-requires-in-Assign
@@ -69,12 +77,12 @@ next-s-requires-in-Assign t c =
 
 pub loop-s-smaller-in-Assign : goal.loop-s-smaller-in-Assign
 loop-s-smaller-in-Assign t c =
-    let r = assign_row c.args.table.now c.loop-s.s refl (number_read c.kind_at.ensures c.in-Assign.is refl) c.field.ensures in
+    let r = assigned t (goal.at.loop-s-smaller-in-Assign t c).After-field in
     assign_falls _ _ _ _ _ _ c.loop-s.invariant.before c.loop-s-test.true (back c.entry.type_inv ∙ c.entry.ensures) r c.next-s-in-Assign.ensures
 
 pub loop-s-preserved-in-Assign : goal.loop-s-preserved-in-Assign
 loop-s-preserved-in-Assign t c =
-    let r = assign_row c.args.table.now c.loop-s.s refl (number_read c.kind_at.ensures c.in-Assign.is refl) c.field.ensures in
+    let r = assigned t (goal.at.loop-s-preserved-in-Assign t c).After-field in
     turned _ _ _ c.loop-s.invariant (assign_step _ _ _ _ _ _ c.loop-s.invariant.before c.loop-s-test.true (back c.entry.type_inv ∙ c.entry.ensures) r c.next-s-in-Assign.ensures c.write_conjunct-p.ensures)
 
 -- ---- a sequence
@@ -95,6 +103,11 @@ loop-s-preserved-in-Sequence t c =
 
 -- ---- a branch
 
+branch : (t : ℕ) (c : After-field-y t)
+    → row c.args.table.now c.loop-s.s ≡ Row.Statement (Row·If (number c.field-in-If.result) (number c.field-x.result) (number c.field-y.result))
+branch t c =
+    if_row c.args.table.now c.loop-s.s refl (number_read c.kind_at.ensures c.in-If.is refl) c.field-in-If.ensures c.field-x.ensures c.field-y.ensures
+
 pub field-requires-in-If : goal.field-requires-in-If
 field-requires-in-If t c =
     (in_table _ _ _ _ _ _ c.loop-s.invariant.before c.loop-s-test.true, omega arith)
@@ -109,32 +122,32 @@ field-y-requires t c =
 
 pub write_conjunct-p-requires-in-If : goal.write_conjunct-p-requires-in-If
 write_conjunct-p-requires-in-If t c =
-    let r = if_row c.args.table.now c.loop-s.s refl (number_read c.kind_at.ensures c.in-If.is refl) c.field-in-If.ensures c.field-x.ensures c.field-y.ensures in
+    let r = branch t (goal.at.write_conjunct-p-requires-in-If t c).After-field-y in
     guard_divisors _ _ _ _ _ _ c.loop-s.invariant.before c.loop-s-test.true r
 
 pub write_formula-p-requires : goal.write_formula-p-requires
 write_formula-p-requires t c =
-    let r = if_row c.args.table.now c.loop-s.s refl (number_read c.kind_at.ensures c.in-If.is refl) c.field-in-If.ensures c.field-x.ensures c.field-y.ensures in
+    let r = branch t (goal.at.write_formula-p-requires t c).After-field-y in
     guard_ready _ _ _ _ _ _ c.loop-s.invariant.before c.loop-s-test.true r (same_refl _ _ _)
 
 pub write_before-p-requires : goal.write_before-p-requires
 write_before-p-requires t c =
-    let r = if_row c.args.table.now c.loop-s.s refl (number_read c.kind_at.ensures c.in-If.is refl) c.field-in-If.ensures c.field-x.ensures c.field-y.ensures in
+    let r = branch t (goal.at.write_before-p-requires t c).After-field-y in
     then_ready _ _ _ _ _ _ c.loop-s.invariant.before c.loop-s-test.true r c.loop-s.invariant.falls c.decreases
 
 pub write_formula-p-requires-in-If : goal.write_formula-p-requires-in-If
 write_formula-p-requires-in-If t c =
-    let r = if_row c.args.table.now c.loop-s.s refl (number_read c.kind_at.ensures c.in-If.is refl) c.field-in-If.ensures c.field-x.ensures c.field-y.ensures in
+    let r = branch t (goal.at.write_formula-p-requires-in-If t c).After-field-y in
     guard_ready _ _ _ _ _ _ c.loop-s.invariant.before c.loop-s-test.true r c.write_before-p.ensures.kept
 
 pub loop-s-smaller-in-If : goal.loop-s-smaller-in-If
 loop-s-smaller-in-If t c =
-    let r = if_row c.args.table.now c.loop-s.s refl (number_read c.kind_at.ensures c.in-If.is refl) c.field-in-If.ensures c.field-x.ensures c.field-y.ensures in
+    let r = branch t (goal.at.loop-s-smaller-in-If t c).After-field-y in
     left_else _ _ c.loop-s.invariant.before.course c.loop-s-test.true r
 
 pub loop-s-preserved-in-If : goal.loop-s-preserved-in-If
 loop-s-preserved-in-If t c =
-    let r = if_row c.args.table.now c.loop-s.s refl (number_read c.kind_at.ensures c.in-If.is refl) c.field-in-If.ensures c.field-x.ensures c.field-y.ensures in
+    let r = branch t (goal.at.loop-s-preserved-in-If t c).After-field-y in
     turned _ _ _ c.loop-s.invariant
     (branch_step _ _ _ _ _ _ c.loop-s.invariant.before c.loop-s-test.true r c.write_conjunct-p-in-If.ensures (then c.push_kind-p.ensures c.push_kind-p-in-If.ensures)
     c.write_formula-p.ensures c.write_before-p.ensures (then c.push_kind-p-in-If-2.ensures c.push_kind-p-in-If-3.ensures)
