@@ -1,14 +1,15 @@
 -- What a test in the code tells of the machine's definitions: operators that take a part, a row. Assumes nothing.
 use Prim.Native.Nat.{ℕ, zero, suc, ◌+◌, ◌*◌, ◌-◌, ◌≤◌, ◌<◌}
 use mathlib.Core.Path.{◌≡◌, refl, sym, ◌∙◌}
-use mathlib.Core.List.{List, [], ◌∷◌}
+use mathlib.Core.List.{List}
 use native.Mathlib.Omega.{arith as linear}
 use borrow.Author.Tests.{lt-ltb, le-ltb, eq-eqb, ne_eqb}
 use lib.IntN.{ℤ}
 use lib.ListN.{length, get_or}
+use lib.Seq.{take-length}
 use borrow.Rule.Slice.PartMut.{put_mid}
 use Rattle.std.proofs.Common.{le-leb}
-use Rattle.std.proofs.lemmas.List.Edits.{sets-eq}
+use Rattle.std.proofs.lemmas.List.Edits.{sets, sets-eq}
 use Rattle.std.proofs.lemmas.Slice.{put_mid-paste}
 use Rattle.parser.specs.Machine.{with_words, reduce, reduced_to, hold, maker, operator_row, hole, top_frame, rows_after}
 
@@ -43,10 +44,11 @@ pub ruleset reducing = (reduce_none, reduce_stops, reduce_misfits, reduce_more)
 
 -- ---- a row is written at once
 
-pub row_written : (ws ys : List ℤ) (rows : ℕ) {k a b c : ℤ} → rows < 2048 → 4 * rows + 4 ≤ length ws → ys ≡ k ∷ a ∷ b ∷ c ∷ []
-    → put_mid (4 * rows) (4 * rows + 4 - 4 * rows) ws ys ≡ with_words ws rows (k ∷ a ∷ b ∷ c ∷ [])
-row_written ws ys rows {k} {a} {b} {c} h l e =
-    let vs = k ∷ a ∷ b ∷ c ∷ [] in
-    rw (lt-ltb rows 2048 h, le-leb (4 * rows + 4) (length ws) l)
-    (put_mid-paste (4 * rows) (4 * rows + 4 - 4 * rows) ws ys vs 4 e (omega linear) (omega linear)
-    ∙ sym (sets-eq vs ws (4 * rows) (omega linear)))
+put_in : (l ys vs : List ℤ) (at n : ℕ) → at + n ≤ length l → n ≡ length vs → ys ≡ vs → put_mid at (at + n - at) l ys ≡ sets l at vs
+put_in l ys vs at n room size is =
+    put_mid-paste at (at + n - at) l ys vs n is (omega linear) size ∙ rw (size, take-length) (sym (sets-eq vs l at (omega linear)))
+
+pub row_written : (ws ys vs : List ℤ) (rows : ℕ) → rows < 2048 → 4 * rows + 4 ≤ length ws → 4 ≡ length vs → ys ≡ vs
+    → put_mid (4 * rows) (4 * rows + 4 - 4 * rows) ws ys ≡ with_words ws rows vs
+row_written ws ys vs rows h l n e =
+    rw (lt-ltb rows 2048 h, le-leb (4 * rows + 4) (length ws) l) (put_in ws ys vs (4 * rows) 4 l n e)

@@ -1,9 +1,9 @@
 // A token where a part begins.
 
 ghost use Rattle.std.specs.Prelude.{◌≡◌};
-ghost use Rattle.grammar.specs.Ranges.{limit, mark_fits};
+ghost use Rattle.grammar.specs.Ranges.{limit};
 ghost use Rattle.parser.specs.Readers.{machine, SameRuns};
-ghost use Rattle.parser.specs.Machine.{begin_count, constant_word, begin_constant, begin_numeral, begin_variable, begin_assignment, begin_name, is_leaf, due_after, begin_leaf, begin_form, begin_word};
+ghost use Rattle.parser.specs.Machine.{begin_count, constant_word, begin_constant, begin_numeral, begin_variable, begin_assignment, begin_name, due_after, begin_leaf, begin_form, begin_word};
 ghost use Rattle.parser.specs.Machine.{opened as Machine·opened, begin as Machine·begin};
 
 use crate::frames::{frame, put};
@@ -16,19 +16,12 @@ use crate::{BECOMES, BRACKET, PART, State, symbols};
 use scanner::tokens;
 use script::{Kind, VARIABLES};
 
-// Whether a mark may say k, with so many bodies around.
-fn mark_fits(bodies: usize, k: usize) -> bool
-    ensures { result ≡ mark_fits bodies k }
-{
-    1 <= k && k <= bodies
-}
-
-// The k of a mark.
+// The k of a mark, which may be as large as there are bodies around.
 #[tactic(auto, unfolding(crate::specs::Machine::begin_count))]
 fn begin_count(s: State, k: usize, place: usize) -> State
     ensures { result ≡ begin_count s k place }
 {
-    let in_range = mark_fits(s.bodies, k);
+    let in_range = 1 <= k && k <= s.bodies;
     counted(noted(s, in_range, place), kept(in_range, k))
 }
 
@@ -47,13 +40,6 @@ fn constant_word(minus: bool, n: usize) -> i32
     }
     let value = n as i64;
     (if minus { -value } else { value }) as i32
-}
-
-// True, false and skip.
-fn is_leaf(token: usize) -> bool
-    ensures { result ≡ is_leaf token }
-{
-    matches!(token, tokens::TRUE | tokens::FALSE | tokens::SKIP)
 }
 
 // The frame that a token opens where a part with this letter is due.
@@ -193,7 +179,7 @@ impl Reader<'_> {
         let h = hole(self.top_frame());
         if !begins(h, beginning(token)) {
             self.state = refused(self.state, place);
-        } else if is_leaf(token) {
+        } else if matches!(token, tokens::TRUE | tokens::FALSE | tokens::SKIP) {
             self.begin_leaf(token);
         } else {
             self.begin_form(token);

@@ -1,4 +1,4 @@
-// The keywords by their numbers: the bytes as digits to the base 256, as `runs::word_at` tells a word.
+// The keywords by their numbers: the bytes as digits to the base 256, as `runs::run_at` tells a word, so that one switch finds them.
 
 ghost use Rattle.std.specs.Prelude.{◌≡◌};
 ghost use Rattle.grammar.specs.Scanning.{keywords};
