@@ -10,7 +10,7 @@ use rows::Fault;
 use script::RowNumber;
 use table::Refusal;
 
-// 2 to 5: the lowest row with such a fault.
+// 2 to 5: the lowest row with such a fault. `tests::check_rows` would have to be told by a closure to pass 6, in as many lines.
 pub fn check_parts(table: &[i32]) -> Result<(), Refusal>
     requires { Sized table.now }
     ensures { verdict_of result ≡ part_test table.now }

@@ -10,7 +10,8 @@ ghost use Rattle.mender.specs.FieldWriting.{FieldRoom, FieldWritten, field};
 ghost use Rattle.mender.specs.RowWriting.{RowReady, RowWritten};
 ghost use Rattle.mender.specs.TableWritten.{TableReady};
 
-// Writes a field of a new row at word `to`, where the part of a link starts at new row `lo`; gives where the next part starts.
+// Writes a field of a new row at word `to`, where the part of a link starts at new row `lo`; gives where the next part starts. What is
+// lent stays parameters: `FieldWritten` says of each run alone what it was and is.
 fn write_field(
     letter: u8,
     word: i32,

@@ -45,6 +45,7 @@ impl Fault {
 // The kinds of 01, four letters to each number from 0 to 48: the sort of its rows, then what their three fields hold. A capital
 // is a sort (X: script, U: a kind that is not listed), and of a field a link to a row of that sort; `_` is a field that is not
 // used, `c` a constant's value, `v` a variable that is read, `t` one that is assigned to, `l` the row of a mark's loop.
+// Letters and no enum: `Patterns.patterns`, which `kinds` promises, and `States.States` speak of them.
 const KINDS: [u8; 196] = *b"U___Ec__Ev__EEE_EEE_EEE_EEE_EEE_EE__El__EFEEU___U___U___U___U___\
     F___F___FEE_FEE_FEE_FEE_FF__FFF_FFF_FFF_U___U___U___U___U___U___\
     S___StE_SSS_SFSSSFNSNFE_SF__U___U___U___U___U___U___U___U___U___XFSF";
@@ -99,14 +100,17 @@ fn field_fault(
     Some(Fault::WrongSort)
 }
 
-// The first of two faults.
+// The first of two faults. Option's own order has `None` first.
 fn first(a: Option<Fault>, b: Option<Fault>) -> Option<Fault>
     ensures { number_of result ≡ Faults·first (number_of a) (number_of b) }
 {
-    match (a, b) {
-        (Some(x), Some(y)) => Some(x.min(y)),
-        _ => a.or(b),
-    }
+    let Some(x) = a else {
+        return b;
+    };
+    let Some(y) = b else {
+        return a;
+    };
+    Some(x.min(y))
 }
 
 // The first fault of row r; where it has none but 6, its links are in the states.

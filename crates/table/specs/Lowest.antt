@@ -1,6 +1,6 @@
 -- Loops that look for the lowest row with a fault, and what they give to the tests 1 to 8.
 -- Argument: while no row below i has a fault, the test from row i up is the whole test. Assumes nothing.
-use Rattle.std.specs.Prelude.{ℕ, suc, ◌+◌, ◌-◌, ◌%◌, ◌≤◌, ◌<◌, ◌≡◌, refl, ◌≢◌, Bool, true, false, List, eqb, ltb, length, get_or, ℤ, Option, Some, None, Result, Ok, Err}
+use Rattle.std.specs.Prelude.{ℕ, suc, ◌+◌, ◌-◌, ◌%◌, ◌≤◌, ◌<◌, ◌≡◌, refl, ◌≢◌, Bool, true, false, ◌||◌, List, eqb, ltb, length, get_or, ℤ, Option, Some, None, Result, Ok, Err}
 use Rattle.std.proofs.Math.Path.{sym}
 use Rattle.std.proofs.Common.{ap, ◌∙◌, inl, true≢false, arith as linear, add-one}
 use Rattle.std.proofs.Math.Decide.{ℕ_discrete}
@@ -149,16 +149,17 @@ Nameless t = (k : ℕ) → k < rows t → named (row t k) ≡ false
 pub nameless_none : {t : List ℤ} → NamelessAt t 0 false
 nameless_none = record { at = λ e k l. absurd (omega linear) }
 
-pub nameless_found : {t : List ℤ} {i : ℕ} → NamelessAt t i true
-nameless_found = record { at = λ e k l. absurd (true≢false e) }
-
-pub nameless_more : {t : List ℤ} {i : ℕ} {here : Bool} → NamelessAt t i false → here ≡ named (row t i) → here ≡ false
-    → NamelessAt t (i + 1) false
-nameless_more {t} {i} x h e = record { at = λ z k l. go k l (ℕ_discrete k i) }
+pub nameless_more : {t : List ℤ} {i : ℕ} {found here found' : Bool} → NamelessAt t i found → here ≡ named (row t i)
+    → found' ≡ (found || here) → NamelessAt t (i + 1) found'
+nameless_more {t} {i} {found} {here} x h e = record { at = λ z k l. go (neither found here (sym e ∙ z)) k l (ℕ_discrete k i) }
   where
-    go : (k : ℕ) → k < i + 1 → Dec (k ≡ i) → named (row t k) ≡ false
-    go k l (yes d) = rw (d, ← h) e
-    go k l (no d) = x.at refl k (omega linear)
+    neither : (p q : Bool) → p || q ≡ false → (p ≡ false) × (q ≡ false)
+    neither true q d = absurd (true≢false d)
+    neither false q d = (refl, d)
+
+    go : (found ≡ false) × (here ≡ false) → (k : ℕ) → k < i + 1 → Dec (k ≡ i) → named (row t k) ≡ false
+    go f k l (yes d) = rw (d, ← h) f.1
+    go f k l (no d) = x.at f.0 k (omega linear)
 
 pub nameless_all : {t : List ℤ} {i : ℕ} {found : Bool} → i ≤ rows t → rows t ≤ i → NamelessAt t i found → NamelessAt t (rows t) found
 nameless_all {t} {i} h l x = let e : i ≡ rows t = omega linear in rw e at x

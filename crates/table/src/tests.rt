@@ -68,18 +68,16 @@ pub fn check_unlinked(table: &[i32], states: &[u8; 2048]) -> Result<(), Refusal>
     Ok(())
 }
 
-// Whether row r is a mark or has a frozen name.
+// Whether row r is a mark or has a frozen name: by its number and without a branch, since told by `Kind` this pass over all rows takes
+// several times as long.
 fn is_named(table: &[i32], r: usize) -> bool
     requires { 4 * r + 3 < length table.now }
     ensures { result ≡ named (row table.now r) }
 {
-    match script::kind_at(table, r) {
-        Kind::Mark => true,
-        Kind::Variable | Kind::Assign => script::is_frozen(VariableNumber(script::field(
-            table, r, 1,
-        ))),
-        _ => false,
-    }
+    let kind = script::field(table, r, 0);
+    let frozen = script::is_frozen(VariableNumber(script::field(table, r, 1)));
+    let has_name = (kind == Kind::Variable as usize) | (kind == Kind::Assign as usize);
+    (kind == Kind::Mark as usize) | (has_name & frozen)
 }
 
 // Whether any row is a mark or has a frozen name: where none is, 8 and 9 pass.
@@ -87,12 +85,11 @@ pub fn any_named(table: &[i32]) -> bool
     requires { Sized table.now }
     ensures { NamelessAt table.now (rows table.now) result }
 {
+    let mut found = false;
     for r in 0..script::row_count(table) {
-        if is_named(table, r) {
-            return true;
-        }
+        found |= is_named(table, r);
     }
-    false
+    found
 }
 
 // Whether row r assigns to a frozen name.

@@ -35,5 +35,5 @@ lower =
     (each _ refl refl refl refl refl refl refl refl refl refl)
     (each _ refl refl refl refl refl refl refl refl refl refl)
 
-pub returns-in-Some-Some : goal.returns-in-Some-Some
-returns-in-Some-Some c = rw (c.in-Some-Some.is-0, c.in-Some-Some.is-1, c.min.ensures) (lower c.in-Some-Some.x c.in-Some-Some.y)
+pub returns : goal.returns
+returns c = rw (c.in-Some.is, c.in-Some-b.is, c.min.ensures) (lower c.in-Some.x c.in-Some-b.y)
