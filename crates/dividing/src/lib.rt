@@ -93,6 +93,7 @@ fn pass_undivided(table: &[i32], follow: &mut [i32]) -> usize
         if is_division(kind) {
             return r;
         }
+        // the kinds of nodes are those before skip's
         if kind < Kind::Skip as usize {
             follow[r] = 0;
         }
