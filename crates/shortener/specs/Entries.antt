@@ -1,7 +1,7 @@
 -- The entry of a word, taken as the kind of a node, from the entries of the words after it: where the node ends, the number of
 -- its shape when it is shortened, and what it becomes. Assumes nothing.
 use Rattle.std.specs.Prelude.{ℕ, ◌+◌, List, cond, ◌≡◌, eqb, ℤ, pos, get_or}
-use Rattle.std.proofs.Common.{ne_eqb}
+use Rattle.std.proofs.Common.{ap, ne_eqb}
 use Rattle.script.specs.Rows.{field_number}
 use Rattle.shortening.specs.Simplify.{is_true, is_false, number_shape, shape_number}
 use Rattle.shortener.specs.Codes.{Coded}
@@ -34,6 +34,16 @@ module _ (k : ℕ) (es ss : List ℕ) where
       let x = shape es ss (at + 1) in
       let y = shape es ss middle in
       changed_entry es ss (end es ss middle) (pair_code k x y) x y
+
+  -- without a rule it stays
+  pub kept_pair : (at : ℕ) → ((x y : ℕ) → kept_code ≡ pair_code k x y)
+      → entry (end es ss (end es ss (at + 1))) other_code kept_code ≡ pair_entry at
+  unfolding pair_entry changed_shape_code
+  kept_pair at q =
+      let middle = end es ss (at + 1) in
+      let x = shape es ss (at + 1) in
+      let y = shape es ss middle in
+      ap (λ t. entry (end es ss middle) (changed_shape_code t x y) t) (q x y)
 
 -- by the kind k
 unfoldable pub entry_of : ℕ → List ℤ → List ℕ → List ℕ → ℕ → Coded

@@ -146,7 +146,13 @@ fn entry_at(words: &[i32], at: usize, entries: &[Entry]) -> Entry
             kept_entry(part_at(entries, place(chosen.end)).end)
         }
         Kind::Not => not_entry(at, entries),
-        _ => pair_entry(kind, at, entries),
+        Kind::Plus | Kind::Minus | Kind::Times | Kind::And | Kind::Implies => {
+            pair_entry(kind, at, entries)
+        }
+        _ => {
+            let first = part_at(entries, at + 1);
+            kept_entry(part_at(entries, place(first.end)).end)
+        }
     }
 }
 

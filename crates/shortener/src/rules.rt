@@ -81,12 +81,16 @@ fn times_change(x: Shape, y: Shape) -> Change
 fn and_change(x: Shape, y: Shape) -> Change
     ensures { change_told result ≡ truth_change_code (join_change And (shaped (shape_told x)) (shaped (shape_told y))) }
 {
-    match (x, y) {
-        (Shape::True, _) => Change::Second,
-        (_, Shape::True) => Change::First,
-        (Shape::False, _) => Change::False,
-        (_, Shape::False) => Change::False,
-        _ => Change::Kept,
+    if x == Shape::True {
+        Change::Second
+    } else if y == Shape::True {
+        Change::First
+    } else if x == Shape::False {
+        Change::False
+    } else if y == Shape::False {
+        Change::False
+    } else {
+        Change::Kept
     }
 }
 
@@ -94,11 +98,14 @@ fn and_change(x: Shape, y: Shape) -> Change
 fn implies_change(x: Shape, y: Shape) -> Change
     ensures { change_told result ≡ truth_change_code (join_change Implies (shaped (shape_told x)) (shaped (shape_told y))) }
 {
-    match (x, y) {
-        (Shape::True, _) => Change::Second,
-        (Shape::False, _) => Change::True,
-        (_, Shape::True) => Change::True,
-        _ => Change::Kept,
+    if x == Shape::True {
+        Change::Second
+    } else if x == Shape::False {
+        Change::True
+    } else if y == Shape::True {
+        Change::True
+    } else {
+        Change::Kept
     }
 }
 
@@ -107,10 +114,12 @@ fn implies_change(x: Shape, y: Shape) -> Change
 pub fn not_change(x: Shape) -> Change
     ensures { change_told result ≡ not_code (shape_told x) }
 {
-    match x {
-        Shape::True => Change::False,
-        Shape::False => Change::True,
-        _ => Change::Kept,
+    if x == Shape::True {
+        Change::False
+    } else if x == Shape::False {
+        Change::True
+    } else {
+        Change::Kept
     }
 }
 

@@ -1,9 +1,9 @@
 -- `shortener::plan::entry_at` meets its contract: each kind by its number, then every other kind.
-use Rattle.std.proofs.Common.{◌≡◌, ◌∙◌, ◌+◌, ℕ, List, ℤ, refl, sym, ap, pos, get_or}
+use Rattle.std.proofs.Common.{inl, inr, ◌≡◌, ◌∙◌, ◌+◌, ℕ, List, ℤ, refl, sym, ap, pos, get_or}
 use Rattle.script.specs.Kinds.{kind_of, number_read, other_read}
 use Rattle.script.specs.Rows.{field_number}
-use Rattle.shortener.specs.Codes.{Coded, kept_code, numbered_code, other_code}
-use Rattle.shortener.specs.Entries.{entry, entry_of, other_entry}
+use Rattle.shortener.specs.Codes.{Coded, kept_code, numbered_code, other_code, other_pair}
+use Rattle.shortener.specs.Entries.{entry, entry_of, pair_entry, kept_pair, other_entry}
 use Rattle.shortener.specs.Runs.{ends, shapes}
 use Rattle.shortener.proofs.Entered.{end_read, end_read_at}
 use Rattle.shortener.proofs.plan.entry_at.Goals as goal
@@ -88,5 +88,42 @@ returns-in_default c =
     let k = field_number (get_or ws c.args.at (pos 0)) in
     let d = c.in_default in
     let e = c.kind_at-kind.ensures in
-    c.pair_entry.ensures k e
+    let middle = c.place-in_default.ensures ∙ end_read es (c.args.at + 1) c.part_at-first.ensures in
+    let last = end_read_at es c.place-in_default.result c.part_at-in_default.ensures middle in
+    let stays = other_pair k (other_read e d.not-Plus refl) (other_read e d.not-Minus refl) (other_read e d.not-Times refl) (other_read e d.not-And refl)
+    (other_read e d.not-Implies refl) in
+    c.kept_entry-in_default.ensures
+    ∙ ap (λ n. entry n other_code kept_code) last
+    ∙ kept_pair k (ends es) (shapes es) c.args.at stays
     ∙ other_entry k ((((((((tt, other_read e d.not-Constant refl), other_read e d.not-Variable refl), other_read e d.not-Mark refl), other_read e d.not-True refl), other_read e d.not-False refl), other_read e d.not-Negate refl), other_read e d.not-Choose refl), other_read e d.not-Not refl) ws (ends es) (shapes es) c.args.at
+
+paired : (ws : List ℤ) (es ss : List ℕ) (at : ℕ) {m n : ℕ} {x : Coded} → x ≡ pair_entry n es ss at → n ≡ m
+    → pair_entry m es ss at ≡ entry_of m ws es ss at → x ≡ entry_of n ws es ss at
+paired ws es ss at p q r = of_kind ws es ss at (p ∙ ap (λ k. pair_entry k es ss at) q ∙ r) q
+
+-- of the kinds that have rules
+pub returns-in-Plus : goal.returns-in-Plus
+unfolding entry_of
+returns-in-Plus c =
+    let ws = c.args.words.now in
+    let es = c.args.entries.now in
+    let at = c.args.at in
+    let k = field_number (get_or ws at (pos 0)) in
+    let e = c.kind_at-kind.ensures in
+    let r = c.pair_entry.ensures k e in
+    elim (c.in-Plus.is) [
+      | inl h ↦ paired ws (ends es) (shapes es) at r (number_read e h refl) refl
+      | inr h ↦
+          elim h [
+            | inl h ↦ paired ws (ends es) (shapes es) at r (number_read e h refl) refl
+            | inr h ↦
+                elim h [
+                  | inl h ↦ paired ws (ends es) (shapes es) at r (number_read e h refl) refl
+                  | inr h ↦
+                      elim h [
+                        | inl h ↦ paired ws (ends es) (shapes es) at r (number_read e h refl) refl
+                        | inr h ↦ paired ws (ends es) (shapes es) at r (number_read e h refl) refl
+                      ]
+                ]
+          ]
+    ]
