@@ -27,6 +27,7 @@ pub enum Stop {
 
 // ---- one node
 
+// Both types are `script`'s, so no `From` between them can stand here.
 fn operator_of(kind: Kind) -> Operator
     ensures { result ≡ operator_of (number kind) }
 {
