@@ -22,13 +22,21 @@ fn row_nesting(table: &[i32], nestings: &[u16; 2048], r: usize) -> u16
     requires { Sound table.now × ((r < rows table.now) × Nestings table.now r nestings.now) }
     ensures { Nested table.now r result }
 {
-    let a = script::field(table, r, 1);
-    let b = script::field(table, r, 2);
-    let c = script::field(table, r, 3);
     match script::kind_at(table, r) {
-        Kind::Sequence => nesting_at(nestings, a).max(nesting_at(nestings, b)),
-        Kind::If => nesting_at(nestings, b).max(nesting_at(nestings, c)) + 1,
-        Kind::While => nesting_at(nestings, c) + 1,
+        Kind::Sequence => {
+            let first = script::field(table, r, 1);
+            let second = script::field(table, r, 2);
+            nesting_at(nestings, first).max(nesting_at(nestings, second))
+        }
+        Kind::If => {
+            let true_side = script::field(table, r, 2);
+            let false_side = script::field(table, r, 3);
+            nesting_at(nestings, true_side).max(nesting_at(nestings, false_side)) + 1
+        }
+        Kind::While => {
+            let body = script::field(table, r, 3);
+            nesting_at(nestings, body) + 1
+        }
         _ => 0,
     }
 }
