@@ -89,6 +89,7 @@ pub fn write_before(
     let mut s = first;
     let mut j = passed;
     let mut p = at;
+    // (a) no heap: 2048, a word of the lent scratch, says that nothing follows
     while s != 2048 {
         if list.len() < p {
             return p;
