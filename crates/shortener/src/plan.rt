@@ -149,6 +149,7 @@ fn entry_at(words: &[i32], at: usize, entries: &[Entry]) -> Entry
         Kind::Plus | Kind::Minus | Kind::Times | Kind::And | Kind::Implies => {
             pair_entry(kind, at, entries)
         }
+        // two parts and no rule: by `pair_entry` too it is slower
         _ => {
             let first = part_at(entries, at + 1);
             kept_entry(part_at(entries, place(first.end)).end)

@@ -42,7 +42,7 @@ pub enum Change {
     Passed,
 }
 
-// ---- the rules, in their order
+// ---- the rules, in their order; truth values are told by ==, since a match on both parts was tried and is slower
 
 // "E − 0 becomes E"; after it "0 − E becomes negate E"
 fn minus_change(x: Shape, y: Shape) -> Change
