@@ -8,7 +8,8 @@ use Rattle.script.specs.declared.Sort.{Sort}
 use Rattle.script.specs.Syntax.{Formula}
 use Rattle.theorems.specs.Unchanged.{stands}
 use Rattle.theorems.specs.DivisorWords.{and_if_both}
-use Rattle.theorems.specs.Writing.{Wrote, wrote_nothing, then, wrote_as}
+use Rattle.output.specs.declared.Output.{Output}
+use Rattle.output.specs.Written.{Written, nothing_written as Written·nothing, then, written_as}
 use Rattle.formula_writer.specs.Links.{Linked}
 use Rattle.formula_writer.specs.Paths.{under}
 use Rattle.formula_writer.specs.Nodes.{Ready}
@@ -55,18 +56,18 @@ module _ {t follow path : List ℤ} {j r : ℕ} (g : DivisorReady t follow path 
   undivided : {d : Bool} → d ≡ marked follow r → d ≡ false → divisor_words t path j r ≡ []
   undivided e h = no_words (divisors_at t r) (sym marked_here ∙ (sym e ∙ h))
 
-  pub nothing_written : {d : Bool} {p : ℕ} {l : List ℤ} → d ≡ marked follow r → d ≡ false → Wrote l p (divisor_words t path j r) p l
-  nothing_written {p = p} {l = l} e h = wrote_as (sym (undivided e h)) (wrote_nothing l p)
+  pub nothing_written : {d : Bool} {o : Output ℤ} → d ≡ marked follow r → d ≡ false → Written o (divisor_words t path j r) o
+  nothing_written {o = o} e h = written_as (sym (undivided e h)) (Written·nothing o)
 
   -- ---- before a formula
 
   conjunct : {b : Bool} → stands (divisors_at t r) ≡ b → conjunct_words t path j r ≡ and_if_both b true ++ divisor_words t path j r
   conjunct e = ap (λ b. and_if_both b true ++ divisor_words t path j r) (replaced_stands (under t path j) (divisors_at t r) ∙ e)
 
-  pub conjunct_written : {d : Bool} {p p' q : ℕ} {l l' l'' : List ℤ} → d ≡ marked follow r → d ≡ true → Wrote l p (pos 23 ∷ []) p' l'
-      → Wrote l' p' (divisor_words t path j r) q l'' → Wrote l p (conjunct_words t path j r) q l''
-  conjunct_written e h w x = wrote_as (sym (conjunct (sym marked_here ∙ (sym e ∙ h)))) (then w x)
+  pub conjunct_written : {d : Bool} {o o' o'' : Output ℤ} → d ≡ marked follow r → d ≡ true → Written o (pos 23 ∷ []) o'
+      → Written o' (divisor_words t path j r) o'' → Written o (conjunct_words t path j r) o''
+  conjunct_written e h w x = written_as (sym (conjunct (sym marked_here ∙ (sym e ∙ h)))) (then w x)
 
-  pub no_conjunct : {d : Bool} {p : ℕ} {l : List ℤ} → d ≡ marked follow r → d ≡ false → Wrote l p (conjunct_words t path j r) p l
-  no_conjunct {p = p} {l = l} e h =
-      wrote_as (sym (conjunct (sym marked_here ∙ (sym e ∙ h)) ∙ undivided e h)) (wrote_nothing l p)
+  pub no_conjunct : {d : Bool} {o : Output ℤ} → d ≡ marked follow r → d ≡ false → Written o (conjunct_words t path j r) o
+  no_conjunct {o = o} e h =
+      written_as (sym (conjunct (sym marked_here ∙ (sym e ∙ h)) ∙ undivided e h)) (Written·nothing o)

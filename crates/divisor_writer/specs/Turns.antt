@@ -13,7 +13,8 @@ use Rattle.script.specs.Words.{formula_words}
 use Rattle.script.specs.Rows.{field_number, word}
 use Rattle.script.specs.Trees.{expr_at, formula_at}
 use Rattle.theorems.specs.Unchanged.{stands, behind_stands}
-use Rattle.theorems.specs.Writing.{Wrote, past_end, then, wrote_as}
+use Rattle.output.specs.declared.Output.{Output}
+use Rattle.output.specs.Written.{Written, no_room, then, written_as}
 use Rattle.formula_writer.specs.Paths.{replaceᶠ, under, expr_under, formula_under}
 use Rattle.formula_writer.specs.Nodes.{Ready}
 use Rattle.following.specs.Follow.{row_on}
@@ -27,43 +28,43 @@ use Rattle.divisor_writer.specs.Under.{ands, lead, premise, unequal_zero, words_
 use Rattle.divisor_writer.specs.Ready.{below_ready, part_marked, part_node, nothing_written}
 
 -- the node at row r; m is the row at the start
-pub record Turn (t follow path : List ℤ) (j m : ℕ) (whole l₀ : List ℤ) (p₀ r p : ℕ) (l : List ℤ) : Type 0 where
+pub record Turn (t follow path : List ℤ) (j m : ℕ) (whole : List ℤ) (o₀ : Output ℤ) (r : ℕ) (o : Output ℤ) : Type 0 where
   pub ready : DivisorReady t follow path j r
   pub within : r ≤ m
-  pub words : (q : ℕ) (l'' : List ℤ) → Wrote l p (divisor_words t path j r) q l'' → Wrote l₀ p₀ whole q l''
+  pub words : (o'' : Output ℤ) → Written o (divisor_words t path j r) o'' → Written o₀ whole o''
 
-pub begun : {t follow path l : List ℤ} {j r p : ℕ} → DivisorReady t follow path j r
-    → Turn t follow path j r (divisor_words t path j r) l p r p l
-begun g = record { ready = g; within = omega linear; words = λ q l'' w. w }
+pub begun : {t follow path : List ℤ} {j r : ℕ} {o : Output ℤ} → DivisorReady t follow path j r
+    → Turn t follow path j r (divisor_words t path j r) o r o
+begun g = record { ready = g; within = omega linear; words = λ o'' w. w }
 
 -- what is below the source is below the node
 pub falls_below : {t : List ℤ} {r s n : ℕ} → Source t r s → n < s → n < r
 falls_below o h = let i = o.within in omega linear
 
-module _ {t follow path whole l₀ l : List ℤ} {j m p₀ r p : ℕ} (g : Turn t follow path j m whole l₀ p₀ r p l) where
-  abbrev Next : ℕ → ℕ → List ℤ → Type 0
-  Next n p' l' = Turn t follow path j m whole l₀ p₀ n p' l'
+module _ {t follow path whole : List ℤ} {j m r : ℕ} {o₀ o : Output ℤ} (g : Turn t follow path j m whole o₀ r o) where
+  abbrev Next : ℕ → Output ℤ → Type 0
+  Next n o' = Turn t follow path j m whole o₀ n o'
 
   -- the words of D of the node at a row
   abbrev W : ℕ → List ℤ
   W n = divisor_words t path j n
 
-  pub done : {d : Bool} → d ≡ marked follow r → d ≡ false → Wrote l₀ p₀ whole p l
-  done e h = g.words p l (nothing_written g.ready e h)
+  pub done : {d : Bool} → d ≡ marked follow r → d ≡ false → Written o₀ whole o
+  done e h = g.words o (nothing_written g.ready e h)
 
   -- where there is no room
-  pub stopped : length l < p → Wrote l₀ p₀ whole p l
-  stopped h = g.words p l (past_end (W r) h)
+  pub stopped : length o.list.now < o.at → Written o₀ whole o
+  stopped h = g.words o (no_room (W r) h)
 
   -- ---- the source
 
   pub source_here : {s : ℕ} → s + 1 ≡ row_on follow r → Source t r s
   source_here e = source_is (g.ready.divided.at r g.ready.inside g.ready.node) e
 
-  pub at_source : {s : ℕ} → s + 1 ≡ row_on follow r → Next s p l
+  pub at_source : {s : ℕ} → s + 1 ≡ row_on follow r → Next s o
   at_source {s} e =
-      let o = source_here e in
-      let i = o.within in
+      let from = source_here e in
+      let i = from.within in
       let h = g.ready.inside in
       let w = g.within in
       record {
@@ -71,12 +72,12 @@ module _ {t follow path whole l₀ l : List ℤ} {j m p₀ r p : ℕ} (g : Turn 
           table = g.ready.table;
           along = g.ready.along;
           inside = omega linear;
-          node = o.node;
+          node = from.node;
           divided = g.ready.divided;
           long = g.ready.long;
         };
         within = omega linear;
-        words = λ q l'' x. g.words q l'' (wrote_as (ap (words_of (under t path j)) o.same) x);
+        words = λ o'' x. g.words o'' (written_as (ap (words_of (under t path j)) from.same) x);
       }
 
   -- ---- the parts
@@ -88,11 +89,11 @@ module _ {t follow path whole l₀ l : List ℤ} {j m p₀ r p : ℕ} (g : Turn 
       (omega linear, below_ready g.ready n b)
 
   -- whatever writes the part writes what is left of the node
-  onward : {n p' : ℕ} {l' : List ℤ} → Below t r n → ((q : ℕ) (l'' : List ℤ) → Wrote l' p' (W n) q l'' → Wrote l p (W r) q l'') → Next n p' l'
+  onward : {n : ℕ} {o' : Output ℤ} → Below t r n → ((o'' : Output ℤ) → Written o' (W n) o'' → Written o (W r) o'') → Next n o'
   onward {n} b f =
       let i = b.0 in
       let w = g.within in
-      record { ready = below_ready g.ready n b; within = omega linear; words = λ q l'' x. g.words q l'' (f q l'' x) }
+      record { ready = below_ready g.ready n b; within = omega linear; words = λ o'' x. g.words o'' (f o'' x) }
 
   -- ---- a choice
 
@@ -116,15 +117,15 @@ module _ {t follow path whole l₀ l : List ℤ} {j m p₀ r p : ℕ} (g : Turn 
         (λ us vs. ands (marked follow f) (marked follow a) (marked follow b) ++ (W f ++ (us ++ vs)))
         (behind_under τ (formula_at t f) (divisors_at t a) first) (behind_under τ (not (formula_at t f)) (divisors_at t b) second))
 
-    pub choice_turn : {p₁ p₂ p₃ p₄ p₅ : ℕ} {l₁ l₂ l₃ l₄ l₅ : List ℤ}
-        → Wrote l p (ands (marked follow f) (marked follow a) (marked follow b)) p₁ l₁
-        → Wrote l₁ p₁ (W f) p₂ l₂
-        → Wrote l₂ p₂ (lead (marked follow a) (premise false (formula_under t path j f))) p₃ l₃
-        → Wrote l₃ p₃ (W a) p₄ l₄
-        → Wrote l₄ p₄ (lead (marked follow b) (premise true (formula_under t path j f))) p₅ l₅
-        → Next b p₅ l₅
+    pub choice_turn : {o₁ o₂ o₃ o₄ o₅ : Output ℤ}
+        → Written o (ands (marked follow f) (marked follow a) (marked follow b)) o₁
+        → Written o₁ (W f) o₂
+        → Written o₂ (lead (marked follow a) (premise false (formula_under t path j f))) o₃
+        → Written o₃ (W a) o₄
+        → Written o₄ (lead (marked follow b) (premise true (formula_under t path j f))) o₅
+        → Next b o₅
     choice_turn w₁ w₂ w₃ w₄ w₅ =
-        onward (expression_below t c.second) (λ q l'' w. wrote_as (sym choice_words) (then w₁ (then w₂ (then (then w₃ w₄) (then w₅ w)))))
+        onward (expression_below t c.second) (λ o'' w. written_as (sym choice_words) (then w₁ (then w₂ (then (then w₃ w₄) (then w₅ w)))))
 
   -- ---- two parts
 
@@ -144,22 +145,22 @@ module _ {t follow path whole l₀ l : List ℤ} {j m p₀ r p : ℕ} (g : Turn 
     pub divisor_node : {d : Bool} → d ≡ division n → d ≡ true → Ready t path j b Sort.Expression
     divisor_node e h = part_node g.ready (c.second.0, c.divisor_sort (sym e ∙ h))
 
-    pub division_written : {d : Bool} {p₁ p₂ p₃ q : ℕ} {l₁ l₂ l₃ l' : List ℤ} → d ≡ division n → d ≡ true
-        → Wrote l p (ands (marked follow a) (marked follow b) true) p₁ l₁
-        → Wrote l₁ p₁ (W a) p₂ l₂
-        → Wrote l₂ p₂ (W b) p₃ l₃
-        → Wrote l₃ p₃ (unequal_zero (expr_under t path j b)) q l'
-        → Wrote l₀ p₀ whole q l'
-    division_written {q = q} {l' = l'} e h w₁ w₂ w₃ w₄ =
-        g.words q l' (wrote_as (sym (pair_words (sym h ∙ e))) (then w₁ (then w₂ (then w₃ w₄))))
+    pub division_written : {d : Bool} {o₁ o₂ o₃ o' : Output ℤ} → d ≡ division n → d ≡ true
+        → Written o (ands (marked follow a) (marked follow b) true) o₁
+        → Written o₁ (W a) o₂
+        → Written o₂ (W b) o₃
+        → Written o₃ (unequal_zero (expr_under t path j b)) o'
+        → Written o₀ whole o'
+    division_written {o' = o'} e h w₁ w₂ w₃ w₄ =
+        g.words o' (written_as (sym (pair_words (sym h ∙ e))) (then w₁ (then w₂ (then w₃ w₄))))
 
-    pub pair_turn : {d : Bool} {p₁ p₂ : ℕ} {l₁ l₂ : List ℤ} → d ≡ division n → d ≡ false
-        → Wrote l p (ands (marked follow a) (marked follow b) false) p₁ l₁
-        → Wrote l₁ p₁ (W a) p₂ l₂
-        → Next b p₂ l₂
+    pub pair_turn : {d : Bool} {o₁ o₂ : Output ℤ} → d ≡ division n → d ≡ false
+        → Written o (ands (marked follow a) (marked follow b) false) o₁
+        → Written o₁ (W a) o₂
+        → Next b o₂
     pair_turn e h w₁ w₂ =
         onward c.second
-        (λ q l'' w. wrote_as (sym (pair_words (sym h ∙ e))) (then w₁ (then w₂ (wrote_as (sym (append-nil (W b))) w))))
+        (λ o'' w. written_as (sym (pair_words (sym h ∙ e))) (then w₁ (then w₂ (written_as (sym (append-nil (W b))) w))))
 
   -- ---- the node, from what was read
 
@@ -169,9 +170,9 @@ module _ {t follow path whole l₀ l : List ℤ} {j m p₀ r p : ℕ} (g : Turn 
     choice_here e hf ha hb = choice t g.ready.table r g.ready.inside read e hf ha hb
 
     -- a source that is no choice: a leaf has no D, a negation no word of its own
-    module _ {n : ℕ} (o : Source t n r) where
+    module _ {n : ℕ} (from : Source t n r) where
       no_leaf : divisors_at t r ≡ none → ⊥
-      no_leaf e = false≢true (sym (ap stands e) ∙ o.stood)
+      no_leaf e = false≢true (sym (ap stands e) ∙ from.stood)
 
       pub pair_here : {a b : ℕ} → (k ≡ 10 → ⊥) → a ≡ field_number (word t r 1) → b ≡ field_number (word t r 2) → Pair t r k a b
       pair_here no-choice ha hb =
@@ -181,12 +182,12 @@ module _ {t follow path whole l₀ l : List ℤ} {j m p₀ r p : ℕ} (g : Turn 
             (
               (
                 ((tt, λ e. no_leaf (constant_none t ok r h read e)), λ e. no_leaf (variable_none t ok r h read e)),
-                λ e. no_negation t ok r h read e o.own,
+                λ e. no_negation t ok r h read e from.own,
               ),
               λ e. no_leaf (mark_none t ok r h read e),
             ),
             no-choice,
           ) (
             ((tt, λ e. no_leaf (true_none t ok r h read e)), λ e. no_leaf (false_none t ok r h read e)),
-            λ e. no_denial t ok r h read e o.own,
+            λ e. no_denial t ok r h read e from.own,
           )

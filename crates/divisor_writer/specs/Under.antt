@@ -11,7 +11,8 @@ use Rattle.script.specs.Conditions.{◌joined◌, behind}
 use Rattle.script.specs.Words.{expr_words, formula_words}
 use Rattle.theorems.specs.Unchanged.{stands}
 use Rattle.theorems.specs.DivisorWords.{item_words, and_if_both, three_words}
-use Rattle.theorems.specs.Writing.{Wrote, wrote_nothing}
+use Rattle.output.specs.declared.Output.{Output}
+use Rattle.output.specs.Written.{Written, nothing_written}
 use Rattle.formula_writer.specs.Paths.{replaceᵉ, replaceᶠ, replaceᵒ}
 use Rattle.dividing.specs.Divisions.{divisor_of}
 
@@ -71,27 +72,27 @@ module _ (τ : ℕ → Expr) where
 
 -- ---- pieces that are written where items stand
 
-module _ {l : List ℤ} {p : ℕ} where
-  pub both_written : {x y : Bool} {q : ℕ} {l' : List ℤ} → x ≡ true → y ≡ true → Wrote l p (pos 23 ∷ []) q l' → Wrote l p (and_if_both x y) q l'
+module _ {o : Output ℤ} where
+  pub both_written : {x y : Bool} {o' : Output ℤ} → x ≡ true → y ≡ true → Written o (pos 23 ∷ []) o' → Written o (and_if_both x y) o'
   both_written hx hy w = rw (hx, hy) w
 
-  pub no_first : {x : Bool} (y : Bool) → x ≡ false → Wrote l p (and_if_both x y) p l
-  no_first y hx = rw hx (wrote_nothing l p)
+  pub no_first : {x : Bool} (y : Bool) → x ≡ false → Written o (and_if_both x y) o
+  no_first y hx = rw hx (nothing_written o)
 
-  pub no_second : (x : Bool) {y : Bool} → y ≡ false → Wrote l p (and_if_both x y) p l
-  no_second true hy = rw hy (wrote_nothing l p)
-  no_second false hy = wrote_nothing l p
+  pub no_second : (x : Bool) {y : Bool} → y ≡ false → Written o (and_if_both x y) o
+  no_second true hy = rw hy (nothing_written o)
+  no_second false hy = nothing_written o
 
   -- where d was found for b
   module _ {b d : Bool} (told : d ≡ b) where
-    pub lead_written : {us l' : List ℤ} {q : ℕ} → d ≡ true → Wrote l p us q l' → Wrote l p (lead b us) q l'
+    pub lead_written : {us : List ℤ} {o' : Output ℤ} → d ≡ true → Written o us o' → Written o (lead b us) o'
     lead_written h w = rw (sym told ∙ h) w
 
-    pub no_lead : (us : List ℤ) → d ≡ false → Wrote l p (lead b us) p l
-    no_lead us h = rw (sym told ∙ h) (wrote_nothing l p)
+    pub no_lead : (us : List ℤ) → d ≡ false → Written o (lead b us) o
+    no_lead us h = rw (sym told ∙ h) (nothing_written o)
 
-  pub denial_written : {b : Bool} {us l' : List ℤ} {q : ℕ} → b ≡ true → Wrote l p (pos 25 ∷ pos 22 ∷ us) q l' → Wrote l p (premise b us) q l'
+  pub denial_written : {b : Bool} {us : List ℤ} {o' : Output ℤ} → b ≡ true → Written o (pos 25 ∷ pos 22 ∷ us) o' → Written o (premise b us) o'
   denial_written h w = rw h w
 
-  pub assent_written : {b : Bool} {us l' : List ℤ} {q : ℕ} → b ≡ false → Wrote l p (pos 25 ∷ us) q l' → Wrote l p (premise b us) q l'
+  pub assent_written : {b : Bool} {us : List ℤ} {o' : Output ℤ} → b ≡ false → Written o (pos 25 ∷ us) o' → Written o (premise b us) o'
   assent_written h w = rw h w

@@ -16,7 +16,8 @@ use Rattle.script.specs.Refusals.{same_sort, in_range}
 use Rattle.theorems.specs.Accepted.{Accepted, both}
 use Rattle.theorems.specs.Kinds.{assigned}
 use Rattle.theorems.specs.RowTrees.{expr_is, formula_is}
-use Rattle.theorems.specs.Writing.{Wrote}
+use Rattle.output.specs.declared.Output.{Output}
+use Rattle.output.specs.Written.{Written}
 use Rattle.formula_writer.specs.Links.{Links, links_of}
 use Rattle.formula_writer.specs.Paths.{replaceᵉ, replaceᶠ, entry, passed_row, under, expr_under, formula_under}
 
@@ -88,12 +89,12 @@ module _ {t path : List ℤ} {j r : ℕ} {s : Sort} (g : Ready t path j r s) whe
   links_at e = links_of t g.table r g.inside e
 
   -- what is written at a row that is known
-  pub at_expr : {w : Row} {l l' : List ℤ} {p q : ℕ} → row t r ≡ w
-      → Wrote l p (expr_words (replaceᵉ (under t path j) (expr_node (expr_at t) (formula_at t) w))) q l'
-      → Wrote l p (expr_under t path j r) q l'
+  pub at_expr : {w : Row} {o o' : Output ℤ} → row t r ≡ w
+      → Written o (expr_words (replaceᵉ (under t path j) (expr_node (expr_at t) (formula_at t) w))) o'
+      → Written o (expr_under t path j r) o'
   at_expr e w = rw (expr_is t g.table r g.inside e) w
 
-  pub at_formula : {w : Row} {l l' : List ℤ} {p q : ℕ} → row t r ≡ w
-      → Wrote l p (formula_words (replaceᶠ (under t path j) (formula_node (expr_at t) (formula_at t) w))) q l'
-      → Wrote l p (formula_under t path j r) q l'
+  pub at_formula : {w : Row} {o o' : Output ℤ} → row t r ≡ w
+      → Written o (formula_words (replaceᶠ (under t path j) (formula_node (expr_at t) (formula_at t) w))) o'
+      → Written o (formula_under t path j r) o'
   at_formula e w = rw (formula_is t g.table r g.inside e) w

@@ -1,6 +1,6 @@
 -- What stands in the place of a variable (`Replaced`): the variable itself, where no assignment on the path is to it; else the
 -- value of the latest that is. Then that this is what the path makes of it (`stands_itself`, `stands_value`). Assumes nothing.
-use Rattle.std.specs.Prelude.{ℕ, zero, suc, ◌+◌, ◌*◌, ◌≤◌, ◌<◌, ◌≡◌, refl, cond, List, [], ◌∷◌, eqb, ℤ, pos, length}
+use Rattle.std.specs.Prelude.{ℕ, zero, suc, ◌+◌, ◌*◌, ◌≤◌, ◌<◌, ◌≡◌, refl, cond, List, eqb, ℤ, length, Option, Some, None, pos, [], ◌∷◌}
 use Rattle.std.proofs.Common.{sym, ap, ◌∙◌, ⊎_elim, arith as linear, eq-eqb, ne_eqb}
 use Rattle.script.specs.declared.RowNumber.{RowNumber}
 use Rattle.script.specs.declared.Sort.TheVariants.{Expression}
@@ -10,9 +10,8 @@ use Rattle.script.specs.Trees.{expr_at}
 use Rattle.theorems.specs.Accepted.{Accepted}
 use Rattle.theorems.specs.Counting.{eq_or_lt}
 use Rattle.theorems.specs.RowTrees.{stmt_is}
-use Rattle.theorems.specs.Writing.{Wrote}
-use Rattle.formula_writer.specs.declared.Replacement.{Replacement}
-use Rattle.formula_writer.specs.declared.Replacement.TheVariants.{Itself, Value}
+use Rattle.output.specs.declared.Output.{Output}
+use Rattle.output.specs.Written.{Written}
 use Rattle.formula_writer.specs.Links.{links_of}
 use Rattle.formula_writer.specs.Nodes.{OnPath, Ready, assignment_is, entry_fits}
 use Rattle.formula_writer.specs.Paths.{replaceᵉ, entry_on, passed_row, passed_variable, under}
@@ -22,27 +21,23 @@ use Rattle.formula_writer.specs.Search.{Entries, Latest}
 abbrev pub value_on : List ℤ → List ℤ → ℕ → ℕ
 value_on t path i = field_number (word t (passed_row path i) 2)
 
--- what stands in the place of v under j assignments, and what was written of it at place `at` in l, which is now l'
-pub record Replaced (t path : List ℤ) (v j : ℕ) (l : List ℤ) (at : ℕ) (l' : List ℤ) (w : Replacement) : Type 0 where
-  pub itself : (p : ℕ) → w ≡ Itself p → Latest path v j 0 × Wrote l at (pos 2 ∷ pos v ∷ []) p l'
-  pub value : (e : RowNumber) (i : ℕ) → w ≡ Value e i → Latest path v j (suc i) × ((e.0 ≡ value_on t path i) × (l' ≡ l))
+-- what stands in the place of v under j assignments, and what was written of it into o, which is now o': v itself, and it was written;
+-- or the value at a row, under so many, and nothing was
+pub record Replaced (t path : List ℤ) (v j : ℕ) (o o' : Output ℤ) (w : Option (RowNumber × ℕ)) : Type 0 where
+  pub itself : w ≡ None → Latest path v j 0 × Written o (pos 2 ∷ pos v ∷ []) o'
+  pub value : (e : RowNumber × ℕ) → w ≡ Some e → Latest path v j (suc e.1) × ((e.0.0 ≡ value_on t path e.1) × (o' ≡ o))
 
-apart : {p i : ℕ} {e : RowNumber} → Itself p ≡ Value e i → ⊥
+apart : {e : RowNumber × ℕ} → None ≡ Some e → ⊥
 apart h = let z : ◌≡◌ {A = ℕ} 0 1 = cc in omega linear
 
-module _ {t path : List ℤ} {v j : ℕ} {l : List ℤ} {at : ℕ} where
-  pub replaced_itself : {k : ℕ} (p : ℕ) {l' : List ℤ} → Latest path v j k → k ≡ 0 → Wrote l at (pos 2 ∷ pos v ∷ []) p l'
-      → Replaced t path v j l at l' (Itself p)
-  replaced_itself p found none w = record {
-    itself = λ q h. let e : p ≡ q = cc in (rw none at found, rw (← e) w);
-    value = λ e i h. absurd (apart h);
-  }
+module _ {t path : List ℤ} {v j : ℕ} {o : Output ℤ} where
+  pub replaced_itself : {o' : Output ℤ} → Latest path v j 0 → Written o (pos 2 ∷ pos v ∷ []) o' → Replaced t path v j o o' None
+  replaced_itself found w = record { itself = λ h. (found, w); value = λ e h. absurd (apart h) }
 
-  pub replaced_value : {k : ℕ} (e : RowNumber) (i : ℕ) → Latest path v j k → k ≡ suc i → e.0 ≡ value_on t path i
-      → Replaced t path v j l at l (Value e i)
-  replaced_value e i found some read = record {
-    itself = λ q h. absurd (apart (sym h));
-    value = λ f n h. let y : f ≡ e = cc in let z : n ≡ i = cc in rw (y, z) (rw some at found, (read, refl));
+  pub replaced_value : (e : RowNumber × ℕ) → Latest path v j (suc e.1) → e.0.0 ≡ value_on t path e.1 → Replaced t path v j o o (Some e)
+  replaced_value e found read = record {
+    itself = λ h. absurd (apart (sym h));
+    value = λ f h. let y : f ≡ e = cc in rw y (found, (read, refl));
   }
 
 -- ---- what a variable stands for

@@ -1,16 +1,15 @@
 -- What holds at each turn of the two writers: whatever writes the node at hand, from the present place on, writes the whole
 -- from the first place on (`words`). There is a law for each kind of row: what is written, or how the next turn goes on with
 -- the last part. Assumes nothing.
-use Rattle.std.specs.Prelude.{ℕ, ◌+◌, ◌≤◌, ◌<◌, ◌≡◌, refl, List, [], ◌∷◌, ℤ, pos, length}
+use Rattle.std.specs.Prelude.{ℕ, ◌+◌, ◌≤◌, ◌<◌, ◌≡◌, refl, List, [], ◌∷◌, ℤ, pos, length, Option, Some, None}
 use Rattle.std.proofs.Common.{arith as linear}
 use Rattle.script.specs.declared.RowNumber.{RowNumber}
 use Rattle.script.specs.declared.Sort.{Sort}
 use Rattle.script.specs.declared.Sort.TheVariants.{Expression, Formula}
 use Rattle.script.specs.Words.{expr_words}
 use Rattle.script.specs.Rows.{field_number, row_of, variables, word}
-use Rattle.theorems.specs.Writing.{Wrote, stopped, then}
-use Rattle.formula_writer.specs.declared.Replacement.{Replacement}
-use Rattle.formula_writer.specs.declared.Replacement.TheVariants.{Itself, Value}
+use Rattle.output.specs.declared.Output.{Output}
+use Rattle.output.specs.Written.{Written, no_room, then}
 use Rattle.formula_writer.specs.Links.{Linked}
 use Rattle.formula_writer.specs.Nodes.{Ready, base, variable_small, mark_small, links_at, at_expr, at_formula}
 use Rattle.formula_writer.specs.Paths.{replaceᵉ, under, expr_under, formula_under}
@@ -18,17 +17,17 @@ use Rattle.formula_writer.specs.Replacing.{Replaced, Stands, stands_itself, stan
 use Rattle.formula_writer.specs.Kinds.{of_kind, PastExpressions, PastFormulas, Operation, operation, operation_small, Compared, comparison, Joined, junction, pair_small}
 
 -- the node of sort s at row r under j assignments, with the words `part`; m is the measure at the start
-pub record Turn (t path : List ℤ) (s : Sort) (m : ℕ) (whole l₀ : List ℤ) (p₀ : ℕ) (part : List ℤ) (j r p : ℕ) (l : List ℤ) : Type 0 where
+pub record Turn (t path : List ℤ) (s : Sort) (m : ℕ) (whole : List ℤ) (o₀ : Output ℤ) (part : List ℤ) (j r : ℕ) (o : Output ℤ) : Type 0 where
   pub ready : Ready t path j r s
   pub within : base j + (r + 1) ≤ m
-  pub words : (q : ℕ) (l'' : List ℤ) → Wrote l p part q l'' → Wrote l₀ p₀ whole q l''
+  pub words : (o'' : Output ℤ) → Written o part o'' → Written o₀ whole o''
 
-pub begun : {t path ws l : List ℤ} {s : Sort} {j r p : ℕ} → Ready t path j r s → Turn t path s (base j + (r + 1)) ws l p ws j r p l
-begun g = record { ready = g; within = omega linear; words = λ q l'' w. w }
+pub begun : {t path ws : List ℤ} {s : Sort} {j r : ℕ} {o : Output ℤ} → Ready t path j r s → Turn t path s (base j + (r + 1)) ws o ws j r o
+begun g = record { ready = g; within = omega linear; words = λ o'' w. w }
 
-module _ {t path whole l₀ part l : List ℤ} {s : Sort} {m p₀ j r p : ℕ} (g : Turn t path s m whole l₀ p₀ part j r p l) where
-  pub full : length l < p → Wrote l₀ p₀ whole p l
-  full h = g.words p l (stopped (omega linear) h refl)
+module _ {t path whole part : List ℤ} {s : Sort} {m j r : ℕ} {o₀ o : Output ℤ} (g : Turn t path s m whole o₀ part j r o) where
+  pub full : length o.list.now < o.at → Written o₀ whole o
+  full h = g.words o (no_room part h)
 
   -- a part, at row n
 
@@ -46,24 +45,24 @@ module _ {t path whole l₀ part l : List ℤ} {s : Sort} {m p₀ j r p : ℕ} (
       (omega linear, record { table = g.ready.table; along = g.ready.along; inside = omega linear; sort = h.1 })
 
   -- whatever writes the part writes what is left of the node
-  onward : {n p' : ℕ} {part' l' : List ℤ} → Linked t r n s
-      → ((q : ℕ) (l'' : List ℤ) → Wrote l' p' part' q l'' → Wrote l p part q l'') → Turn t path s m whole l₀ p₀ part' j n p' l'
+  onward : {n : ℕ} {part' : List ℤ} {o' : Output ℤ} → Linked t r n s
+      → ((o'' : Output ℤ) → Written o' part' o'' → Written o part o'') → Turn t path s m whole o₀ part' j n o'
   onward h f =
       let d = h.0 in
       let w = g.within in
-      record { ready = (part_ready refl h).1; within = omega linear; words = λ q l'' x. g.words q l'' (f q l'' x) }
+      record { ready = (part_ready refl h).1; within = omega linear; words = λ o'' x. g.words o'' (f o'' x) }
 
 -- ---- an expression
 
-module _ {t path whole l₀ l : List ℤ} {m p₀ j r p : ℕ} (g : Turn t path Expression m whole l₀ p₀ (expr_under t path j r) j r p l)
+module _ {t path whole : List ℤ} {m j r : ℕ} {o₀ o : Output ℤ} (g : Turn t path Expression m whole o₀ (expr_under t path j r) j r o)
     {k : ℕ} (read : k ≡ field_number (word t r 0)) where
   -- a turn under i assignments
-  abbrev Next : ℕ → ℕ → ℕ → List ℤ → Type 0
-  Next i n p' l' = Turn t path Expression m whole l₀ p₀ (expr_under t path i n) i n p' l'
+  abbrev Next : ℕ → ℕ → Output ℤ → Type 0
+  Next i n o' = Turn t path Expression m whole o₀ (expr_under t path i n) i n o'
 
-  pub constant_written : {q : ℕ} {l' : List ℤ} → k ≡ 1 → Wrote l p (pos 1 ∷ word t r 1 ∷ []) q l' → Wrote l₀ p₀ whole q l'
+  pub constant_written : {o' : Output ℤ} → k ≡ 1 → Written o (pos 1 ∷ word t r 1 ∷ []) o' → Written o₀ whole o'
   unfolding row_of expr_words replaceᵉ
-  constant_written {q} {l'} e w = g.words q l' (at_expr g.ready (of_kind t r k read 1 e) w)
+  constant_written {o'} e w = g.words o' (at_expr g.ready (of_kind t r k read 1 e) w)
 
   -- ---- a variable, and the value that stands in its place
 
@@ -72,39 +71,39 @@ module _ {t path whole l₀ l : List ℤ} {m p₀ j r p : ℕ} (g : Turn t path 
     unfolding row_of
     variable_fits = rw named (variable_small g.ready (of_kind t r k read 2 e))
 
-    spelled : {q : ℕ} {l' : List ℤ} → Wrote l p (expr_words (under t path j v)) q l' → Wrote l p (expr_under t path j r) q l'
+    spelled : {o' : Output ℤ} → Written o (expr_words (under t path j v)) o' → Written o (expr_under t path j r) o'
     unfolding row_of replaceᵉ
     spelled w = at_expr g.ready (of_kind t r k read 2 e) (rw named at w)
 
-    module _ {l' : List ℤ} {w : Replacement} (replaced : Replaced t path v j l p l' w) where
-      pub variable_written : {q : ℕ} → w ≡ Itself q → Wrote l₀ p₀ whole q l'
+    module _ {o' : Output ℤ} {w : Option (RowNumber × ℕ)} (replaced : Replaced t path v j o o' w) where
+      pub variable_written : w ≡ None → Written o₀ whole o'
       unfolding expr_words
-      variable_written {q} is =
-          let r = replaced.itself q is in
-          g.words q l' (spelled (rw (stands_itself g.ready.table g.ready.along r.0) r.1))
+      variable_written is =
+          let r = replaced.itself is in
+          g.words o' (spelled (rw (stands_itself g.ready.table g.ready.along r.0) r.1))
 
-      module _ {n : RowNumber} {i : ℕ} (is : w ≡ Value n i) where
-        same_list : l' ≡ l
-        same_list = (replaced.value n i is).1.1
+      module _ {x : RowNumber × ℕ} (is : w ≡ Some x) where
+        same_output : o' ≡ o
+        same_output = (replaced.value x is).1.1
 
-        value : Stands t path v j n.0 i
-        value = let r = replaced.value n i is in stands_value g.ready.table g.ready.along r.0 r.1.0
+        value : Stands t path v j x.0.0 x.1
+        value = let r = replaced.value x is in stands_value g.ready.table g.ready.along r.0 r.1.0
 
-        pub value_falls : base i + (n.0 + 1) < base j + (r + 1)
+        pub value_falls : base x.1 + (x.0.0 + 1) < base j + (r + 1)
         value_falls =
             let earlier = value.earlier in
             let inside = value.ready.inside in
             let short = g.ready.table.short in
             omega linear
 
-        pub value_turn : Next i n.0 p l'
+        pub value_turn : Next x.1 x.0.0 o'
         value_turn =
             let falls = value_falls in
             let within = g.within in
             record {
               ready = value.ready;
               within = omega linear;
-              words = λ q l'' w. g.words q l'' (spelled (rw value.is (rw same_list at w)));
+              words = λ o'' y. g.words o'' (spelled (rw value.is (rw same_output at y)));
             }
 
   -- ---- a negation
@@ -114,9 +113,9 @@ module _ {t path whole l₀ l : List ℤ} {m p₀ j r p : ℕ} (g : Turn t path 
     unfolding row_of
     negated = linked_as g Expression h (links_at g.ready (of_kind t r k read 8 e)).0
 
-    pub negate_turn : {p' : ℕ} {l' : List ℤ} → Wrote l p (pos 8 ∷ []) p' l' → Next j n p' l'
+    pub negate_turn : {o' : Output ℤ} → Written o (pos 8 ∷ []) o' → Next j n o'
     unfolding row_of expr_words replaceᵉ
-    negate_turn w = onward g negated (λ q l'' x. at_expr g.ready (of_kind t r k read 8 e) (then w (rw h at x)))
+    negate_turn w = onward g negated (λ o'' x. at_expr g.ready (of_kind t r k read 8 e) (then w (rw h at x)))
 
   -- ---- a mark
 
@@ -125,9 +124,9 @@ module _ {t path whole l₀ l : List ℤ} {m p₀ j r p : ℕ} (g : Turn t path 
     unfolding row_of
     mark_fits = rw h (mark_small g.ready (of_kind t r k read 9 e))
 
-    pub mark_written : {q : ℕ} {l' : List ℤ} → Wrote l p (pos 9 ∷ pos n ∷ []) q l' → Wrote l₀ p₀ whole q l'
+    pub mark_written : {o' : Output ℤ} → Written o (pos 9 ∷ pos n ∷ []) o' → Written o₀ whole o'
     unfolding row_of expr_words replaceᵉ
-    mark_written {q} {l'} w = g.words q l' (at_expr g.ready (of_kind t r k read 9 e) (rw h at w))
+    mark_written {o'} w = g.words o' (at_expr g.ready (of_kind t r k read 9 e) (rw h at w))
 
   -- ---- a choice, with the parts a, b and c
 
@@ -138,12 +137,12 @@ module _ {t path whole l₀ l : List ℤ} {m p₀ j r p : ℕ} (g : Turn t path 
         let l = links_at g.ready (of_kind t r k read 10 e) in
         (linked_as g Formula ha l.0, linked_as g Expression hb l.1.0, linked_as g Expression hc l.1.1.0)
 
-    pub choose_turn : {p₁ p₂ p₃ : ℕ} {l₁ l₂ l₃ : List ℤ} → Wrote l p (pos 10 ∷ []) p₁ l₁ → Wrote l₁ p₁ (formula_under t path j a) p₂ l₂
-        → Wrote l₂ p₂ (expr_under t path j b) p₃ l₃ → Next j c p₃ l₃
+    pub choose_turn : {o₁ o₂ o₃ : Output ℤ} → Written o (pos 10 ∷ []) o₁ → Written o₁ (formula_under t path j a) o₂
+        → Written o₂ (expr_under t path j b) o₃ → Next j c o₃
     unfolding row_of expr_words replaceᵉ
     choose_turn w f x =
         onward g chosen.2
-        (λ q l'' y. at_expr g.ready (of_kind t r k read 10 e) (then w (then (rw ha at f) (then (rw hb at x) (rw hc at y)))))
+        (λ o'' y. at_expr g.ready (of_kind t r k read 10 e) (then w (then (rw ha at f) (then (rw hb at x) (rw hc at y)))))
 
   -- ---- an operator, with the parts a and b
 
@@ -158,27 +157,27 @@ module _ {t path whole l₀ l : List ℤ} {m p₀ j r p : ℕ} (g : Turn t path 
       pub operands : Linked t r a Expression × Linked t r b Expression
       operands = let l = links_at g.ready operator.is in (linked_as g Expression ha l.0, linked_as g Expression hb l.1.0)
 
-      pub operator_turn : {p₁ p₂ : ℕ} {l₁ l₂ : List ℤ} → Wrote l p (pos k ∷ []) p₁ l₁ → Wrote l₁ p₁ (expr_under t path j a) p₂ l₂
-          → Next j b p₂ l₂
+      pub operator_turn : {o₁ o₂ : Output ℤ} → Written o (pos k ∷ []) o₁ → Written o₁ (expr_under t path j a) o₂
+          → Next j b o₂
       unfolding expr_words replaceᵉ
       operator_turn w x =
           onward g operands.1
-          (λ q l'' y. at_expr g.ready operator.is (then (rw operator.spelled at w) (then (rw ha at x) (rw hb at y))))
+          (λ o'' y. at_expr g.ready operator.is (then (rw operator.spelled at w) (then (rw ha at x) (rw hb at y))))
 
 -- ---- a formula
 
-module _ {t path whole l₀ l : List ℤ} {m p₀ j r p : ℕ} (g : Turn t path Formula m whole l₀ p₀ (formula_under t path j r) j r p l)
+module _ {t path whole : List ℤ} {m j r : ℕ} {o₀ o : Output ℤ} (g : Turn t path Formula m whole o₀ (formula_under t path j r) j r o)
     {k : ℕ} (read : k ≡ field_number (word t r 0)) where
-  abbrev Nextᶠ : ℕ → ℕ → List ℤ → Type 0
-  Nextᶠ n p' l' = Turn t path Formula m whole l₀ p₀ (formula_under t path j n) j n p' l'
+  abbrev Nextᶠ : ℕ → Output ℤ → Type 0
+  Nextᶠ n o' = Turn t path Formula m whole o₀ (formula_under t path j n) j n o'
 
-  pub true_written : {q : ℕ} {l' : List ℤ} → k ≡ 16 → Wrote l p (pos 16 ∷ []) q l' → Wrote l₀ p₀ whole q l'
+  pub true_written : {o' : Output ℤ} → k ≡ 16 → Written o (pos 16 ∷ []) o' → Written o₀ whole o'
   unfolding row_of expr_words replaceᵉ
-  true_written {q} {l'} e w = g.words q l' (at_formula g.ready (of_kind t r k read 16 e) w)
+  true_written {o'} e w = g.words o' (at_formula g.ready (of_kind t r k read 16 e) w)
 
-  pub false_written : {q : ℕ} {l' : List ℤ} → k ≡ 17 → Wrote l p (pos 17 ∷ []) q l' → Wrote l₀ p₀ whole q l'
+  pub false_written : {o' : Output ℤ} → k ≡ 17 → Written o (pos 17 ∷ []) o' → Written o₀ whole o'
   unfolding row_of expr_words replaceᵉ
-  false_written {q} {l'} e w = g.words q l' (at_formula g.ready (of_kind t r k read 17 e) w)
+  false_written {o'} e w = g.words o' (at_formula g.ready (of_kind t r k read 17 e) w)
 
   -- ---- a negation
 
@@ -187,9 +186,9 @@ module _ {t path whole l₀ l : List ℤ} {m p₀ j r p : ℕ} (g : Turn t path 
     unfolding row_of
     denied = linked_as g Formula h (links_at g.ready (of_kind t r k read 22 e)).0
 
-    pub not_turn : {p' : ℕ} {l' : List ℤ} → Wrote l p (pos 22 ∷ []) p' l' → Nextᶠ n p' l'
+    pub not_turn : {o' : Output ℤ} → Written o (pos 22 ∷ []) o' → Nextᶠ n o'
     unfolding row_of expr_words replaceᵉ
-    not_turn w = onward g denied (λ q l'' x. at_formula g.ready (of_kind t r k read 22 e) (then w (rw h at x)))
+    not_turn w = onward g denied (λ o'' x. at_formula g.ready (of_kind t r k read 22 e) (then w (rw h at x)))
 
   -- ---- a relation or a connective, with the parts a and b
 
@@ -205,11 +204,11 @@ module _ {t path whole l₀ l : List ℤ} {m p₀ j r p : ℕ} (g : Turn t path 
         pub compared : Linked t r a Expression × Linked t r b Expression
         compared = let l = links_at g.ready relation.is in (linked_as g Expression ha l.0, linked_as g Expression hb l.1.0)
 
-        pub relation_written : {p₁ p₂ q : ℕ} {l₁ l₂ l' : List ℤ} → Wrote l p (pos k ∷ []) p₁ l₁
-            → Wrote l₁ p₁ (expr_under t path j a) p₂ l₂ → Wrote l₂ p₂ (expr_under t path j b) q l' → Wrote l₀ p₀ whole q l'
+        pub relation_written : {o₁ o₂ o' : Output ℤ} → Written o (pos k ∷ []) o₁
+            → Written o₁ (expr_under t path j a) o₂ → Written o₂ (expr_under t path j b) o' → Written o₀ whole o'
         unfolding expr_words replaceᵉ
-        relation_written {q = q} {l' = l'} w x y =
-            g.words q l' (at_formula g.ready relation.is (then (rw relation.spelled at w) (then (rw ha at x) (rw hb at y))))
+        relation_written {o' = o'} w x y =
+            g.words o' (at_formula g.ready relation.is (then (rw relation.spelled at w) (then (rw ha at x) (rw hb at y))))
 
       module _ (high : 22 ≤ k) where
         connective : Joined t r k
@@ -218,9 +217,9 @@ module _ {t path whole l₀ l : List ℤ} {m p₀ j r p : ℕ} (g : Turn t path 
         pub joined : Linked t r a Formula × Linked t r b Formula
         joined = let l = links_at g.ready connective.is in (linked_as g Formula ha l.0, linked_as g Formula hb l.1.0)
 
-        pub connective_turn : {p₁ p₂ : ℕ} {l₁ l₂ : List ℤ} → Wrote l p (pos k ∷ []) p₁ l₁ → Wrote l₁ p₁ (formula_under t path j a) p₂ l₂
-            → Nextᶠ b p₂ l₂
+        pub connective_turn : {o₁ o₂ : Output ℤ} → Written o (pos k ∷ []) o₁ → Written o₁ (formula_under t path j a) o₂
+            → Nextᶠ b o₂
         unfolding expr_words replaceᵉ
         connective_turn w x =
             onward g joined.1
-            (λ q l'' y. at_formula g.ready connective.is (then (rw connective.spelled at w) (then (rw ha at x) (rw hb at y))))
+            (λ o'' y. at_formula g.ready connective.is (then (rw connective.spelled at w) (then (rw ha at x) (rw hb at y))))

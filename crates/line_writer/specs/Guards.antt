@@ -13,16 +13,17 @@ use Rattle.script.specs.Words.{formula_words}
 use Rattle.script.specs.Rows.{row, rows, sort_of}
 use Rattle.script.specs.Trees.{formula_at}
 use Rattle.script.specs.Refusals.{same_sort}
-use Rattle.theorems.specs.Writing.{Wrote, then, wrote_as}
 use Rattle.theorems.specs.Unchanged.{stands}
 use Rattle.theorems.specs.DivisorWords.{item_words}
+use Rattle.output.specs.declared.Output.{Output}
+use Rattle.output.specs.Written.{Written, then, written_as}
 use Rattle.formula_writer.specs.Paths.{formula_under}
 use Rattle.dividing.specs.Nodes.{formula_is_node, divisors_at, formula_divisors}
 use Rattle.dividing.specs.Divided.{Divided, marked, marked_stands}
 use Rattle.divisor_writer.specs.Words.{DivisorReady, divisor_words, divisor_words_first}
 use Rattle.wp_writer.specs.Loops.{Loop, guard_row, invariant_row, guard_at, invariant_at, guard_linked}
-use Rattle.line_writer.specs.declared.Progress.{Progress}
-use Rattle.line_writer.specs.Listed.{Listed, listed_none}
+use Rattle.line_writer.specs.declared.Lines.{Lines}
+use Rattle.line_writer.specs.Listed.{Listed, on, listed_none}
 use Rattle.line_writer.specs.Spelled.{Finished, line_finished}
 use Rattle.line_writer.specs.Loops.{nothing_passed, plain_formula}
 
@@ -35,16 +36,16 @@ pub record GuardReady (t : List ℤ) (k : ℕ) (follow : List ℤ) : Type 0 wher
   pub long : rows t ≤ length follow
 
 guard_is : (k depth : ℕ) (i : Formula) (x : Option Formula) → stands x ≡ true
-    → {l l₁ l₂ l₃ l₄ : List ℤ} {start : Progress} {p₁ p₂ past : ℕ} {q : Progress}
-    → Wrote l start.at (pos 25 ∷ []) p₁ l₁ → Wrote l₁ p₁ (formula_words i) p₂ l₂ → Wrote l₂ p₂ (item_words x) past l₃
-    → Finished l₃ start past Guard k depth q l₄ → Listed l start (guard k depth i x) q l₄
+    → {ls ls' : Lines} {o₁ o₂ o₃ : Output ℤ}
+    → Written ls.out.now (pos 25 ∷ []) o₁ → Written o₁ (formula_words i) o₂ → Written o₂ (item_words x) o₃
+    → Finished ls.out.now.at Guard k depth (on ls o₃) ls' → Listed ls (guard k depth i x) ls'
 unfolding formula_words
 guard_is k depth i none h w₁ w₂ w₃ f = absurd (false≢true h)
 guard_is k depth i (some d) h w₁ w₂ w₃ f = line_finished Guard k depth (join Implies i d) (then w₁ (then w₂ w₃)) f
 
-guard_none : (k depth : ℕ) (i : Formula) (x : Option Formula) → stands x ≡ false → (l : List ℤ) (p : Progress) → Listed l p (guard k depth i x) p l
-guard_none k depth i none h l p = listed_none l p
-guard_none k depth i (some d) h l p = absurd (false≢true (sym h))
+guard_none : (k depth : ℕ) (i : Formula) (x : Option Formula) → stands x ≡ false → (ls : Lines) → Listed ls (guard k depth i x) ls
+guard_none k depth i none h ls = listed_none ls
+guard_none k depth i (some d) h ls = absurd (false≢true (sym h))
 
 module _ (t : List ℤ) (k : ℕ) (follow : List ℤ) (g : GuardReady t k follow) {b : ℕ} (eb : b ≡ guard_row t k) where
   guard_sort : T (same_sort (sort_of (row t b)) Sort.Formula)
@@ -74,14 +75,14 @@ module _ (t : List ℤ) (k : ℕ) (follow : List ℤ) (g : GuardReady t k follow
   guard_stands e = ap stands (sym guard_D) ∙ (sym (marked_stands t follow b g.divided guard_inside (formula_is_node t b guard_sort)) ∙ sym e)
 
   module _ {d : Bool} (is : d ≡ marked follow b) where
-    pub guard_listed : (path : List ℤ) {i depth : ℕ} {l l₁ l₂ l₃ l₄ : List ℤ} {start : Progress} {p₁ p₂ past : ℕ} {q : Progress} → d ≡ true
+    pub guard_listed : (path : List ℤ) {i depth : ℕ} {ls ls' : Lines} {o₁ o₂ o₃ : Output ℤ} → d ≡ true
         → i ≡ invariant_row t k
-        → Wrote l start.at (pos 25 ∷ []) p₁ l₁ → Wrote l₁ p₁ (formula_under t path 0 i) p₂ l₂ → Wrote l₂ p₂ (divisor_words t path 0 b) past l₃
-        → Finished l₃ start past Guard k depth q l₄ → Listed l start (guard_lines t depth k) q l₄
+        → Written ls.out.now (pos 25 ∷ []) o₁ → Written o₁ (formula_under t path 0 i) o₂ → Written o₂ (divisor_words t path 0 b) o₃
+        → Finished ls.out.now.at Guard k depth (on ls o₃) ls' → Listed ls (guard_lines t depth k) ls'
     guard_listed path {depth = depth} h ei w₁ w₂ w₃ f =
         guard_is k depth (invariant_at t k) (divisorsᶠ (guard_at t k)) (guard_stands is ∙ h) w₁
         (plain_formula t path (invariant_row t k) ei w₂)
-        (wrote_as (divisor_words_first t path b ∙ ap item_words guard_D) w₃) f
+        (written_as (divisor_words_first t path b ∙ ap item_words guard_D) w₃) f
 
-    pub guard_unlisted : d ≡ false → (depth : ℕ) (l : List ℤ) (p : Progress) → Listed l p (guard_lines t depth k) p l
-    guard_unlisted h depth l p = guard_none k depth (invariant_at t k) (divisorsᶠ (guard_at t k)) (guard_stands is ∙ h) l p
+    pub guard_unlisted : d ≡ false → (depth : ℕ) (ls : Lines) → Listed ls (guard_lines t depth k) ls
+    guard_unlisted h depth ls = guard_none k depth (invariant_at t k) (divisorsᶠ (guard_at t k)) (guard_stands is ∙ h) ls

@@ -8,19 +8,30 @@ use native.Mathlib.Omega.{arith as linear}
 use Rattle.std.proofs.Math.ListN.{length-append}
 use Rattle.script.specs.Conditions.{Condition}
 use Rattle.script.specs.Words.{Form, with_depth, formula_words, trailer, line_words, all_lines}
-use Rattle.theorems.specs.Writing.{Wrote, fitted, stopped, then, wrote_length, wrote_nothing}
-use Rattle.line_writer.specs.declared.Progress.{Progress}
+use Rattle.theorems.specs.Writing.{Wrote, fitted, stopped}
+use Rattle.output.specs.declared.Output.{Output}
+use Rattle.output.specs.Written.{Written, nothing_written, no_room, then, written_length}
+use Rattle.line_writer.specs.declared.Lines.{Lines}
 
--- The conditions cs were to be listed from p on, in the list l; q is past them, and l' is what is left.
-pub record Listed (l : List ℤ) (p : Progress) (cs : List Condition) (q : Progress) (l' : List ℤ) : Type 0 where
-  pub words : Wrote l p.at (all_lines with_depth cs) q.at l'
+-- how many words the list has in all
+abbrev pub size : Output ℤ → ℕ
+size o = length o.list.now
+
+-- the same conditions before a formula that is written into o
+abbrev pub on : Lines → Output ℤ → Lines
+on ls o = record { out = record ls.out { now = o }; count = ls.count }
+
+-- The conditions cs were to be listed behind ls; ls' is what is left.
+pub record Listed (ls : Lines) (cs : List Condition) (ls' : Lines) : Type 0 where
+  pub words : Written ls.out.now (all_lines with_depth cs) ls'.out.now
+  pub same : ls'.out.ghost_name ≡ ls.out.ghost_name
   -- where there was room, the count rose by their number
-  pub count : q.at ≤ length l → q.count ≡ p.count + length cs
+  pub count : ls'.out.now.at ≤ size ls.out.now → ls'.count ≡ ls.count + length cs
 
--- a list of at most 16,384 words that was written up to p
-pub record InRoom (l : List ℤ) (p : Progress) : Type 0 where
-  pub short : length l ≤ 16384
-  pub few : p.at ≤ length l → p.count ≤ p.at
+-- lines in a list of at most 16,384 words
+pub record InRoom (ls : Lines) : Type 0 where
+  pub short : size ls.out.now ≤ 16384
+  pub few : ls.out.now.at ≤ size ls.out.now → ls.count ≤ ls.out.now.at
 
 -- ---- lines of conditions
 
@@ -53,44 +64,45 @@ went (stopped h n s) k = absurd (omega linear)
 
 -- ---- one run of conditions after another
 
-pub listed_then : {l l' l'' : List ℤ} {xs ys : List Condition} {p q r : Progress} → Listed l p xs q l' → Listed l' q ys r l'' → Listed l p (xs ++ ys) r l''
+pub listed_then : {ls ls' ls'' : Lines} {xs ys : List Condition} → Listed ls xs ls' → Listed ls' ys ls'' → Listed ls (xs ++ ys) ls''
 listed_then {xs = xs} {ys = ys} a b =
-    let m = wrote_length a.words in
+    let m = written_length a.words in
     record {
       words = rw (all_lines_append with_depth xs ys) (then a.words b.words);
+      same = b.same ∙ a.same;
       count = λ h.
-          let w = went b.words (omega linear) in
+          let w = went b.words.wrote (omega linear) in
           let x = a.count (omega linear) in
           let y = b.count (omega linear) in
           let n = length-append xs ys in
           omega linear;
     }
 
-pub listed_as : {l l' : List ℤ} {xs ys : List Condition} {p q : Progress} → ys ≡ xs → Listed l p xs q l' → Listed l p ys q l'
+pub listed_as : {ls ls' : Lines} {xs ys : List Condition} → ys ≡ xs → Listed ls xs ls' → Listed ls ys ls'
 listed_as e w = rw e w
 
 -- ---- no condition, and no room
 
-pub listed_none : (l : List ℤ) (p : Progress) → Listed l p [] p l
+pub listed_none : (ls : Lines) → Listed ls [] ls
 unfolding all_lines
-listed_none l p = record { words = wrote_nothing l p.at; count = λ h. sym (add-zero p.count) }
+listed_none ls = record { words = nothing_written ls.out.now; same = refl; count = λ h. sym (add-zero ls.count) }
 
-pub listed_full : {l : List ℤ} {cs : List Condition} {p : Progress} → length l < p.at → Listed l p cs p l
-listed_full h = record { words = stopped (omega linear) h refl; count = λ k. absurd (omega linear) }
+pub listed_full : {ls : Lines} {cs : List Condition} → size ls.out.now < ls.out.now.at → Listed ls cs ls
+listed_full {cs = cs} h = record { words = no_room (all_lines with_depth cs) h; same = refl; count = λ k. absurd (omega linear) }
 
 -- ---- the list stays in room
 
-pub listed_length : {l l' : List ℤ} {cs : List Condition} {p q : Progress} → Listed l p cs q l' → length l' ≡ length l
-listed_length w = wrote_length w.words
+pub listed_length : {ls ls' : Lines} {cs : List Condition} → Listed ls cs ls' → size ls'.out.now ≡ size ls.out.now
+listed_length w = written_length w.words
 
-pub in_room_on : {l l' : List ℤ} {cs : List Condition} {p q : Progress} → InRoom l p → Listed l p cs q l' → InRoom l' q
+pub in_room_on : {ls ls' : Lines} {cs : List Condition} → InRoom ls → Listed ls cs ls' → InRoom ls'
 in_room_on {cs = cs} g w =
     let a = listed_length w in
     let b = g.short in
     record {
       short = omega linear;
       few = λ h.
-          let x = went w.words (omega linear) in
+          let x = went w.words.wrote (omega linear) in
           let y = w.count (omega linear) in
           let z = lines_long with_depth cs in
           let u = g.few (omega linear) in

@@ -11,41 +11,41 @@ use Rattle.wp_writer.specs.Loops.{Loop, body_row, invariant_at, variant_at, body
 use Rattle.wp_writer.specs.Ends.{end_formula, end_decreased}
 use Rattle.wp_writer.specs.Same.{Same, same_trans}
 use Rattle.wp_writer.specs.Walked.{Before, own_run}
-use Rattle.line_writer.specs.declared.Progress.{Progress}
+use Rattle.line_writer.specs.declared.Lines.{Lines}
 use Rattle.line_writer.specs.Listed.{Listed, InRoom, listed_then, listed_as, in_room_on}
 use Rattle.line_writer.specs.Guards.{GuardReady, guard_lines}
 use Rattle.line_writer.specs.Loops.{Lined, StepReady, exit_line, floor_line, step_line, step_before}
 use Rattle.list_writer.specs.Walks.{Walking, Turned, walk_at, rest_of, listed}
 
-module _ (t follow : List ℤ) (end depth : ℕ) {s₀ : ℕ} {p₀ : Progress} {path₀ l₀ : List ℤ} {s : ℕ} {p : Progress} {path l : List ℤ}
-    (g : Turned t follow end depth s₀ p₀ path₀ l₀ s p path l) {n : ℕ} (read : n ≡ field_number (word t s 0)) (kind : n ≡ 36) where
+module _ (t follow : List ℤ) (end depth : ℕ) {s₀ : ℕ} {path₀ : List ℤ} {ls₀ : Lines} {s : ℕ} {path : List ℤ} {ls : Lines}
+    (g : Turned t follow end depth s₀ path₀ ls₀ s path ls) {n : ℕ} (read : n ≡ field_number (word t s 0)) (kind : n ≡ 36) where
   pub loop_here : Loop t s
   loop_here = record { table = g.walking.before.course.table; inside = g.walking.here; while = sym read ∙ kind }
 
   not_deep : depth < 2048
   not_deep = let d = g.walking.shallow in omega linear
 
-  pub guard_ready : GuardReady t s (follow_in t path) × InRoom l p × (depth < 2048)
+  pub guard_ready : GuardReady t s (follow_in t path) × InRoom ls × (depth < 2048)
   guard_ready =
       let before = own_run g.walking.before in
       let e = before.course.followed.long in
       (record { loops = loop_here; divided = before.divided; long = omega linear }, g.walking.room, not_deep)
 
-  module _ {l₁ : List ℤ} {p₁ : Progress} (guarded : Listed l p (guard_lines t depth s) p₁ l₁) where
-    after_guard : InRoom l₁ p₁
+  module _ {ls₁ : Lines} (guarded : Listed ls (guard_lines t depth s) ls₁) where
+    after_guard : InRoom ls₁
     after_guard = in_room_on g.walking.room guarded
 
-    pub exit_ready : Loop t s × Before t (follow_in t path) path 0 end s × InRoom l₁ p₁ × (depth < 2048)
+    pub exit_ready : Loop t s × Before t (follow_in t path) path 0 end s × InRoom ls₁ × (depth < 2048)
     exit_ready = (loop_here, own_run g.walking.before, after_guard, not_deep)
 
-    module _ {path₂ l₂ : List ℤ} {p₂ : Progress} (exited : Lined t path (exit_line t (follow_in t path) end depth s ∷ []) l₁ p₁ p₂ l₂ path₂) where
-      after_exit : InRoom l₂ p₂
+    module _ {path₂ : List ℤ} {ls₂ : Lines} (exited : Lined t path (exit_line t (follow_in t path) end depth s ∷ []) ls₁ ls₂ path₂) where
+      after_exit : InRoom ls₂
       after_exit = in_room_on after_guard exited.lines
 
-      pub floor_ready : Loop t s × InRoom l₂ p₂ × (depth < 2048)
+      pub floor_ready : Loop t s × InRoom ls₂ × (depth < 2048)
       floor_ready = (loop_here, after_exit, not_deep)
 
-      module _ {l₃ : List ℤ} {p₃ : Progress} (floored : Listed l₂ p₂ (floor_line t depth s ∷ []) p₃ l₃) where
+      module _ {ls₃ : Lines} (floored : Listed ls₂ (floor_line t depth s ∷ []) ls₃) where
         -- the scratch is as long as before, and has the same run
         ready : {path' : List ℤ} → Same (rows t) 0 path path' → StepReady t s follow path'
         ready e = record {
@@ -56,11 +56,11 @@ module _ (t follow : List ℤ) (end depth : ℕ) {s₀ : ℕ} {p₀ : Progress} 
           noted = e.behind ∙ g.walking.before.noted;
         }
 
-        after_floor : InRoom l₃ p₃
+        after_floor : InRoom ls₃
         after_floor = in_room_on after_exit floored
 
         module _ {x : ℕ} (part : x ≡ body_row t s) where
-          pub body_walking : {k : ℕ} → s₀ ≡ k → (x < k) × Walking t (follow_in t path₂) path₂ s (depth + 1) x l₃ p₃
+          pub body_walking : {k : ℕ} → s₀ ≡ k → (x < k) × Walking t (follow_in t path₂) path₂ s (depth + 1) x ls₃
           body_walking e =
               let a = g.lower in
               let h = g.walking.here in
@@ -69,12 +69,12 @@ module _ (t follow : List ℤ) (end depth : ℕ) {s₀ : ℕ} {p₀ : Progress} 
               let before = own_run (step_before t s path₂ (ready exited.kept) part) in
               (omega linear, record { before = before; here = omega linear; shallow = omega linear; room = after_floor })
 
-          module _ {path₄ l₄ : List ℤ} {p₄ : Progress}
-              (walked : Lined t path₂ (walk_at t (follow_in t path₂) s (depth + 1) x) l₃ p₃ p₄ l₄ path₄) where
+          module _ {path₄ : List ℤ} {ls₄ : Lines}
+              (walked : Lined t path₂ (walk_at t (follow_in t path₂) s (depth + 1) x) ls₃ ls₄ path₄) where
             still : Same (rows t) 0 path path₄
             still = same_trans exited.kept walked.kept
 
-            pub step_ready : StepReady t s (follow_in t path₄) path₄ × InRoom l₄ p₄ × (depth < 2048)
+            pub step_ready : StepReady t s (follow_in t path₄) path₄ × InRoom ls₄ × (depth < 2048)
             step_ready = (rw (ready still).noted (ready still), in_room_on after_floor walked.lines, not_deep)
 
             body_walk : walk_at t follow s (depth + 1) x ≡ walk (suc depth) (body_at t s) (decreased s (invariant_at t s) (variant_at t s))
@@ -93,8 +93,8 @@ module _ (t follow : List ℤ) (end depth : ℕ) {s₀ : ℕ} {p₀ : Progress} 
             unfolding walk
             loop_walk = ap (λ (y : Stmt). walk depth y (rest_of t follow end s)) (loop_is t s loop_here)
 
-            pub loop_lined : {path₅ l₅ : List ℤ} {p₅ : Progress} → Lined t path₄ (step_line t depth s ∷ []) l₄ p₄ p₅ l₅ path₅
-                → Lined t path₀ (walk_at t follow end depth s₀) l₀ p₀ p₅ l₅ path₅
+            pub loop_lined : {path₅ : List ℤ} {ls₅ : Lines} → Lined t path₄ (step_line t depth s ∷ []) ls₄ ls₅ path₅
+                → Lined t path₀ (walk_at t follow end depth s₀) ls₀ ls₅ path₅
             loop_lined stepped = listed t follow end depth g (record {
               lines = listed_as loop_walk
                   (listed_then guarded

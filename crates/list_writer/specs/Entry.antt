@@ -16,9 +16,8 @@ use Rattle.following.specs.Kinds.{script_kind}
 use Rattle.wp_writer.specs.Loops.{Script, statement_row, script_is, statement_linked}
 use Rattle.wp_writer.specs.Ends.{end_formula, end_post}
 use Rattle.wp_writer.specs.Same.{Same, same_refl}
-use Rattle.line_writer.specs.declared.Progress.{Progress}
-use Rattle.line_writer.specs.Listed.{Listed, InRoom, listed_then, listed_as, in_room_on}
-use Rattle.line_writer.specs.Spelled.{front}
+use Rattle.line_writer.specs.declared.Lines.{Lines}
+use Rattle.line_writer.specs.Listed.{Listed, InRoom, size, listed_then, listed_as, in_room_on}
 use Rattle.line_writer.specs.Loops.{Lined, MainReady, main_line, main_before}
 use Rattle.list_writer.specs.Walks.{Walking, walk_at}
 
@@ -63,20 +62,20 @@ module _ (t : List ℤ) (ok : verdict t ≡ accepted) where
     ready : {path' : List ℤ} → Same (rows t) 0 path path' → MainReady t last (follow_in t path) path'
     ready e = record { scripts = script_here; followed = k; divided = d; long = e.long ∙ b; noted = e.behind }
 
-    module _ {s : ℕ} (part : s ≡ statement_row t last) {l : List ℤ} (h : length l ≤ 16384) where
-      pub first_walking : Walking t (follow_in t path) path last 0 s l front
+    module _ {s : ℕ} (part : s ≡ statement_row t last) {ls₀ : Lines} (h : size ls₀.out.now ≤ 16384) (none : ls₀.count ≤ ls₀.out.now.at) where
+      pub first_walking : Walking t (follow_in t path) path last 0 s ls₀
       first_walking = record {
         before = main_before t last (follow_in t path) path (ready (same_refl (rows t) 0 path)) part;
         here = rw part (statement_linked t last script_here).0;
         shallow = let h = (statement_linked t last script_here).0 in let m = (passed t ok).short in omega linear;
-        room = record { short = h; few = λ i. omega linear };
+        room = record { short = h; few = λ i. none };
       }
 
-      module _ {path₁ l₁ : List ℤ} {p₁ : Progress} (walked : Lined t path (walk_at t (follow_in t path) last 0 s) l front p₁ l₁ path₁) where
-        after_statement : InRoom l₁ p₁
+      module _ {path₁ : List ℤ} {ls₁ : Lines} (walked : Lined t path (walk_at t (follow_in t path) last 0 s) ls₀ ls₁ path₁) where
+        after_statement : InRoom ls₁
         after_statement = in_room_on first_walking.room walked.lines
 
-        pub main_ready : MainReady t last (follow_in t path₁) path₁ × InRoom l₁ p₁
+        pub main_ready : MainReady t last (follow_in t path₁) path₁ × InRoom ls₁
         main_ready = (rw (ready walked.kept).noted (ready walked.kept), after_statement)
 
         script_walk : walk_at t (follow_in t path) last 0 s ≡ walk 0 (stmt_at t (statement_row t last)) (end_formula t last)
@@ -86,11 +85,11 @@ module _ (t : List ℤ) (ok : verdict t ≡ accepted) where
             ∙ ap (walk 0 (stmt_at t (statement_row t last)))
             (after_end t (follow_in t path) (next t (follow_in t path) (statement_row t last)) (end_formula t last) end)
 
-        module _ {path₂ l₂ : List ℤ} {p₂ : Progress} (main : Lined t path₁ (main_line t last ∷ []) l₁ p₁ p₂ l₂ path₂) where
-          pub count_ready : InRoom l₂ p₂
+        module _ {path₂ : List ℤ} {ls₂ : Lines} (main : Lined t path₁ (main_line t last ∷ []) ls₁ ls₂ path₂) where
+          pub count_ready : InRoom ls₂
           count_ready = in_room_on after_statement main.lines
 
-          pub conditions_listed : Listed l front (conditions (tree t)) p₂ l₂
+          pub conditions_listed : Listed ls₀ (conditions (tree t)) ls₂
           unfolding conditions
           conditions_listed =
               let e = end_post t last script_here.script in

@@ -19,17 +19,17 @@ use Rattle.following.specs.Parts.{not_end, stmt_here, links_here, follows_here, 
 use Rattle.wp_writer.specs.Ends.{end_formula}
 use Rattle.wp_writer.specs.Same.{Same, same_refl, same_trans}
 use Rattle.wp_writer.specs.Walked.{Before, before_end, own_run}
-use Rattle.line_writer.specs.declared.Progress.{Progress}
-use Rattle.line_writer.specs.Listed.{Listed, InRoom, listed_then, listed_none, listed_full, listed_as, in_room_on}
+use Rattle.line_writer.specs.declared.Lines.{Lines}
+use Rattle.line_writer.specs.Listed.{Listed, InRoom, size, listed_then, listed_none, listed_full, listed_as, in_room_on}
 use Rattle.line_writer.specs.Loops.{Lined, nothing_passed}
 
 -- the statement at row s is at hand, in the bodies of so many loops, and the list was written up to p
-pub record Walking (t follow path : List ℤ) (end depth s : ℕ) (l : List ℤ) (p : Progress) : Type 0 where
+pub record Walking (t follow path : List ℤ) (end depth s : ℕ) (ls : Lines) : Type 0 where
   pub before : Before t follow path 0 end s
   pub here : s < rows t
   -- the body of a loop is in a lower row than the loop
   pub shallow : depth + s < 2048
-  pub room : InRoom l p
+  pub room : InRoom ls
 
 -- what is to hold after it
 abbrev pub rest_of : List ℤ → List ℤ → ℕ → ℕ → Formula
@@ -42,18 +42,18 @@ walk_at t follow end depth s = walk depth (stmt_at t s) (rest_of t follow end s)
 module _ (t follow : List ℤ) (end depth : ℕ) where
   -- ---- some turns
 
-  pub record Turned (s₀ : ℕ) (p₀ : Progress) (path₀ l₀ : List ℤ) (s : ℕ) (p : Progress) (path l : List ℤ) : Type 0 where
-    pub walking : Walking t follow path end depth s l p
+  pub record Turned (s₀ : ℕ) (path₀ : List ℤ) (ls₀ : Lines) (s : ℕ) (path : List ℤ) (ls : Lines) : Type 0 where
+    pub walking : Walking t follow path end depth s ls
     pub kept : Same (rows t) 0 path₀ path
     pub lower : s ≤ s₀
-    pub lines : (q : Progress) (l'' : List ℤ) → Listed l p (walk_at t follow end depth s) q l'' → Listed l₀ p₀ (walk_at t follow end depth s₀) q l''
+    pub lines : (ls'' : Lines) → Listed ls (walk_at t follow end depth s) ls'' → Listed ls₀ (walk_at t follow end depth s₀) ls''
 
-  pub begun : {s : ℕ} {p : Progress} {path l : List ℤ} → Walking t follow path end depth s l p → Turned s p path l s p path l
-  begun {path = path} g = record { walking = g; kept = same_refl (rows t) 0 path; lower = omega linear; lines = λ q l'' w. w }
+  pub begun : {s : ℕ} {path : List ℤ} {ls : Lines} → Walking t follow path end depth s ls → Turned s path ls s path ls
+  begun {path = path} g = record { walking = g; kept = same_refl (rows t) 0 path; lower = omega linear; lines = λ ls'' w. w }
 
-  module _ {s₀ : ℕ} {p₀ : Progress} {path₀ l₀ : List ℤ} {s : ℕ} {p : Progress} {path l : List ℤ} (g : Turned s₀ p₀ path₀ l₀ s p path l) where
-    abbrev Done : Progress → List ℤ → List ℤ → Type 0
-    Done q l' path' = Lined t path₀ (walk_at t follow end depth s₀) l₀ p₀ q l' path'
+  module _ {s₀ : ℕ} {path₀ : List ℤ} {ls₀ : Lines} {s : ℕ} {path : List ℤ} {ls : Lines} (g : Turned s₀ path₀ ls₀ s path ls) where
+    abbrev Done : Lines → List ℤ → Type 0
+    Done ls' path' = Lined t path₀ (walk_at t follow end depth s₀) ls₀ ls' path'
 
     abbrev course : Course t follow s 0
     course = g.walking.before.course
@@ -65,10 +65,10 @@ module _ (t follow : List ℤ) (end depth : ℕ) where
     in_table = let h = g.walking.here in let k = course.table.fours in omega linear
 
     -- the rest was listed
-    pub listed : {q : Progress} {l' path' : List ℤ} → Lined t path (walk_at t follow end depth s) l p q l' path' → Done q l' path'
-    listed {q} {l'} w = record { lines = g.lines q l' w.lines; kept = same_trans g.kept w.kept }
+    pub listed : {ls' : Lines} {path' : List ℤ} → Lined t path (walk_at t follow end depth s) ls ls' path' → Done ls' path'
+    listed {ls'} w = record { lines = g.lines ls' w.lines; kept = same_trans g.kept w.kept }
 
-    pub listed_at_full : length l < p.at → Done p l path
+    pub listed_at_full : size ls.out.now < ls.out.now.at → Done ls path
     listed_at_full h = listed (record { lines = listed_full h; kept = same_refl (rows t) 0 path })
 
     -- ---- skip, an assignment, an assertion: nothing is listed
@@ -76,13 +76,13 @@ module _ (t follow : List ℤ) (end depth : ℕ) where
     abbrev nothing : Row → Type 0
     nothing w = walk depth (stmt_node (expr_at t) (formula_at t) (stmt_at t) (row t) s w) (rest_of t follow end s) ≡ []
 
-    pub leaf_lined : {n : ℕ} → n ≡ field_number (word t s 0) → PastParts n → Done p l path
+    pub leaf_lined : {n : ℕ} → n ≡ field_number (word t s 0) → PastParts n → Done ls path
     unfolding walk
     leaf_lined read past =
         let none = leaf_row nothing refl (λ v e. refl) (λ f. refl) t s read (stands t follow more course).here.1 past in
         listed (record {
           lines = listed_as (ap (λ (x : Stmt). walk depth x (rest_of t follow end s)) (stmt_here t follow course more refl) ∙ none)
-              (listed_none l p);
+              (listed_none ls);
           kept = same_refl (rows t) 0 path;
         })
 
@@ -99,7 +99,7 @@ module _ (t follow : List ℤ) (end depth : ℕ) where
     }
 
     -- where it is listed by a call
-    call : {r k : ℕ} → Course t follow r 0 → r < s → s₀ ≡ k → (r < k) × Walking t (follow_in t path) path end depth r l p
+    call : {r k : ℕ} → Course t follow r 0 → r < s → s₀ ≡ k → (r < k) × Walking t (follow_in t path) path end depth r ls
     call c h e =
         let a = g.lower in
         let b = g.walking.here in
@@ -108,14 +108,14 @@ module _ (t follow : List ℤ) (end depth : ℕ) where
         (omega linear, record { before = before; here = omega linear; shallow = omega linear; room = g.walking.room })
 
     -- what it listed
-    called : (r : ℕ) {l₁ path₁ : List ℤ} {p₁ : Progress} → Lined t path (walk_at t (follow_in t path) end depth r) l p p₁ l₁ path₁
-        → Lined t path (walk_at t follow end depth r) l p p₁ l₁ path₁
+    called : (r : ℕ) {path₁ : List ℤ} {ls₁ : Lines} → Lined t path (walk_at t (follow_in t path) end depth r) ls ls₁ path₁
+        → Lined t path (walk_at t follow end depth r) ls ls₁ path₁
     called r w = rw g.walking.before.noted at w
 
     -- where it comes next, once cs were listed
-    module _ {r : ℕ} {cs : List Condition} {l₁ path₁ : List ℤ} {p₁ : Progress} (c : Course t follow r 0) (h : r < s)
-        (e : walk_at t follow end depth s ≡ cs ++ walk_at t follow end depth r) (w : Lined t path cs l p p₁ l₁ path₁) where
-      goes_on : Turned s₀ p₀ path₀ l₀ r p₁ path₁ l₁
+    module _ {r : ℕ} {cs : List Condition} {path₁ : List ℤ} {ls₁ : Lines} (c : Course t follow r 0) (h : r < s)
+        (e : walk_at t follow end depth s ≡ cs ++ walk_at t follow end depth r) (w : Lined t path cs ls ls₁ path₁) where
+      goes_on : Turned s₀ path₀ ls₀ r path₁ ls₁
       goes_on =
           let a = g.lower in
           let b = g.walking.here in
@@ -126,7 +126,7 @@ module _ (t follow : List ℤ) (end depth : ℕ) where
             walking = record { before = before; here = omega linear; shallow = omega linear; room = room };
             kept = same_trans g.kept w.kept;
             lower = omega linear;
-            lines = λ q l'' v. g.lines q l'' (listed_as e (listed_then w.lines v));
+            lines = λ ls'' v. g.lines ls'' (listed_as e (listed_then w.lines v));
           }
 
     -- ---- a sequence
@@ -135,7 +135,7 @@ module _ (t follow : List ℤ) (end depth : ℕ) where
       sequence_links : Links t s (parts (Row.Statement (Sequence a b)))
       sequence_links = links_here t follow course more e
 
-      pub second_walking : {k : ℕ} → s₀ ≡ k → (b.0 < k) × Walking t (follow_in t path) path end depth b.0 l p
+      pub second_walking : {k : ℕ} → s₀ ≡ k → (b.0 < k) × Walking t (follow_in t path) path end depth b.0 ls
       second_walking m = call (second_course t follow course more e) sequence_links.1.0.0 m
 
       sequence_walk : walk_at t follow end depth s ≡ walk_at t follow end depth b.0 ++ walk_at t follow end depth a.0
@@ -148,8 +148,8 @@ module _ (t follow : List ℤ) (end depth : ℕ) where
       pub first_lower : a.0 < s
       first_lower = sequence_links.0.0
 
-      pub first_turned : {l₁ path₁ : List ℤ} {p₁ : Progress} → Lined t path (walk_at t (follow_in t path) end depth b.0) l p p₁ l₁ path₁
-          → Turned s₀ p₀ path₀ l₀ a.0 p₁ path₁ l₁
+      pub first_turned : {path₁ : List ℤ} {ls₁ : Lines} → Lined t path (walk_at t (follow_in t path) end depth b.0) ls ls₁ path₁
+          → Turned s₀ path₀ ls₀ a.0 path₁ ls₁
       first_turned w = goes_on (first_course t follow course more e) first_lower sequence_walk (called b.0 w)
 
     -- ---- a branch
@@ -158,7 +158,7 @@ module _ (t follow : List ℤ) (end depth : ℕ) where
       branch_links : Links t s (parts (Row.Statement (If b x y)))
       branch_links = links_here t follow course more e
 
-      pub then_walking : {k : ℕ} → s₀ ≡ k → (x.0 < k) × Walking t (follow_in t path) path end depth x.0 l p
+      pub then_walking : {k : ℕ} → s₀ ≡ k → (x.0 < k) × Walking t (follow_in t path) path end depth x.0 ls
       then_walking m = call (then_course t follow course more e) branch_links.1.0.0 m
 
       branch_walk : walk_at t follow end depth s ≡ walk_at t follow end depth x.0 ++ walk_at t follow end depth y.0
@@ -171,6 +171,6 @@ module _ (t follow : List ℤ) (end depth : ℕ) where
       pub else_lower : y.0 < s
       else_lower = branch_links.1.1.0.0
 
-      pub else_turned : {l₁ path₁ : List ℤ} {p₁ : Progress} → Lined t path (walk_at t (follow_in t path) end depth x.0) l p p₁ l₁ path₁
-          → Turned s₀ p₀ path₀ l₀ y.0 p₁ path₁ l₁
+      pub else_turned : {path₁ : List ℤ} {ls₁ : Lines} → Lined t path (walk_at t (follow_in t path) end depth x.0) ls ls₁ path₁
+          → Turned s₀ path₀ ls₀ y.0 path₁ ls₁
       else_turned w = goes_on (else_course t follow course more e) else_lower branch_walk (called x.0 w)

@@ -15,7 +15,8 @@ ghost use Rattle.line_writer.specs.Spelled.{Whole};
 ghost use Rattle.line_writer.specs.Loops.{Lined};
 ghost use Rattle.list_writer.specs.Walks.{Walking, walk_at};
 
-use line_writer::Progress;
+use line_writer::{Lines, Progress};
+use output::Output;
 use script::{Kind, RowNumber, field};
 
 // Lists the conditions of the statement at row `first`, in the bodies of `depth` loops, met with what follows it and the formula
@@ -25,45 +26,40 @@ fn list_conditions(
     first: usize,
     depth: usize,
     scratch: &mut [i32],
-    list: &mut [i32],
     end: RowNumber,
-    at: Progress,
-) -> Progress
-    requires { Walking table.now (follow_in table.now scratch.old) scratch.old end.0 depth first list.old at }
+    lines: &mut Lines<'_, '_>,
+)
+    requires { Walking table.now (follow_in table.now scratch.old) scratch.old end.0 depth first lines.old }
     ensures { Lined table.now scratch.old
         (walk_at table.now (follow_in table.now scratch.old) end.0 depth first)
-        list.old at result list.new scratch.new }
+        lines.old lines.new scratch.new }
 {
     let mut s = first;
-    let mut p = at;
-    loop {
-        if list.len() < p.at {
-            return p;
-        }
+    while lines.out.fits() {
         match script::kind_at(table, s) {
             Kind::Sequence => {
                 let a = field(table, s, 1);
                 let b = field(table, s, 2);
-                p = list_conditions(table, b, depth, scratch, list, end, p);
+                list_conditions(table, b, depth, scratch, end, lines);
                 s = a;
             }
             Kind::If => {
                 let x = field(table, s, 2);
                 let y = field(table, s, 3);
-                p = list_conditions(table, x, depth, scratch, list, end, p);
+                list_conditions(table, x, depth, scratch, end, lines);
                 s = y;
             }
             Kind::While => {
                 let k = RowNumber(s);
                 let body = field(table, s, 3);
-                let p1 = line_writer::write_guard(table, k, depth, scratch, list, p);
-                let p2 = line_writer::write_exit(table, k, depth, scratch, list, end, p1);
-                let p3 = line_writer::write_floor(table, k, depth, scratch, list, p2);
-                let p4 = list_conditions(table, body, depth + 1, scratch, list, k, p3);
-                return line_writer::write_step(table, k, depth, scratch, list, p4);
+                line_writer::write_guard(table, k, depth, scratch, lines);
+                line_writer::write_exit(table, k, depth, scratch, end, lines);
+                line_writer::write_floor(table, k, depth, scratch, lines);
+                list_conditions(table, body, depth + 1, scratch, k, lines);
+                return line_writer::write_step(table, k, depth, scratch, lines);
             }
             // skip, an assignment, an assertion
-            _ => return p,
+            _ => return,
         }
     }
 }
@@ -87,8 +83,14 @@ pub fn write_list(table: &[i32], list: &mut [i32], scratch: &mut [i32]) -> Progr
     fill_run(table, &mut scratch[rows..]);
     let script = RowNumber(rows - 1);
     let statement = field(table, script.0, 2);
-    let start = Progress { at: 0, count: 0 };
-    let p = list_conditions(table, statement, 0, scratch, list, script, start);
-    let q = line_writer::write_main(table, script, scratch, list, p);
-    line_writer::write_count(list, q)
+    let mut out = Output { list, at: 0 };
+    let mut lines = Lines {
+        out: &mut out,
+        count: 0,
+    };
+    list_conditions(table, statement, 0, scratch, script, &mut lines);
+    line_writer::write_main(table, script, scratch, &mut lines);
+    line_writer::write_count(&mut lines);
+    let count = lines.count;
+    Progress { at: out.at, count }
 }

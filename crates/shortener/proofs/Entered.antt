@@ -12,6 +12,7 @@ use Rattle.shortener.specs.declared.plan.Entry.{Entry}
 use Rattle.shortener.specs.Codes.{changed_shape_code}
 use Rattle.shortener.specs.Entries.{entry, entry_at}
 use Rattle.shortener.specs.Planning.{BackTo, back_one}
+use Rattle.output.specs.declared.Output.{Output}
 use Rattle.shortener.specs.Turns.{Begins, Turn}
 use Rattle.shortener.specs.Runs.{shape_told, change_told, coded, ends, shapes, changes, blank}
 
@@ -56,10 +57,10 @@ module _ (es : List Entry) (n : ℕ) where
   pub ends_same : (d e : Entry) → e.end ≡ (get_or es n d).end → ends (set es n e) ≡ ends es
   ends_same d e q = map-set_same (λ (x : Entry). x.end) es n e d q
 
-  pub noted_turn : (e : Entry) {ws : List ℤ} {first end : ℕ} {fs ks₀ : List ℕ} {l₀ l : List ℤ} {p₀ p at m : ℕ} → n ≡ m → change_told e.change ≡ 7
-      → Turn ws first end fs ks₀ l₀ p₀ at (set (changes es) m 7) l p → Turn ws first end fs ks₀ l₀ p₀ at (changes (set es n e)) l p
-  noted_turn e {ws} {first} {end} {fs} {ks₀} {l₀} {l} {p₀} {p} {at} q r t =
-      subst (λ ks. Turn ws first end fs ks₀ l₀ p₀ at ks l p)
+  pub noted_turn : (e : Entry) {ws : List ℤ} {first end : ℕ} {fs ks₀ : List ℕ} {o₀ o : Output ℤ} {at m : ℕ} → n ≡ m → change_told e.change ≡ 7
+      → Turn ws first end fs ks₀ o₀ at (set (changes es) m 7) o → Turn ws first end fs ks₀ o₀ at (changes (set es n e)) o
+  noted_turn e {ws} {first} {end} {fs} {ks₀} {o₀} {o} {at} q r t =
+      subst (λ ks. Turn ws first end fs ks₀ o₀ at ks o)
       (sym (map-set (λ (x : Entry). change_told x.change) es n e ∙ (λ i. set (changes es) (q i) (r i)))) t
 
 -- the place of an end, and the ends, as they were

@@ -2,7 +2,8 @@
 -- is next. Assumes nothing.
 use Rattle.std.specs.Prelude.{ℕ, zero, suc, ◌+◌, ◌<◌, ◌≡◌, refl, List, [], ◌∷◌, ◌++◌, ℤ, pos, length, get_or, set}
 use Rattle.std.proofs.Common.{sym, ap, ◌∙◌, subst, append_assoc, arith as linear, length-append, get_or-set_same}
-use Rattle.theorems.specs.Writing.{Wrote, then, wrote_nothing, wrote_as}
+use Rattle.output.specs.declared.Output.{Output}
+use Rattle.output.specs.Written.{Written, then, nothing_written, written_as}
 use Rattle.theorems.specs.WordsAt.{Stands, stands_as, word, past, front, behind, Node, words_of, size, node_size}
 use Rattle.shortener.specs.Codes.{kept_code, numbered_code, passed_code}
 use Rattle.shortener.specs.Heads.{short_words, all_words, all_short, Keeps, Numbered, First, Second, Value, Head, head}
@@ -63,13 +64,13 @@ module _ (ws : List ℤ) (ks : List ℕ) (end at : ℕ) where
 
 -- ---- the way on
 
-module _ {ws : List ℤ} {end at : ℕ} {ks : List ℕ} {l₀ : List ℤ} {p₀ : ℕ} {whole l : List ℤ} {p : ℕ} where
+module _ {ws : List ℤ} {end at : ℕ} {ks : List ℕ} {o₀ o : Output ℤ} {whole : List ℤ} where
   -- the words vs were written, and the tasks ts are ahead now
-  onward : (g : Going ws end at ks l₀ p₀ whole l p) (vs : List ℤ) (ts : List Task) {at' q : ℕ} {ks' : List ℕ} {l' : List ℤ} → Wrote l p vs q l'
-      → vs ++ task_words ts ≡ task_words g.tasks → Ahead ws ks' end at' ts → Going ws end at' ks' l₀ p₀ whole l' q
-  onward g vs ts w e a = record { tasks = ts; ahead = a; left = λ r l'' v. g.left r l'' (wrote_as e (then w v)) }
+  onward : (g : Going ws end at ks o₀ whole o) (vs : List ℤ) (ts : List Task) {at' : ℕ} {ks' : List ℕ} {o' : Output ℤ} → Written o vs o'
+      → vs ++ task_words ts ≡ task_words g.tasks → Ahead ws ks' end at' ts → Going ws end at' ks' o₀ whole o'
+  onward g vs ts w e a = record { tasks = ts; ahead = a; left = λ o'' v. g.left o'' (written_as e (then w v)) }
 
-  module _ (g : Going ws end at ks l₀ p₀ whole l p) (more : at < end) where
+  module _ (g : Going ws end at ks o₀ whole o) (more : at < end) where
     pub next : (k : ℕ) → k < passed_code → get_or ks at 0 ≡ k → ToWrite ws ks end at g.tasks
     next k h e = to_write ws ks end at g.tasks g.ahead more (λ f. omega (linear, e, f))
 
@@ -77,8 +78,8 @@ module _ {ws : List ℤ} {end at : ℕ} {ks : List ℕ} {l₀ : List ℤ} {p₀ 
     words_are : (w : ToWrite ws ks end at g.tasks) {vs : List ℤ} → vs ≡ short_words w.node → vs ++ task_words w.rest ≡ task_words g.tasks
     words_are w e = ap (λ (v : List ℤ). v ++ task_words w.rest) e ∙ ap task_words (sym w.is)
 
-    pub kept_going : get_or ks at 0 ≡ kept_code → {q : ℕ} {l' : List ℤ} → Wrote l p (get_or ws at (pos 0) ∷ []) q l' → Going ws end (at + 1) ks l₀ p₀ whole l' q
-    kept_going e {q} {l'} w =
+    pub kept_going : get_or ks at 0 ≡ kept_code → {o' : Output ℤ} → Written o (get_or ws at (pos 0) ∷ []) o' → Going ws end (at + 1) ks o₀ whole o'
+    kept_going e {o'} w =
         let n = next kept_code (omega linear) e in
         let h : Keeps n.node = headed ws ks end at n kept_code e in
         let s = stands_as h.words n.stands in
@@ -94,9 +95,9 @@ module _ {ws : List ℤ} {end at : ℕ} {ks : List ℕ} {l₀ : List ℤ} {p₀ 
         sum : (a : ℕ) {b c : ℕ} → b ≡ suc c → a + b ≡ a + 1 + c
         sum a i = omega linear
 
-    pub numbered_going : get_or ks at 0 ≡ numbered_code → {q : ℕ} {l' : List ℤ} → Wrote l p (get_or ws at (pos 0) ∷ get_or ws (at + 1) (pos 0) ∷ []) q l'
-        → Going ws end (at + 2) ks l₀ p₀ whole l' q
-    numbered_going e {q} {l'} w =
+    pub numbered_going : get_or ks at 0 ≡ numbered_code → {o' : Output ℤ} → Written o (get_or ws at (pos 0) ∷ get_or ws (at + 1) (pos 0) ∷ []) o'
+        → Going ws end (at + 2) ks o₀ whole o'
+    numbered_going e {o'} w =
         let n = next numbered_code (omega linear) e in
         let h : Numbered n.node = headed ws ks end at n numbered_code e in
         let s = stands_as h.words n.stands in
@@ -127,8 +128,8 @@ module _ {ws : List ℤ} {end at : ℕ} {ks : List ℕ} {l₀ : List ℤ} {p₀ 
             let m = length-append (words_of a) (words_of b) in
             omega (linear, n, m, middle)
 
-      pub second_going : {before : List ℤ} (w : ToWrite ws ks end at g.tasks) → Second before w.node → {q : ℕ} {l' : List ℤ} → Wrote l p before q l'
-          → Going ws end (get_or es (at + 1) 0) ks l₀ p₀ whole l' q
+      pub second_going : {before : List ℤ} (w : ToWrite ws ks end at g.tasks) → Second before w.node → {o' : Output ℤ} → Written o before o'
+          → Going ws end (get_or es (at + 1) 0) ks o₀ whole o'
       second_going {before} n h w =
           let b = h.second in
           let e = both n h.first b h.words in
@@ -143,14 +144,14 @@ module _ {ws : List ℤ} {end at : ℕ} {ks : List ℕ} {l₀ : List ℤ} {p₀ 
           )
 
       pub first_going : (w : ToWrite ws ks end at g.tasks) → First w.node → get_or es (at + 1) 0 < length ks
-          → Going ws end (at + 1) (set ks (get_or es (at + 1) 0) passed_code) l₀ p₀ whole l p
+          → Going ws end (at + 1) (set ks (get_or es (at + 1) 0) passed_code) o₀ whole o
       first_going n h room =
           let a = h.first in
           let b = h.second in
           let e = both n a b h.words in
           let m = middle n a b h.words in
           let k = get_or es (at + 1) 0 in
-          onward g [] (write a ∷ pass b ∷ n.rest) (wrote_nothing l p) (words_are n (sym h.short)) (
+          onward g [] (write a ∷ pass b ∷ n.rest) (nothing_written o) (words_are n (sym h.short)) (
             first_part n a b h.words,
             (
               told_set ws {ks = ks} k passed_code (λ r i j f. omega (linear, m, f)) (record { told = λ r y i j. n.told.told r y (omega linear) (omega (linear, m, e)) }),
@@ -165,14 +166,14 @@ module _ {ws : List ℤ} {end at : ℕ} {ks : List ℕ} {l₀ : List ℤ} {p₀ 
             ),
           )
 
-      pub value_going : {word : ℤ} (w : ToWrite ws ks end at g.tasks) → Value word w.node → {q : ℕ} {l' : List ℤ} → Wrote l p (word ∷ []) q l'
-          → Going ws end (get_or es at 0) ks l₀ p₀ whole l' q
+      pub value_going : {word : ℤ} (w : ToWrite ws ks end at g.tasks) → Value word w.node → {o' : Output ℤ} → Written o (word ∷ []) o'
+          → Going ws end (get_or es at 0) ks o₀ whole o'
       value_going {word} n h w =
           onward g (word ∷ []) n.rest w (words_are n (sym h.short))
           (subst (λ r. Ahead ws ks end r n.rest) (sym (ended.end at n.node n.stands)) n.ahead)
 
-      pub passed_going : PastChanges (get_or ks at 0) → Going ws end (get_or es at 0) ks l₀ p₀ whole l p
+      pub passed_going : PastChanges (get_or ks at 0) → Going ws end (get_or es at 0) ks o₀ whole o
       passed_going h =
           let n = to_pass ws ks end at g.tasks g.ahead more h in
-          onward g [] n.rest (wrote_nothing l p) (ap task_words (sym n.is))
+          onward g [] n.rest (nothing_written o) (ap task_words (sym n.is))
           (subst (λ r. Ahead ws ks end r n.rest) (sym (ended.end at n.node n.stands)) n.ahead)

@@ -10,7 +10,9 @@ use Rattle.script.specs.Syntax.{Formula}
 use Rattle.script.specs.Conditions.{Condition}
 use Rattle.script.specs.Words.{Form, without_depth, with_depth, formula_words, depth_words, trailer, line_words, all_lines, count_word}
 use Rattle.script.specs.Listing.{trailer_length, form_of}
-use Rattle.theorems.specs.Writing.{Wrote, fitted, stopped, then, wrote_as, wrote_length}
+use Rattle.theorems.specs.Writing.{Wrote, fitted, stopped}
+use Rattle.output.specs.declared.Output.{Output}
+use Rattle.output.specs.Written.{Written, then, written_as, written_length}
 use Rattle.theorems.specs.Line.{trailer_size}
 use Rattle.theorems.specs.WordsAt.{Stands, stands_as, inside, word, past, front, behind, formula, node_inside}
 use Rattle.shortening.specs.Simplify.{order, shortenᶠ, shorten_condition, shorten_all}
@@ -64,8 +66,8 @@ module _ (ws : List ℤ) (count at left : ℕ) where
         trailer_at = behind (formula_words c.claim) whole;
       }
 
-module _ {ws : List ℤ} {count : ℕ} {es ks₀ : List ℕ} {l₀ : List ℤ} {at left : ℕ} {ks : List ℕ} {l : List ℤ} {p : ℕ}
-    (t : Lining ws count es ks₀ l₀ at left ks l p) (more : 0 < left) where
+module _ {ws : List ℤ} {count : ℕ} {es ks₀ : List ℕ} {o₀ : Output ℤ} {at left : ℕ} {ks : List ℕ} {o : Output ℤ}
+    (t : Lining ws count es ks₀ o₀ at left ks o) (more : 0 < left) where
   next_of : (cs : List Condition) (h : Listed ws count cs) → LineNext ws count at left (t.lines cs h).rest
   next_of cs h = let g = t.lines cs h in line_next ws count at left g.rest more g.many g.stands
 
@@ -96,19 +98,22 @@ module _ {ws : List ℤ} {count : ℕ} {es ks₀ : List ℕ} {l₀ : List ℤ} {
     room = let r = t.ready.room in let s = t.changes in omega linear;
   }
 
-  module _ {ks' : List ℕ} {l' : List ℤ} {q : ℕ} (w : WroteShort ws at (get_or es at 0) ks l p q ks' l') where
+  module _ {ks' : List ℕ} {o' : Output ℤ} (w : WroteShort ws at (get_or es at 0) ks o ks' o') where
     -- the formula of a line
-    wrote_claim : (f : Formula) → Stands ws at (formula_words f) → Wrote l p (formula_words (shortenᶠ order f)) q l'
+    wrote_claim : (f : Formula) → Stands ws at (formula_words f) → Written o (formula_words (shortenᶠ order f)) o'
     wrote_claim f s = w.wrote f s (sym (end_is f s))
 
-    placed : {vs : List ℤ} → Wrote l p vs q l' → q ≤ length l' → q ≡ p + length vs
-    placed (fitted h n s) i = n
-    placed (stopped h n s) i = absurd (omega linear)
+    placed : {vs : List ℤ} → Written o vs o' → o'.at ≤ length o'.list.now → o'.at ≡ o.at + length vs
+    placed v = by v.wrote
+      where
+        by : {vs : List ℤ} → Wrote o.list.now o.at vs o'.at o'.list.now → o'.at ≤ length o'.list.now → o'.at ≡ o.at + length vs
+        by (fitted h n s) i = n
+        by (stopped h n s) i = absurd (omega linear)
 
-    spanned : {vs : List ℤ} → length vs ≤ 16384 → Wrote l p vs q l' → q ≤ length l' → (p ≤ q) × (q - p ≤ 16384)
+    spanned : {vs : List ℤ} → length vs ≤ 16384 → Written o vs o' → o'.at ≤ length o'.list.now → (o.at ≤ o'.at) × (o'.at - o.at ≤ 16384)
     spanned m w i = let e = placed w i in (omega (linear, e), omega (linear, e))
 
-    pub trailing : {tail : ℕ} → Tail ws tail → Trailing ws tail (get_or es at 0) l' p q
+    pub trailing : {tail : ℕ} → Tail ws tail → Trailing ws tail (get_or es at 0) o.at o'
     trailing words =
         let f = next.line.claim in
         let e = end_is f next.claim in
@@ -117,10 +122,10 @@ module _ {ws : List ℤ} {count : ℕ} {es ks₀ : List ℕ} {l₀ : List ℤ} {
         let z = t.ready.short in
         record { words = words; inside = rw words.is j; spans = spanned (omega linear) (wrote_claim f next.claim) }
 
-    module _ {l'' : List ℤ} {r tail : ℕ} (words : Tail ws tail) (v : Trailed ws (get_or es at 0) l' p q r l'') where
+    module _ {o'' : Output ℤ} {tail : ℕ} (words : Tail ws tail) (v : Trailed ws (get_or es at 0) o.at o' o'') where
       -- the whole line
       wrote_line : {cs : List Condition} (n : LineNext ws count at left cs)
-          → Wrote l p (line_words (form_of ws) (shorten_condition order n.line)) r l''
+          → Written o (line_words (form_of ws) (shorten_condition order n.line)) o''
       unfolding line_words
       wrote_line n =
           let f = shortenᶠ order n.line.claim in
@@ -129,9 +134,9 @@ module _ {ws : List ℤ} {count : ℕ} {es ks₀ : List ℕ} {l₀ : List ℤ} {
           let k = word s in
           let m = word (past s) in
           let d = fourth_is ws (get_or es at 0) (form_of ws) n.line.depth _ (behind (_ ∷ _ ∷ _ ∷ []) s) in
-          then first (wrote_as (λ i. k i ∷ m i ∷ pos (length (formula_words f)) ∷ d i) (v (length (formula_words f)) (placed first)))
+          then first (written_as (λ i. k i ∷ m i ∷ pos (length (formula_words f)) ∷ d i) (v (length (formula_words f)) (placed first)))
 
-      lines_on : (cs : List Condition) (h : Listed ws count cs) → LinesLeft ws count (get_or es at 0 + tail) (left - 1) l₀ cs l'' r
+      lines_on : (cs : List Condition) (h : Listed ws count cs) → LinesLeft ws count (get_or es at 0 + tail) (left - 1) o₀ cs o''
       unfolding all_lines
       lines_on cs h =
           let g = t.lines cs h in
@@ -143,15 +148,15 @@ module _ {ws : List ℤ} {count : ℕ} {es ks₀ : List ℕ} {l₀ : List ℤ} {
             rest = n.others;
             many = n.many;
             stands = rw (words.is, ← trailer_size form n.line) (behind (trailer form n.line) (trailer_stands n));
-            writes = λ q' k u.
-                g.writes q' k
-                (wrote_as
+            writes = λ k u.
+                g.writes k
+                (written_as
                 (sym (append_assoc (line_words form c) (all_lines form ds) (count_word form count ∷ []))
                 ∙ ap (λ (x : List Condition). rest_words form count (shorten_all order x)) (sym n.is))
                 (then (wrote_line n) u));
           }
 
-      pub lined : Lining ws count es ks₀ l₀ (get_or es at 0 + tail) (left - 1) ks' l'' r
+      pub lined : Lining ws count es ks₀ o₀ (get_or es at 0 + tail) (left - 1) ks' o''
       lined = record {
         ready = t.ready;
         told = record {
@@ -160,14 +165,14 @@ module _ {ws : List ℤ} {count : ℕ} {es ks₀ : List ℕ} {l₀ : List ℤ} {
               w.same.same k (omega linear) ∙ t.told.told k x (omega linear) i s;
         };
         changes = w.same.length ∙ t.changes;
-        list = wrote_length (wrote_line next) ∙ t.list;
+        list = written_length (wrote_line next) ∙ t.list;
         lines = lines_on;
       }
 
 -- ---- the count
 
-module _ {ws : List ℤ} {count : ℕ} {es ks₀ : List ℕ} {l₀ : List ℤ} {at left : ℕ} {ks : List ℕ} {l : List ℤ} {p : ℕ}
-    (t : Lining ws count es ks₀ l₀ at left ks l p) (none : left ≤ 0) where
+module _ {ws : List ℤ} {count : ℕ} {es ks₀ : List ℕ} {o₀ : Output ℤ} {at left : ℕ} {ks : List ℕ} {o : Output ℤ}
+    (t : Lining ws count es ks₀ o₀ at left ks o) (none : left ≤ 0) where
   count_stands : (cs : List Condition) (h : Listed ws count cs) → Stands ws at (count_word (form_of ws) count ∷ [])
   unfolding all_lines
   count_stands cs h = of_rest (t.lines cs h).rest (t.lines cs h).many (t.lines cs h).stands
@@ -180,11 +185,11 @@ module _ {ws : List ℤ} {count : ℕ} {es ks₀ : List ℕ} {l₀ : List ℤ} {
   pub count_inside : at < length ws
   count_inside = inside (count_stands t.ready.conditions t.ready.listed)
 
-  pub all_lined : {q : ℕ} {l' : List ℤ} → Wrote l p (get_or ws at (pos 0) ∷ []) q l' → AllWritten ws count l₀ q l'
+  pub all_lined : {o' : Output ℤ} → Written o (get_or ws at (pos 0) ∷ []) o' → AllWritten ws count o₀ o'
   unfolding all_lines
-  all_lined {q} {l'} w cs h =
+  all_lined {o'} w cs h =
       let g = t.lines cs h in
-      g.writes q l' (wrote_as (ap (λ z. z ∷ []) (word (count_stands cs h)) ∙ of_rest g.rest g.many) w)
+      g.writes o' (written_as (ap (λ z. z ∷ []) (word (count_stands cs h)) ∙ of_rest g.rest g.many) w)
     where
       of_rest : (rest : List Condition) → length rest ≡ left
           → (count_word (form_of ws) count ∷ []) ≡ rest_words (form_of ws) count (shorten_all order rest)

@@ -6,8 +6,9 @@ use Rattle.std.proofs.Common.{sym, ap, ◌∙◌, arith as linear}
 use Rattle.script.specs.Conditions.{Condition}
 use Rattle.script.specs.Words.{Form, without_depth, with_depth, all_lines, count_word, list_words}
 use Rattle.script.specs.Listing.{trailer_length, form_of}
-use Rattle.theorems.specs.Writing.{Wrote, Left, wrote_as}
-use Rattle.theorems.specs.WordsAt.{Stands, stands_as, whole_words, past}
+use Rattle.output.specs.declared.Output.{Output}
+use Rattle.output.specs.Written.{Written, Left, written_as}
+use Rattle.theorems.specs.WordsAt.{Stands, stands_as, whole_words}
 use Rattle.shortening.specs.Simplify.{order, shorten_all}
 use Rattle.shortening.specs.Lists.{count_same}
 use Rattle.list_reader.specs.Lines.{Tail}
@@ -16,11 +17,11 @@ use Rattle.shortener.specs.Turns.{Ended}
 
 -- ---- a trailer
 
--- a formula was written from start to past, if there was room, and a trailer of so many words stands in the list at a place
-pub record Trailing (ws : List ℤ) (tail at : ℕ) (l : List ℤ) (start past : ℕ) : Type 0 where
+-- a formula was written from start on, if there was room, and a trailer of so many words stands in the list at a place
+pub record Trailing (ws : List ℤ) (tail at start : ℕ) (o : Output ℤ) : Type 0 where
   pub words : Tail ws tail
   pub inside : at + tail ≤ length ws
-  pub spans : past ≤ length l → (start ≤ past) × (past - start ≤ 16384)
+  pub spans : o.at ≤ length o.list.now → (start ≤ o.at) × (o.at - start ≤ 16384)
 
 -- the fourth word of the trailer there, in the form that has one
 abbrev pub fourth : Form → List ℤ → ℕ → List ℤ
@@ -44,10 +45,10 @@ module _ {ws : List ℤ} {tail : ℕ} (words : Tail ws tail) (at : ℕ) where
       of_form with_depth k = refl
 
 -- kind, row and fourth word as they stand there, and how many words n the formula has now
-abbrev pub Trailed : List ℤ → ℕ → List ℤ → ℕ → ℕ → ℕ → List ℤ → Type 0
-Trailed ws at l start past p l' =
-    (n : ℕ) → (past ≤ length l → past ≡ start + n)
-    → Wrote l past (get_or ws at (pos 0) ∷ get_or ws (at + 1) (pos 0) ∷ pos n ∷ fourth (form_of ws) ws at) p l'
+abbrev pub Trailed : List ℤ → ℕ → ℕ → Output ℤ → Output ℤ → Type 0
+Trailed ws at start o o' =
+    (n : ℕ) → (o.at ≤ length o.list.now → o.at ≡ start + n)
+    → Written o (get_or ws at (pos 0) ∷ get_or ws (at + 1) (pos 0) ∷ pos n ∷ fourth (form_of ws) ws at) o'
 
 -- ---- all lines
 
@@ -66,9 +67,9 @@ pub record Ready (ws : List ℤ) (count : ℕ) (es ks : List ℕ) : Type 0 where
   pub room : length ws ≤ length ks
 
 -- whatever conditions are listed, their list was written in its form, shortened
-abbrev pub AllWritten : List ℤ → ℕ → List ℤ → ℕ → List ℤ → Type 0
-AllWritten ws count l p l' =
-    (cs : List Condition) → Listed ws count cs → Wrote l 0 (list_words (form_of ws) (shorten_all order cs)) p l'
+abbrev pub AllWritten : List ℤ → ℕ → Output ℤ → Output ℤ → Type 0
+AllWritten ws count o o' =
+    (cs : List Condition) → Listed ws count cs → Written o (list_words (form_of ws) (shorten_all order cs)) o'
 
 -- ---- a turn
 
@@ -76,20 +77,20 @@ AllWritten ws count l p l' =
 abbrev pub rest_words : Form → ℕ → List Condition → List ℤ
 rest_words form count rest = all_lines form rest ++ (count_word form count ∷ [])
 
-pub record LinesLeft (ws : List ℤ) (count at left : ℕ) (l₀ : List ℤ) (cs : List Condition) (l : List ℤ) (p : ℕ) : Type 0 where
+pub record LinesLeft (ws : List ℤ) (count at left : ℕ) (o₀ : Output ℤ) (cs : List Condition) (o : Output ℤ) : Type 0 where
   pub rest : List Condition
   pub many : length rest ≡ left
   pub stands : Stands ws at (rest_words (form_of ws) count rest)
-  pub writes : Left l₀ 0 (list_words (form_of ws) (shorten_all order cs)) l p (rest_words (form_of ws) count (shorten_all order rest))
+  pub writes : Left o₀ (list_words (form_of ws) (shorten_all order cs)) o (rest_words (form_of ws) count (shorten_all order rest))
 
-pub record Lining (ws : List ℤ) (count : ℕ) (es ks₀ : List ℕ) (l₀ : List ℤ) (at left : ℕ) (ks : List ℕ) (l : List ℤ) (p : ℕ) : Type 0 where
+pub record Lining (ws : List ℤ) (count : ℕ) (es ks₀ : List ℕ) (o₀ : Output ℤ) (at left : ℕ) (ks : List ℕ) (o : Output ℤ) : Type 0 where
   pub ready : Ready ws count es ks₀
   pub told : Noted ws ks at (length ws)
   pub changes : length ks ≡ length ks₀
-  pub list : length l ≡ length l₀
-  pub lines : (cs : List Condition) → Listed ws count cs → LinesLeft ws count at left l₀ cs l p
+  pub list : length o.list.now ≡ length o₀.list.now
+  pub lines : (cs : List Condition) → Listed ws count cs → LinesLeft ws count at left o₀ cs o
 
-pub lining : {ws : List ℤ} {count : ℕ} {es ks : List ℕ} {l : List ℤ} → Ready ws count es ks → Lining ws count es ks l 0 count ks l 0
+pub lining : {ws : List ℤ} {count : ℕ} {es ks : List ℕ} {o : Output ℤ} → Ready ws count es ks → Lining ws count es ks o 0 count ks o
 unfolding list_words
 lining {ws} {count} r = record {
   ready = r;
@@ -100,8 +101,8 @@ lining {ws} {count} r = record {
     rest = cs;
     many = h.counted;
     stands = stands_as (sym h.spells ∙ ap (λ n. rest_words (form_of ws) n cs) h.counted) (whole_words ws);
-    writes = λ q l' w.
+    writes = λ o' w.
         let same = sym h.counted ∙ sym (count_same order cs) in
-        wrote_as (ap (λ n. rest_words (form_of ws) n (shorten_all order cs)) same) w;
+        written_as (ap (λ n. rest_words (form_of ws) n (shorten_all order cs)) same) w;
   };
 }

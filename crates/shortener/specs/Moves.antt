@@ -4,7 +4,8 @@ use Rattle.std.specs.Prelude.{ℕ, ◌+◌, ◌<◌, ◌≡◌, List, [], ◌∷
 use Rattle.std.proofs.Common.{◌∙◌, arith as linear, length-set, get_or-set_other}
 use Rattle.script.specs.Words.{formula_words}
 use Rattle.script.specs.Syntax.{Formula}
-use Rattle.theorems.specs.Writing.{Wrote, wrote_length, wrote_nothing}
+use Rattle.output.specs.declared.Output.{Output}
+use Rattle.output.specs.Written.{Written, written_length, nothing_written}
 use Rattle.theorems.specs.WordsAt.{stands_as, inside, past, Node, words_of, size, node_size, node_inside}
 use Rattle.shortening.specs.Simplify.{order, shortenᶠ}
 use Rattle.shortener.specs.Codes.{kept_code, numbered_code, first_code, passed_code}
@@ -20,13 +21,13 @@ pub record Parts (ws : List ℤ) (es : List ℕ) (end at : ℕ) : Type 0 where
   pub second : get_or es (at + 1) 0 < length ws
   pub before_end : get_or es (at + 1) 0 < end
 
-module _ {ws : List ℤ} {first end : ℕ} {es ks₀ : List ℕ} {l₀ : List ℤ} {p₀ at : ℕ} {ks : List ℕ} {l : List ℤ} {p : ℕ}
-    (t : Turn ws first end es ks₀ l₀ p₀ at ks l p) (more : at < end) where
+module _ {ws : List ℤ} {first end : ℕ} {es ks₀ : List ℕ} {o₀ : Output ℤ} {at : ℕ} {ks : List ℕ} {o : Output ℤ}
+    (t : Turn ws first end es ks₀ o₀ at ks o) (more : at < end) where
   ended : Ended ws es
   ended = t.begun.ended
 
   -- of the formula that stands there
-  going : Going ws end at ks l₀ p₀ (formula_words (shortenᶠ order t.begun.claim)) l p
+  going : Going ws end at ks o₀ (formula_words (shortenᶠ order t.begun.claim)) o
   going = t.going t.begun.claim t.begun.stands t.begun.ends
 
   pub here : at < length ws
@@ -45,13 +46,13 @@ module _ {ws : List ℤ} {first end : ℕ} {es ks₀ : List ℕ} {l₀ : List �
 
   -- ---- the words written, the rest as before
 
-  after : {at' q : ℕ} {l' : List ℤ} {vs : List ℤ} → Wrote l p vs q l'
-      → ((f : Formula) → Going ws end at ks l₀ p₀ (formula_words (shortenᶠ order f)) l p
-      → Going ws end at' ks l₀ p₀ (formula_words (shortenᶠ order f)) l' q)
-      → Turn ws first end es ks₀ l₀ p₀ at' ks l' q
-  after w g = record { begun = t.begun; same = t.same; list = wrote_length w ∙ t.list; going = λ f s e. g f (t.going f s e) }
+  after : {at' : ℕ} {o' : Output ℤ} {vs : List ℤ} → Written o vs o'
+      → ((f : Formula) → Going ws end at ks o₀ (formula_words (shortenᶠ order f)) o
+      → Going ws end at' ks o₀ (formula_words (shortenᶠ order f)) o')
+      → Turn ws first end es ks₀ o₀ at' ks o'
+  after w g = record { begun = t.begun; same = t.same; list = written_length w ∙ t.list; going = λ f s e. g f (t.going f s e) }
 
-  pub kept_turn : get_or ks at 0 ≡ kept_code → {q : ℕ} {l' : List ℤ} → Wrote l p (get_or ws at (pos 0) ∷ []) q l' → Turn ws first end es ks₀ l₀ p₀ (at + 1) ks l' q
+  pub kept_turn : get_or ks at 0 ≡ kept_code → {o' : Output ℤ} → Written o (get_or ws at (pos 0) ∷ []) o' → Turn ws first end es ks₀ o₀ (at + 1) ks o'
   kept_turn e w = after w (λ f g. kept_going g more e w)
 
   -- ---- a number
@@ -62,8 +63,8 @@ module _ {ws : List ℤ} {first end : ℕ} {es ks₀ : List ℕ} {l₀ : List �
       let h : Numbered n.node = headed ws ks end at n numbered_code e in
       inside (past (stands_as h.words n.stands))
 
-  pub numbered_turn : get_or ks at 0 ≡ numbered_code → {q : ℕ} {l' : List ℤ} → Wrote l p (get_or ws at (pos 0) ∷ get_or ws (at + 1) (pos 0) ∷ []) q l'
-      → Turn ws first end es ks₀ l₀ p₀ (at + 2) ks l' q
+  pub numbered_turn : get_or ks at 0 ≡ numbered_code → {o' : Output ℤ} → Written o (get_or ws at (pos 0) ∷ get_or ws (at + 1) (pos 0) ∷ []) o'
+      → Turn ws first end es ks₀ o₀ (at + 2) ks o'
   numbered_turn e w = after w (λ f g. numbered_going g more e w)
 
   -- ---- two parts
@@ -87,7 +88,7 @@ module _ {ws : List ℤ} {first end : ℕ} {es ks₀ : List ℕ} {l₀ : List �
       let h : First n.node = headed ws ks end at n first_code e in
       parts_of n h.first h.second h.words
 
-  pub first_turn : get_or ks at 0 ≡ first_code → Turn ws first end es ks₀ l₀ p₀ (at + 1) (set ks (get_or es (at + 1) 0) passed_code) l p
+  pub first_turn : get_or ks at 0 ≡ first_code → Turn ws first end es ks₀ o₀ (at + 1) (set ks (get_or es (at + 1) 0) passed_code) o
   first_turn e =
       let k = get_or es (at + 1) 0 in
       let ps = first_parts e in
@@ -112,7 +113,7 @@ module _ {ws : List ℤ} {first end : ℕ} {es ks₀ : List ℕ} {l₀ : List �
       parts_of n h.first h.second h.words
 
   pub second_turn : (before : List ℤ) (k : ℕ) → k < passed_code → ((x : Node) → Head k x → Second before x) → get_or ks at 0 ≡ k
-      → {q : ℕ} {l' : List ℤ} → Wrote l p before q l' → Turn ws first end es ks₀ l₀ p₀ (get_or es (at + 1) 0) ks l' q
+      → {o' : Output ℤ} → Written o before o' → Turn ws first end es ks₀ o₀ (get_or es (at + 1) 0) ks o'
   second_turn before k i h e w =
       after w (λ f g. let n = next g more k i e in second_going g more ended n (h n.node (headed ws ks end at n k e)) w)
 
@@ -126,7 +127,7 @@ module _ {ws : List ℤ} {first end : ℕ} {es ks₀ : List ℕ} {l₀ : List �
       omega (linear, m, s)
 
   pub value_turn : (v : ℤ) (k : ℕ) → k < passed_code → ((x : Node) → Head k x → Value v x) → get_or ks at 0 ≡ k
-      → {q : ℕ} {l' : List ℤ} → Wrote l p (v ∷ []) q l' → Turn ws first end es ks₀ l₀ p₀ (get_or es at 0) ks l' q
+      → {o' : Output ℤ} → Written o (v ∷ []) o' → Turn ws first end es ks₀ o₀ (get_or es at 0) ks o'
   value_turn v k i h e w =
       after w (λ f g. let n = next g more k i e in value_going g more ended n (h n.node (headed ws ks end at n k e)) w)
 
@@ -139,5 +140,5 @@ module _ {ws : List ℤ} {first end : ℕ} {es ks₀ : List ℕ} {l₀ : List �
       let s = node_size n.node in
       omega (linear, m, s)
 
-  pub passed_turn : PastChanges (get_or ks at 0) → Turn ws first end es ks₀ l₀ p₀ (get_or es at 0) ks l p
-  passed_turn h = after (wrote_nothing l p) (λ f g. passed_going g more ended h)
+  pub passed_turn : PastChanges (get_or ks at 0) → Turn ws first end es ks₀ o₀ (get_or es at 0) ks o
+  passed_turn h = after (nothing_written o) (λ f g. passed_going g more ended h)

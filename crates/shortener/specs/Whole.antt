@@ -12,6 +12,7 @@ use Rattle.theorems.specs.ReadBack.{conditions_of, written_read}
 use Rattle.theorems.specs.Lookup.{count_written}
 use Rattle.theorems.specs.Writing.{Wrote, wrote_short}
 use Rattle.theorems.specs.Clearing.{wrote_cleared}
+use Rattle.output.specs.declared.Output.{Output}
 use Rattle.shortening.specs.Simplify.{order, shorten_all}
 use Rattle.shortening.specs.Shortened.{Written, written}
 use Rattle.shortening.specs.Answers.{only_answer, torn, too_short, fits}
@@ -66,11 +67,12 @@ ready c p = record {
   room = p.roomy.changes;
 }
 
-pub written_short : {ws l l' : List ℤ} {count p : ℕ} → Counted ws count → AllWritten ws count l p l' → WrittenShort ws l p l'
-written_short c w = record {
+pub written_short : {ws : List ℤ} {count : ℕ} {o o' : Output ℤ} → o.at ≡ 0 → Counted ws count → AllWritten ws count o o'
+    → WrittenShort ws o.list.now o'.at o'.list.now
+written_short first c w = record {
   conditions = c.conditions;
   well = c.well;
-  wrote = w c.conditions (record { spells = c.well.spells; counted = c.many });
+  wrote = rw first at ((w c.conditions (record { spells = c.well.spells; counted = c.many })).wrote);
 }
 
 -- ---- the answer

@@ -16,6 +16,7 @@ ghost use Rattle.shortener.specs.Parts.{Ordered, Stands, Told, chosen};
 use clearing::clear;
 use lines::write_lines;
 use list_reader::Missing;
+use output::Output;
 use plan::{BLANK, plan};
 use script::Line;
 
@@ -48,7 +49,9 @@ fn write_within<const N: usize>(list: &[i32], count: usize, short: &mut [i32]) -
 {
     let mut entries = [BLANK; N];
     plan(list, &mut entries);
-    write_lines(list, count, &mut entries, short)
+    let mut out = Output { list: short, at: 0 };
+    write_lines(list, count, &mut entries, &mut out);
+    out.at
 }
 
 // The same, with as few entries as the list allows.

@@ -1,50 +1,44 @@
 // The lines of a list, each with its formula shortened and its trailer, and the count, in the form of the list.
 
+ghost use Rattle.std.specs.Prelude.{◌≡◌};
 ghost use Rattle.shortener.specs.Runs.{ends, changes};
 ghost use Rattle.shortener.specs.Lines.{Trailing, Trailed, Ready, AllWritten};
 
 use crate::plan::{Entry, place};
 use crate::writing::write_formula;
-use formula_writer::{push, push_two};
+use output::Output;
 
-// Writes the trailer of a formula that was written from `start` to `past`: kind and row as they stand in the list at a place, how
-// many words the formula has now, and the depth as it stands there, where trailers have a fourth word. Where the formula had no
-// room, its length is not known, and nothing is written.
-fn write_trailer(
-    list: &[i32],
-    tail: usize,
-    at: usize,
-    short: &mut [i32],
-    start: usize,
-    past: usize,
-) -> usize
-    requires { Trailing list.now tail at short.old start past }
-    ensures { Trailed list.now at short.old start past result short.new }
+// Writes the trailer of a formula that was written from `start` on: kind and row as they stand in the list at a place, how many
+// words the formula has now, and the depth as it stands there, where trailers have a fourth word. Where the formula had no room,
+// its length is not known, and nothing is written.
+fn write_trailer(list: &[i32], tail: usize, at: usize, start: usize, out: &mut Output<'_, i32>)
+    requires { Trailing list.now tail at start out.old }
+    ensures { Trailed list.now at start out.old out.new }
 {
-    if short.len() < past {
-        return past;
+    if out.fits() {
+        let length = out.at - start;
+        out.push_two(list[at], list[at + 1]);
+        out.push(length as i32);
+        if 4 <= tail {
+            out.push(list[at + 3]);
+        }
     }
-    let p = push_two(short, past, list[at], list[at + 1]);
-    let q = push(short, p, (past - start) as i32);
-    if tail < 4 {
-        return q;
-    }
-    push(short, q, list[at + 3])
 }
 
 // Writes all lines of a list, which has so many, and the count.
-pub fn write_lines(list: &[i32], count: usize, entries: &mut [Entry], short: &mut [i32]) -> usize
+pub fn write_lines(list: &[i32], count: usize, entries: &mut [Entry], out: &mut Output<'_, i32>)
     requires { Ready list.now count (ends entries.old) (changes entries.old) }
-    ensures { AllWritten list.now count short.old result short.new }
+    ensures wrote { AllWritten list.now count out.old out.new }
+    ensures same { out.new.list.ghost_name ≡ out.old.list.ghost_name }
 {
     let tail = list_reader::trailer_length(list);
     let mut at = 0;
-    let mut p = 0;
     for _left in (0..count).rev() {
         let end = place(entries[at].end);
-        let past = write_formula(list, at, end, entries, short, p);
-        p = write_trailer(list, tail, end, short, p, past);
+        let start = out.at;
+        write_formula(list, at, end, entries, out);
+        write_trailer(list, tail, end, start, out);
         at = end + tail;
     }
-    push(short, p, list[at])
+    out.push(list[at]);
 }

@@ -12,7 +12,8 @@ use Rattle.script.specs.Words.{formula_words}
 use Rattle.script.specs.Rows.{row, rows}
 use Rattle.script.specs.Trees.{expr_at, stmt_at}
 use Rattle.theorems.specs.Counting.{eq_or_lt}
-use Rattle.theorems.specs.Writing.{Wrote, then, wrote_as}
+use Rattle.output.specs.declared.Output.{Output}
+use Rattle.output.specs.Written.{Written, then, written_as}
 use Rattle.formula_writer.specs.Paths.{replaceᶠ, under, entry, passed_row, assign_passed}
 use Rattle.formula_writer.specs.Nodes.{Assignment, Passed, OnPath, Ready}
 use Rattle.following.specs.Follow.{row_on, follow_in}
@@ -99,8 +100,8 @@ module _ (t follow path : List ℤ) (j end s : ℕ) (g : Before t follow path j 
     pub assign_falls : {s' : ℕ} → s' ≡ row_on (follow_in t (set path j z)) s → left t follow s' < left t follow s
     assign_falls h = next_falls t follow path j end s g more kept h
 
-    pub assign_step : {s' : ℕ} {p p₁ : ℕ} {l l₁ : List ℤ} → s' ≡ row_on (follow_in t (set path j z)) s
-        → Wrote l p (conjunct_words t path j x.0) p₁ l₁ → Step t follow end s j p path l s' (j + 1) p₁ (set path j z) l₁
+    pub assign_step : {s' : ℕ} {o o₁ : Output ℤ} → s' ≡ row_on (follow_in t (set path j z)) s
+        → Written o (conjunct_words t path j x.0) o₁ → Step t follow end s j path o s' (j + 1) (set path j z) o₁
     assign_step h w₁ =
         let e = assign_next h in
         let a = length-set path j z in
@@ -116,5 +117,5 @@ module _ (t follow path : List ℤ) (j end s : ℕ) (g : Before t follow path j 
           longer = omega linear;
           kept = kept;
           falls = rw e (left_falls t follow g.course more);
-          words = λ q l'' w. wrote_as (sym assign_spelled) (then w₁ (rw e at w));
+          words = λ o'' w. written_as (sym assign_spelled) (then w₁ (rw e at w));
         }

@@ -11,7 +11,8 @@ use Rattle.script.specs.Conditions.{divisorsᶠ, wp}
 use Rattle.script.specs.Words.{formula_words}
 use Rattle.script.specs.Rows.{row, rows}
 use Rattle.script.specs.Trees.{formula_at}
-use Rattle.theorems.specs.Writing.{Wrote, then, wrote_as}
+use Rattle.output.specs.declared.Output.{Output}
+use Rattle.output.specs.Written.{Written, then, written_as}
 use Rattle.formula_writer.specs.Paths.{replaceᶠ, under, and_replaced, formula_under}
 use Rattle.formula_writer.specs.Nodes.{Ready}
 use Rattle.dividing.specs.Nodes.{formula_is_node, formula_divisors}
@@ -84,25 +85,25 @@ module _ (t follow path : List ℤ) (j end s : ℕ) (g : Before t follow path j 
       ∙ (ap formula_words (and_replaced (under t path j) (divisorsᶠ (formula_at t b.0)) _)
       ∙ conjunct_and (under t path j) (divisorsᶠ (formula_at t b.0)) _))
 
-  pub branch_step : {l l₀ l₁ l₂ l₃ l₄ l₅ path₃ : List ℤ} {p p₀ p₁ p₂ p₃ p₄ p₅ : ℕ}
-      → Wrote l p (conjunct_words t path j b.0) p₀ l₀
-      → Wrote l₀ p₀ (pos 23 ∷ pos 25 ∷ []) p₁ l₁
-      → Wrote l₁ p₁ (formula_under t path j b.0) p₂ l₂
-      → Walked t path j (before_end t (follow_in t path) x.0 end) l₂ p₂ p₃ l₃ path₃
-      → Wrote l₃ p₃ (pos 25 ∷ pos 22 ∷ []) p₄ l₄
-      → Wrote l₄ p₄ (formula_under t path₃ j b.0) p₅ l₅
-      → Step t follow end s j p path l y.0 j p₅ path₃ l₅
-  branch_step {l = l} {l₂ = l₂} {l₃ = l₃} {l₄ = l₄} {l₅ = l₅} {path₃ = path₃} {p = p} {p₂ = p₂} {p₃ = p₃} {p₄ = p₄} {p₅ = p₅} w₀ w₁ w₂ w₃ w₄ w₅ =
+  pub branch_step : {o o₀ o₁ o₂ o₃ o₄ o₅ : Output ℤ} {path₃ : List ℤ}
+      → Written o (conjunct_words t path j b.0) o₀
+      → Written o₀ (pos 23 ∷ pos 25 ∷ []) o₁
+      → Written o₁ (formula_under t path j b.0) o₂
+      → Walked t path j (before_end t (follow_in t path) x.0 end) o₂ o₃ path₃
+      → Written o₃ (pos 25 ∷ pos 22 ∷ []) o₄
+      → Written o₄ (formula_under t path₃ j b.0) o₅
+      → Step t follow end s j path o y.0 j path₃ o₅
+  branch_step {o₂ = o₂} {o₃ = o₃} {o₄ = o₄} {o₅ = o₅} w₀ w₁ w₂ w₃ w₄ w₅ =
       let same = under_same t j w₃.kept in
-      let c₃ : Wrote l₂ p₂ (spell (before_end t follow x.0 end)) p₃ l₃ = rw g.noted at w₃.words in
-      let c₅ : Wrote l₄ p₄ (spell (formula_at t b.0)) p₅ l₅ = rw same at w₅ in
+      let c₃ : Written o₂ (spell (before_end t follow x.0 end)) o₃ = rw g.noted at w₃.words in
+      let c₅ : Written o₄ (spell (formula_at t b.0)) o₅ = rw same at w₅ in
       record {
         before = else_before w₃.kept;
         longer = omega linear;
         kept = w₃.kept;
         falls = left_else t follow g.course more r;
-        words = λ q l'' w.
-            let c₆ : Wrote l₅ p₅ (spell (before_end t follow y.0 end)) q l'' = rw same at w in
+        words = λ o'' w.
+            let c₆ : Written o₅ (spell (before_end t follow y.0 end)) o'' = rw same at w in
             let f = if_words (spell (formula_at t b.0)) (spell (before_end t follow x.0 end)) (spell (before_end t follow y.0 end)) in
-            rw branch_spelled (then w₀ (wrote_as f (then (then (then (then w₁ w₂) c₃) (then w₄ c₅)) c₆)));
+            rw branch_spelled (then w₀ (written_as f (then (then (then (then w₁ w₂) c₃) (then w₄ c₅)) c₆)));
       }

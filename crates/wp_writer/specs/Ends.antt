@@ -9,7 +9,8 @@ use Rattle.script.specs.Words.{formula_words}
 use Rattle.script.specs.Rows.{field_number, rows, word}
 use Rattle.script.specs.Trees.{formula_at}
 use Rattle.theorems.specs.Accepted.{Accepted}
-use Rattle.theorems.specs.Writing.{Wrote, then}
+use Rattle.output.specs.declared.Output.{Output}
+use Rattle.output.specs.Written.{Written, then}
 use Rattle.formula_writer.specs.Paths.{replaceᶠ, under, expr_under, formula_under}
 use Rattle.formula_writer.specs.Links.{Linked}
 use Rattle.formula_writer.specs.Nodes.{OnPath, Ready}
@@ -66,8 +67,8 @@ module _ (t path : List ℤ) (j e : ℕ) (g : EndReady t path j e) {n : ℕ} (re
     pub post_ready : {q : ℕ} → q ≡ post_row t e → Ready t path j q Sort.Formula
     post_ready {q} i = ready_at t path j q g.table g.along (rw i (post_linked t e (script_end g.ended (sym read ∙ h))))
 
-    pub wrote_post : {q : ℕ} {l l' : List ℤ} {p p' : ℕ} → q ≡ post_row t e → Wrote l p (formula_under t path j q) p' l'
-        → Wrote l p (words_under t path j (end_formula t e)) p' l'
+    pub wrote_post : {q : ℕ} {o o' : Output ℤ} → q ≡ post_row t e → Written o (formula_under t path j q) o'
+        → Written o (words_under t path j (end_formula t e)) o'
     wrote_post i w = rw (end_post t e (sym read ∙ h)) (rw i at w)
 
   -- ---- the end of a loop's body
@@ -82,10 +83,10 @@ module _ (t path : List ℤ) (j e : ℕ) (g : EndReady t path j e) {n : ℕ} (re
     pub falling_ready : {v : ℕ} → v ≡ variant_row t e → Ready t path j v Sort.Expression
     falling_ready {v} k = ready_at t path j v g.table g.along (rw k (variant_linked t e ending))
 
-    pub wrote_decreased : {i v : ℕ} {l l₁ l₂ l₃ l₄ l₅ : List ℤ} {p p₁ p₂ p₃ p₄ p₅ : ℕ} → i ≡ invariant_row t e → v ≡ variant_row t e
-        → Wrote l p (pos 23 ∷ []) p₁ l₁
-        → Wrote l₁ p₁ (formula_under t path j i) p₂ l₂ → Wrote l₂ p₂ (pos 18 ∷ []) p₃ l₃
-        → Wrote l₃ p₃ (expr_under t path j v) p₄ l₄ → Wrote l₄ p₄ (pos 9 ∷ pos e ∷ []) p₅ l₅
-        → Wrote l p (words_under t path j (end_formula t e)) p₅ l₅
+    pub wrote_decreased : {i v : ℕ} {o o₁ o₂ o₃ o₄ o₅ : Output ℤ} → i ≡ invariant_row t e → v ≡ variant_row t e
+        → Written o (pos 23 ∷ []) o₁
+        → Written o₁ (formula_under t path j i) o₂ → Written o₂ (pos 18 ∷ []) o₃
+        → Written o₃ (expr_under t path j v) o₄ → Written o₄ (pos 9 ∷ pos e ∷ []) o₅
+        → Written o (words_under t path j (end_formula t e)) o₅
     unfolding formula_words replaceᶠ
     wrote_decreased x y w₁ w₂ w₃ w₄ w₅ = rw (end_decreased ending) (then w₁ (then (rw x at w₂) (then w₃ (then (rw y at w₄) w₅))))

@@ -12,7 +12,8 @@ use Rattle.script.specs.Conditions.{wp}
 use Rattle.script.specs.Words.{formula_words}
 use Rattle.script.specs.Rows.{field_number, row, rows, word}
 use Rattle.script.specs.Trees.{stmt_node, expr_at, formula_at, stmt_at}
-use Rattle.theorems.specs.Writing.{Wrote, then}
+use Rattle.output.specs.declared.Output.{Output}
+use Rattle.output.specs.Written.{Written, then}
 use Rattle.formula_writer.specs.Paths.{replaceᶠ, formula_under}
 use Rattle.formula_writer.specs.Links.{Linked}
 use Rattle.formula_writer.specs.Nodes.{Ready}
@@ -75,21 +76,21 @@ module _ (t follow path : List ℤ) (j end s : ℕ) (g : Before t follow path j 
   on_before e = record { course = course_at t follow e (on_from t follow g.course more); divided = g.divided; ended = g.ended; along = g.along; long = g.long; noted = g.noted }
 
   -- with the words ws written
-  on_step : {s' : ℕ} {p p' : ℕ} {l l' : List ℤ} → s' ≡ next t follow s
-      → ((q : ℕ) (l'' : List ℤ) → Wrote l' p' (spell rest) q l'' → Wrote l p (spell (before_end t follow s end)) q l'')
-      → Step t follow end s j p path l s' j p' path l'
+  on_step : {s' : ℕ} {o o' : Output ℤ} → s' ≡ next t follow s
+      → ((o'' : Output ℤ) → Written o' (spell rest) o'' → Written o (spell (before_end t follow s end)) o'')
+      → Step t follow end s j path o s' j path o'
   on_step {s'} e f = record {
     before = on_before e;
     longer = omega linear;
     kept = same_refl (rows t) j path;
     falls = rw e (left_falls t follow g.course more);
-    words = λ q l'' w. f q l'' (rw e at w);
+    words = λ o'' w. f o'' (rw e at w);
   }
 
-  pub skip_step : {s' : ℕ} {p : ℕ} {l : List ℤ} → row t s ≡ Row.Statement Skip → s' ≡ row_on (follow_in t path) s
-      → Step t follow end s j p path l s' j p path l
+  pub skip_step : {s' : ℕ} {o : Output ℤ} → row t s ≡ Row.Statement Skip → s' ≡ row_on (follow_in t path) s
+      → Step t follow end s j path o s' j path o
   unfolding wp
-  skip_step r h = on_step (next_is (same_refl (rows t) j path) h) (λ q l'' w. rw (after_here r) w)
+  skip_step r h = on_step (next_is (same_refl (rows t) j path) h) (λ o'' w. rw (after_here r) w)
 
   -- ---- an assertion
 
@@ -101,20 +102,20 @@ module _ (t follow path : List ℤ) (j end s : ℕ) (g : Before t follow path j 
     unfolding wp formula_words replaceᶠ
     assert_spelled = ap spell (after_here r)
 
-    pub assert_step : {s' : ℕ} {p p₁ p₂ : ℕ} {l l₁ l₂ : List ℤ} → s' ≡ row_on (follow_in t path) s → Wrote l p (pos 23 ∷ []) p₁ l₁
-        → Wrote l₁ p₁ (formula_under t path j f.0) p₂ l₂ → Step t follow end s j p path l s' j p₂ path l₂
-    assert_step h w₁ w₂ = on_step (next_is (same_refl (rows t) j path) h) (λ q l'' w. rw assert_spelled (then w₁ (then w₂ w)))
+    pub assert_step : {s' : ℕ} {o o₁ o₂ : Output ℤ} → s' ≡ row_on (follow_in t path) s → Written o (pos 23 ∷ []) o₁
+        → Written o₁ (formula_under t path j f.0) o₂ → Step t follow end s j path o s' j path o₂
+    assert_step h w₁ w₂ = on_step (next_is (same_refl (rows t) j path) h) (λ o'' w. rw assert_spelled (then w₁ (then w₂ w)))
 
   -- ---- a sequence
 
-  pub sequence_step : {a b : RowNumber} {p : ℕ} {l : List ℤ} → row t s ≡ Row.Statement (Sequence a b)
-      → Step t follow end s j p path l a.0 j p path l
+  pub sequence_step : {a b : RowNumber} {o : Output ℤ} → row t s ≡ Row.Statement (Sequence a b)
+      → Step t follow end s j path o a.0 j path o
   sequence_step r = record {
     before = record { course = first_course t follow g.course more r; divided = g.divided; ended = g.ended; along = g.along; long = g.long; noted = g.noted };
     longer = omega linear;
     kept = same_refl (rows t) j path;
     falls = left_first t follow g.course more r;
-    words = λ q l'' w. rw (after_sequence t follow g.course more r (end_formula t end)) w;
+    words = λ o'' w. rw (after_sequence t follow g.course more r (end_formula t end)) w;
   }
 
   -- ---- a loop
@@ -126,8 +127,8 @@ module _ (t follow path : List ℤ) (j end s : ℕ) (g : Before t follow path j 
     pub invariant_ready : {i : ℕ} → i ≡ invariant_row t s → Ready t path j i Sort.Formula
     invariant_ready {i} e = ready_at t path j i g.course.table g.along (rw e (invariant_linked t s loop_here))
 
-    pub loop_wrote : {i p q : ℕ} {l l' : List ℤ} → i ≡ invariant_row t s → Wrote l p (formula_under t path j i) q l'
-        → Wrote l p (spell (before_end t follow s end)) q l'
+    pub loop_wrote : {i : ℕ} {o o' : Output ℤ} → i ≡ invariant_row t s → Written o (formula_under t path j i) o'
+        → Written o (spell (before_end t follow s end)) o'
     unfolding wp
     loop_wrote e w =
         let a = (stands t follow more g.course).after_step (end_formula t end) ∙ ap (λ (x : Stmt). wp x rest) (loop_is t s loop_here) in

@@ -6,10 +6,10 @@ use Rattle.divisor_writer.proofs.+write_divisors.Given as goal
 abbrev pub decreases-write_divisors : goal.decreases-write_divisors
 decreases-write_divisors l = l.r.0
 
-abbrev pub invariant-loop-p : goal.invariant-loop-p
-invariant-loop-p l =
-    Turn l.table l.follow l.path l.j l.initial.row (divisor_words l.table l.path l.j l.initial.row) l.initial.list l.initial.p
-    l.row l.p l.list
+abbrev pub invariant-loop-j : goal.invariant-loop-j
+invariant-loop-j l =
+    Turn l.table l.follow l.path l.j l.initial.row (divisor_words l.table l.path l.j l.initial.row) l.initial.out
+    l.row l.out
 
-abbrev pub decreases-loop-p : goal.decreases-loop-p
-decreases-loop-p l = l.row
+abbrev pub decreases-loop-j : goal.decreases-loop-j
+decreases-loop-j l = l.row

@@ -13,18 +13,18 @@ decreases-write_expression l = base l.j + (l.r.0 + 1)
 abbrev pub decreases-write_formula : goal.decreases-write_formula
 decreases-write_formula l = base l.j + (l.r.0 + 1)
 
-abbrev pub invariant-write_expression-loop-p : goal.invariant-write_expression-loop-p
-invariant-write_expression-loop-p l =
+abbrev pub invariant-write_expression-loop-number : goal.invariant-write_expression-loop-number
+invariant-write_expression-loop-number l =
     Turn l.table l.path Expression (base l.initial.seen + (l.initial.row + 1)) (expr_under l.table l.path l.initial.seen l.initial.row)
-    l.initial.list l.initial.p (expr_under l.table l.path l.seen l.row) l.seen l.row l.p l.list
+    l.initial.out (expr_under l.table l.path l.seen l.row) l.seen l.row l.out
 
-abbrev pub decreases-write_expression-loop-p : goal.decreases-write_expression-loop-p
-decreases-write_expression-loop-p l = base l.seen + (l.row + 1)
+abbrev pub decreases-write_expression-loop-number : goal.decreases-write_expression-loop-number
+decreases-write_expression-loop-number l = base l.seen + (l.row + 1)
 
-abbrev pub invariant-write_formula-loop-p : goal.invariant-write_formula-loop-p
-invariant-write_formula-loop-p l =
+abbrev pub invariant-write_formula-loop-number : goal.invariant-write_formula-loop-number
+invariant-write_formula-loop-number l =
     Turn l.table l.path Formula (base l.j + (l.initial.row + 1)) (formula_under l.table l.path l.j l.initial.row)
-    l.initial.list l.initial.p (formula_under l.table l.path l.j l.row) l.j l.row l.p l.list
+    l.initial.out (formula_under l.table l.path l.j l.row) l.j l.row l.out
 
-abbrev pub decreases-write_formula-loop-p : goal.decreases-write_formula-loop-p
-decreases-write_formula-loop-p l = base l.j + (l.row + 1)
+abbrev pub decreases-write_formula-loop-number : goal.decreases-write_formula-loop-number
+decreases-write_formula-loop-number l = base l.j + (l.row + 1)

@@ -7,10 +7,10 @@ use Rattle.list_writer.proofs.+list_conditions.Given as goal
 abbrev pub decreases-list_conditions : goal.decreases-list_conditions
 decreases-list_conditions l = l.first
 
-abbrev pub invariant-loop-list : goal.invariant-loop-list
-invariant-loop-list l =
-    Turned l.table (follow_in l.table l.initial.scratch) l.end.0 l.depth l.initial.s l.initial.p l.initial.scratch l.initial.list
-    l.s l.p l.scratch l.list
+abbrev pub invariant-loop-end : goal.invariant-loop-end
+invariant-loop-end l =
+    Turned l.table (follow_in l.table l.initial.scratch) l.end.0 l.depth l.initial.s l.initial.scratch l.initial.lines
+    l.s l.scratch l.lines
 
-abbrev pub decreases-loop-list : goal.decreases-loop-list
-decreases-loop-list l = l.s
+abbrev pub decreases-loop-end : goal.decreases-loop-end
+decreases-loop-end l = l.s

@@ -1,5 +1,5 @@
 -- What follows each statement and which rows divide is found first; what is listed, then main, are the script's conditions.
-use Rattle.std.proofs.Common.{List, ℤ, arith, ◌≡◌, length, ◌∙◌}
+use Rattle.std.proofs.Common.{rules, List, ℤ, arith, ◌≡◌, length, ◌∙◌, refl}
 use Rattle.script.specs.Generated.{scratch_need}
 use Rattle.following.specs.Follow.{follow_in, Followed}
 use Rattle.dividing.specs.Divided.{Divided}
@@ -28,31 +28,35 @@ followed c = rw (run_there c.args.table.now c.args.scratch.now c.fill_run.new.fo
 divided : (c : After-fill_run) → Divided c.args.table.now (follow_in c.args.table.now (run c))
 divided c = rw (run_there c.args.table.now c.args.scratch.now c.fill_run.new.follow c.requires.1.1) c.fill_run.ensures.1
 
-pub list_conditions-p-requires : goal.list_conditions-p-requires
-list_conditions-p-requires c =
-    let a = (goal.at.list_conditions-p-requires c).After-fill_run in
+pub list_conditions-requires : goal.list_conditions-requires
+list_conditions-requires c =
+    let a = (goal.at.list_conditions-requires c).After-fill_run in
     let e = c.row_count-rows.ensures in
-    rw e (first_walking c.args.table.now c.requires.0 (run a) (long a) (followed a) (divided a) (rw e at c.field-statement.ensures) c.requires.1.0)
+    rw e (first_walking c.args.table.now c.requires.0 (run a) (long a) (followed a) (divided a) (rw e at c.field-statement.ensures) c.requires.1.0 (omega arith))
 
-pub write_main-q-requires : goal.write_main-q-requires
-write_main-q-requires c =
-    let a = (goal.at.write_main-q-requires c).After-fill_run in
+pub write_main-requires : goal.write_main-requires
+write_main-requires c =
+    let a = (goal.at.write_main-requires c).After-fill_run in
     let e = c.row_count-rows.ensures in
-    rw e (main_ready c.args.table.now c.requires.0 (run a) (long a) (followed a) (divided a) (rw e at c.field-statement.ensures) c.requires.1.0
-    (rw e at c.list_conditions-p.ensures))
+    rw e (main_ready c.args.table.now c.requires.0 (run a) (long a) (followed a) (divided a) (rw e at c.field-statement.ensures) c.requires.1.0 (omega arith)
+    (rw e at c.list_conditions.ensures))
 
 pub write_count-requires : goal.write_count-requires
 write_count-requires c =
     let a = (goal.at.write_count-requires c).After-fill_run in
     let e = c.row_count-rows.ensures in
-    count_ready c.args.table.now c.requires.0 (run a) (long a) (followed a) (divided a) (rw e at c.field-statement.ensures) c.requires.1.0
-    (rw e at c.list_conditions-p.ensures) (rw e at c.write_main-q.ensures)
+    count_ready c.args.table.now c.requires.0 (run a) (long a) (followed a) (divided a) (rw e at c.field-statement.ensures) c.requires.1.0 (omega arith)
+    (rw e at c.list_conditions.ensures) (rw e at c.write_main.ensures)
 
 pub returns-clause-whole : goal.returns-clause-whole
 returns-clause-whole c =
     let a = (goal.at.returns-clause-whole c).After-fill_run in
     let e = c.row_count-rows.ensures in
-    whole_counted
-    (conditions_listed c.args.table.now c.requires.0 (run a) (long a) (followed a) (divided a) (rw e at c.field-statement.ensures) c.requires.1.0
-    (rw e at c.list_conditions-p.ensures) (rw e at c.write_main-q.ensures))
-    c.write_count.ensures
+    let whole =
+    whole_counted refl refl
+    (conditions_listed c.args.table.now c.requires.0 (run a) (long a) (followed a) (divided a) (rw e at c.field-statement.ensures) c.requires.1.0 (omega arith)
+    (rw e at c.list_conditions.ensures) (rw e at c.write_main.ensures))
+    c.write_count.ensures in
+    let same = c.write_count.ensures.same ∙ (c.write_main.ensures.lines.same ∙ c.list_conditions.ensures.lines.same) in
+    let list = c.write_count.ensures.words.same ∙ (c.write_main.ensures.lines.words.same ∙ c.list_conditions.ensures.lines.words.same) in
+    search rules

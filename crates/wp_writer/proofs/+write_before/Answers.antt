@@ -7,7 +7,7 @@ use Rattle.script.specs.declared.StatementRow.TheVariants.{Assign as Row·Assign
 use Rattle.script.specs.Rows.{row, var_no, word}
 use Rattle.script.specs.Kinds.{kind_of, number_read, other_read}
 use Rattle.script.specs.Laws.{back}
-use Rattle.theorems.specs.Writing.{then}
+use Rattle.output.specs.Written.{then}
 use Rattle.following.specs.Kinds.{Past, number, skip_row, assign_row, sequence_row, if_row}
 use Rattle.following.specs.Parts.{left_first, left_else}
 use Rattle.wp_writer.specs.Same.{same_refl}
@@ -25,9 +25,9 @@ past e a b d f g = (((((tt, other_read e a refl), other_read e b refl), other_re
 
 -- ---- no room, and the end
 
-pub returns-then-list-p : goal.returns-then-list-p
-returns-then-list-p t c =
-    written_full _ _ _ c.loop-s.invariant c.if-list-p.true
+pub returns-then-not-fits : goal.returns-then-not-fits
+returns-then-not-fits t c =
+    written_full _ _ _ c.loop-s.invariant (c.fits.ensures.1 c.if-not-fits.true)
 
 pub returns : goal.returns
 returns t c =
@@ -61,9 +61,9 @@ pub field-requires : goal.field-requires
 field-requires t c =
     (in_table _ _ _ _ _ _ c.loop-s.invariant.before c.loop-s-test.true, omega arith)
 
-pub write_conjunct-p-requires : goal.write_conjunct-p-requires
-write_conjunct-p-requires t c =
-    let r = assigned t (goal.at.write_conjunct-p-requires t c).After-field in
+pub write_conjunct-requires : goal.write_conjunct-requires
+write_conjunct-requires t c =
+    let r = assigned t (goal.at.write_conjunct-requires t c).After-field in
     value_divisors _ _ _ _ _ _ c.loop-s.invariant.before c.loop-s-test.true r
 
 pub entry-requires : goal.entry-requires
@@ -83,7 +83,7 @@ loop-s-smaller-in-Assign t c =
 pub loop-s-preserved-in-Assign : goal.loop-s-preserved-in-Assign
 loop-s-preserved-in-Assign t c =
     let r = assigned t (goal.at.loop-s-preserved-in-Assign t c).After-field in
-    turned _ _ _ c.loop-s.invariant (assign_step _ _ _ _ _ _ c.loop-s.invariant.before c.loop-s-test.true (back c.entry.type_inv ∙ c.entry.ensures) r c.next-s-in-Assign.ensures c.write_conjunct-p.ensures)
+    turned _ _ _ c.loop-s.invariant (assign_step _ _ _ _ _ _ c.loop-s.invariant.before c.loop-s-test.true (back c.entry.type_inv ∙ c.entry.ensures) r c.next-s-in-Assign.ensures c.write_conjunct.ensures)
 
 -- ---- a sequence
 
@@ -120,25 +120,25 @@ pub field-y-requires : goal.field-y-requires
 field-y-requires t c =
     (in_table _ _ _ _ _ _ c.loop-s.invariant.before c.loop-s-test.true, omega arith)
 
-pub write_conjunct-p-requires-in-If : goal.write_conjunct-p-requires-in-If
-write_conjunct-p-requires-in-If t c =
-    let r = branch t (goal.at.write_conjunct-p-requires-in-If t c).After-field-y in
+pub write_conjunct-requires-in-If : goal.write_conjunct-requires-in-If
+write_conjunct-requires-in-If t c =
+    let r = branch t (goal.at.write_conjunct-requires-in-If t c).After-field-y in
     guard_divisors _ _ _ _ _ _ c.loop-s.invariant.before c.loop-s-test.true r
 
-pub write_formula-p-requires : goal.write_formula-p-requires
-write_formula-p-requires t c =
-    let r = branch t (goal.at.write_formula-p-requires t c).After-field-y in
+pub write_formula-requires : goal.write_formula-requires
+write_formula-requires t c =
+    let r = branch t (goal.at.write_formula-requires t c).After-field-y in
     guard_ready _ _ _ _ _ _ c.loop-s.invariant.before c.loop-s-test.true r (same_refl _ _ _)
 
-pub write_before-p-requires : goal.write_before-p-requires
-write_before-p-requires t c =
-    let r = branch t (goal.at.write_before-p-requires t c).After-field-y in
+pub write_before-requires : goal.write_before-requires
+write_before-requires t c =
+    let r = branch t (goal.at.write_before-requires t c).After-field-y in
     then_ready _ _ _ _ _ _ c.loop-s.invariant.before c.loop-s-test.true r c.loop-s.invariant.falls c.decreases
 
-pub write_formula-p-requires-in-If : goal.write_formula-p-requires-in-If
-write_formula-p-requires-in-If t c =
-    let r = branch t (goal.at.write_formula-p-requires-in-If t c).After-field-y in
-    guard_ready _ _ _ _ _ _ c.loop-s.invariant.before c.loop-s-test.true r c.write_before-p.ensures.kept
+pub write_formula-requires-in-If : goal.write_formula-requires-in-If
+write_formula-requires-in-If t c =
+    let r = branch t (goal.at.write_formula-requires-in-If t c).After-field-y in
+    guard_ready _ _ _ _ _ _ c.loop-s.invariant.before c.loop-s-test.true r c.write_before.ensures.kept
 
 pub loop-s-smaller-in-If : goal.loop-s-smaller-in-If
 loop-s-smaller-in-If t c =
@@ -149,9 +149,9 @@ pub loop-s-preserved-in-If : goal.loop-s-preserved-in-If
 loop-s-preserved-in-If t c =
     let r = branch t (goal.at.loop-s-preserved-in-If t c).After-field-y in
     turned _ _ _ c.loop-s.invariant
-    (branch_step _ _ _ _ _ _ c.loop-s.invariant.before c.loop-s-test.true r c.write_conjunct-p-in-If.ensures (then c.push_kind-p.ensures c.push_kind-p-in-If.ensures)
-    c.write_formula-p.ensures c.write_before-p.ensures (then c.push_kind-p-in-If-2.ensures c.push_kind-p-in-If-3.ensures)
-    c.write_formula-p-in-If.ensures)
+    (branch_step _ _ _ _ _ _ c.loop-s.invariant.before c.loop-s-test.true r c.write_conjunct-in-If.ensures (then c.push_kind.ensures c.push_kind-in-If.ensures)
+    c.write_formula.ensures c.write_before.ensures (then c.push_kind-in-If-2.ensures c.push_kind-in-If-3.ensures)
+    c.write_formula-in-If.ensures)
 
 -- ---- a loop
 
@@ -159,13 +159,13 @@ pub invariant-i-requires : goal.invariant-i-requires
 invariant-i-requires t c =
     loop_here _ _ _ _ _ _ c.loop-s.invariant.before c.loop-s-test.true refl (number_read c.kind_at.ensures c.in-While.is refl)
 
-pub write_formula-requires : goal.write_formula-requires
-write_formula-requires t c =
+pub write_formula-requires-in-While : goal.write_formula-requires-in-While
+write_formula-requires-in-While t c =
     invariant_ready _ _ _ _ _ _ c.loop-s.invariant.before c.loop-s-test.true refl (number_read c.kind_at.ensures c.in-While.is refl) c.invariant-i.ensures
 
 pub returns-in-While : goal.returns-in-While
 returns-in-While t c =
-    written _ _ _ c.loop-s.invariant (loop_wrote _ _ _ _ _ _ c.loop-s.invariant.before c.loop-s-test.true refl (number_read c.kind_at.ensures c.in-While.is refl) c.invariant-i.ensures c.write_formula.ensures)
+    written _ _ _ c.loop-s.invariant (loop_wrote _ _ _ _ _ _ c.loop-s.invariant.before c.loop-s-test.true refl (number_read c.kind_at.ensures c.in-While.is refl) c.invariant-i.ensures c.write_formula-in-While.ensures)
 
 -- ---- an assertion
 
@@ -173,8 +173,8 @@ pub field-requires-in_default : goal.field-requires-in_default
 field-requires-in_default t c =
     (in_table _ _ _ _ _ _ c.loop-s.invariant.before c.loop-s-test.true, omega arith)
 
-pub write_formula-p-requires-in_default : goal.write_formula-p-requires-in_default
-write_formula-p-requires-in_default t c =
+pub write_formula-requires-in_default : goal.write_formula-requires-in_default
+write_formula-requires-in_default t c =
     let r = assert_known _ _ _ _ _ _ c.loop-s.invariant.before c.loop-s-test.true refl (past c.kind_at.ensures c.in_default.not-Skip c.in_default.not-Assign c.in_default.not-Sequence c.in_default.not-If c.in_default.not-While) c.field-in_default.ensures in
     assert_ready _ _ _ _ _ _ c.loop-s.invariant.before c.loop-s-test.true r
 
@@ -189,4 +189,4 @@ loop-s-smaller t c =
 pub loop-s-preserved : goal.loop-s-preserved
 loop-s-preserved t c =
     let r = assert_known _ _ _ _ _ _ c.loop-s.invariant.before c.loop-s-test.true refl (past c.kind_at.ensures c.in_default.not-Skip c.in_default.not-Assign c.in_default.not-Sequence c.in_default.not-If c.in_default.not-While) c.field-in_default.ensures in
-    turned _ _ _ c.loop-s.invariant (assert_step _ _ _ _ _ _ c.loop-s.invariant.before c.loop-s-test.true r c.next-s-in_default.ensures c.push_kind-p-in_default.ensures c.write_formula-p-in_default.ensures)
+    turned _ _ _ c.loop-s.invariant (assert_step _ _ _ _ _ _ c.loop-s.invariant.before c.loop-s-test.true r c.next-s-in_default.ensures c.push_kind-in_default.ensures c.write_formula-in_default.ensures)

@@ -10,8 +10,8 @@ decreases-write_before l = left l.table.now (follow_in l.table.now l.scratch.now
 
 abbrev pub invariant-loop-s : goal.invariant-loop-s
 invariant-loop-s l =
-    Turned l.table (follow_in l.table l.initial.scratch) l.end.0 l.initial.s l.initial.j l.initial.p l.initial.scratch l.initial.list
-    l.s l.j l.p l.scratch l.list
+    Turned l.table (follow_in l.table l.initial.scratch) l.end.0 l.initial.s l.initial.j l.initial.scratch l.initial.out
+    l.s l.j l.scratch l.out
 
 abbrev pub decreases-loop-s : goal.decreases-loop-s
 decreases-loop-s l = left l.table (follow_in l.table l.initial.scratch) l.s

@@ -12,21 +12,21 @@ pub returns-in-Script : goal.returns-in-Script
 returns-in-Script c =
     wrote_post _ _ _ _ c.requires refl (number_read c.kind_at.ensures c.in-Script.is refl) c.field.ensures c.write_formula.ensures
 
-pub write_formula-p2-requires : goal.write_formula-p2-requires
+pub write_formula-requires-in_default : goal.write_formula-requires-in_default
 unfolding kind_of
-write_formula-p2-requires c =
+write_formula-requires-in_default c =
     kept_ready _ _ _ _ c.requires refl (other_read c.kind_at.ensures c.in_default.not-Script refl) c.invariant.ensures
 
-pub write_expression-p4-requires : goal.write_expression-p4-requires
+pub write_expression-requires : goal.write_expression-requires
 unfolding kind_of
-write_expression-p4-requires c =
+write_expression-requires c =
     falling_ready _ _ _ _ c.requires refl (other_read c.kind_at.ensures c.in_default.not-Script refl) c.variant.ensures
 
 pub returns-in_default : goal.returns-in_default
 unfolding kind_of
 returns-in_default c =
     wrote_decreased _ _ _ _ c.requires refl (other_read c.kind_at.ensures c.in_default.not-Script refl) c.invariant.ensures c.variant.ensures
-    c.push_kind-p1.ensures c.write_formula-p2.ensures c.push_kind-p3.ensures c.write_expression-p4.ensures c.push_mark.ensures
+    c.push_kind.ensures c.write_formula-in_default.ensures c.push_kind-in_default.ensures c.write_expression.ensures c.push_mark.ensures
 
 pub invariant-requires : goal.invariant-requires
 unfolding kind_of

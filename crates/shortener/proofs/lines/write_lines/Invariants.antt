@@ -7,4 +7,4 @@ use Rattle.shortener.proofs.lines.write_lines.Given as goal
 abbrev pub invariant-loop-left : goal.invariant-loop-left
 invariant-loop-left l =
     (ends l.entries ≡ ends l.fn.entries)
-    × Lining l.list l.count (ends l.fn.entries) (changes l.fn.entries) l.fn.short l.at l._left (changes l.entries) l.short l.p
+    × Lining l.list l.count (ends l.fn.entries) (changes l.fn.entries) l.fn.out l.at l._left (changes l.entries) l.out

@@ -1,6 +1,6 @@
 use Rattle.std.proofs.Common.{◌∙◌, refl, ap, ℕ, ◌+◌, ◌<◌, [], ◌∷◌, pos, get_or, length, arith, rules}
 use Rattle.script.specs.Laws.{back}
-use Rattle.theorems.specs.Writing.{wrote_as, wrote_nothing}
+use Rattle.output.specs.Written.{written_as, nothing_written}
 use Rattle.shortener.specs.declared.rules.Change.TheVariants.{Passed}
 use Rattle.shortener.specs.declared.plan.Entry.{Entry}
 use Rattle.shortener.specs.Arms.{PastChanges}
@@ -40,7 +40,7 @@ loop-at-preserved-in-Kept c =
     let told = change_at es blank within c.in-Kept.is in (
       c.loop-at.invariant.0,
       kept_turn t more told
-          (wrote_as (ap (λ z. z ∷ []) (back {z = get_or c.args.words.now c.loop-at.at (pos 0)} (search rules))) c.push-p.ensures),
+          (written_as (ap (λ z. z ∷ []) (back {z = get_or c.args.words.now c.loop-at.at (pos 0)} (search rules))) c.push.ensures),
     )
 
 pub bounds-words-at-in-KeptWithNumber : goal.bounds-words-at-in-KeptWithNumber
@@ -64,7 +64,7 @@ loop-at-preserved-in-KeptWithNumber c =
     let told = change_at es blank within c.in-KeptWithNumber.is in
     let w = back {z = get_or c.args.words.now c.loop-at.at (pos 0)} (search rules) in
     let z = back {z = get_or c.args.words.now (c.loop-at.at + 1) (pos 0)} (search rules) in
-    (c.loop-at.invariant.0, numbered_turn t more told (wrote_as (λ i. w i ∷ z i ∷ []) c.push_two-p.ensures))
+    (c.loop-at.invariant.0, numbered_turn t more told (written_as (λ i. w i ∷ z i ∷ []) c.push_two.ensures))
 
 -- ---- its first part is written, or its second
 
@@ -137,7 +137,7 @@ loop-at-preserved-in-Second c =
     let after : c.loop-at.at + 1 < length es = in_run es (omega (arith, p.first, t.begun.room, t.same.length)) in (
       c.loop-at.invariant.0,
       rw (end_at es blank after c.args.entries.now c.loop-at.invariant.0 c.place-at.ensures)
-          (second_turn t more ([]) 3 (omega arith) (λ x h. h) told (wrote_nothing _ _)),
+          (second_turn t more ([]) 3 (omega arith) (λ x h. h) told (nothing_written _)),
     )
 
 pub bounds-entries-at-in-NegatedSecond : goal.bounds-entries-at-in-NegatedSecond
@@ -172,7 +172,7 @@ loop-at-preserved-in-NegatedSecond c =
     let after : c.loop-at.at + 1 < length es = in_run es (omega (arith, p.first, t.begun.room, t.same.length)) in (
       c.loop-at.invariant.0,
       rw (end_at es blank after c.args.entries.now c.loop-at.invariant.0 c.place-at-in-NegatedSecond.ensures)
-          (second_turn t more (pos 8 ∷ []) 4 (omega arith) (λ x h. h) told c.push_kind-p.ensures),
+          (second_turn t more (pos 8 ∷ []) 4 (omega arith) (λ x h. h) told c.push_kind.ensures),
     )
 
 -- ---- a value is written
@@ -195,7 +195,7 @@ loop-at-preserved-in-True c =
     let told = change_at es blank within c.in-True.is in (
       c.loop-at.invariant.0,
       rw (end_at es blank within c.args.entries.now c.loop-at.invariant.0 c.place-at-in-True.ensures)
-          (value_turn t more (pos 16) 5 (omega arith) (λ x h. h) told c.push_kind-p-in-True.ensures),
+          (value_turn t more (pos 16) 5 (omega arith) (λ x h. h) told c.push_kind-in-True.ensures),
     )
 
 pub loop-at-smaller-in-False : goal.loop-at-smaller-in-False
@@ -216,7 +216,7 @@ loop-at-preserved-in-False c =
     let told = change_at es blank within c.in-False.is in (
       c.loop-at.invariant.0,
       rw (end_at es blank within c.args.entries.now c.loop-at.invariant.0 c.place-at-in-False.ensures)
-          (value_turn t more (pos 17) 6 (omega arith) (λ x h. h) told c.push_kind-p-in-False.ensures),
+          (value_turn t more (pos 17) 6 (omega arith) (λ x h. h) told c.push_kind-in-False.ensures),
     )
 
 -- ---- it is passed over

@@ -7,7 +7,7 @@ use Rattle.shortener.proofs.writing.write_formula.Given as goal
 abbrev pub invariant-loop-at : goal.invariant-loop-at
 invariant-loop-at l =
     (ends l.entries ≡ ends l.fn.entries)
-    × Turn l.words l.first l.end (ends l.fn.entries) (changes l.fn.entries) l.fn.short l.start l.at (changes l.entries) l.short l.p
+    × Turn l.words l.first l.end (ends l.fn.entries) (changes l.fn.entries) l.fn.out l.at (changes l.entries) l.out
 
 abbrev pub decreases-loop-at : goal.decreases-loop-at
 decreases-loop-at l = l.end - l.at
