@@ -16,7 +16,8 @@ use Rattle.script.specs.Words.{formula_words, rule_number, trailer, line_words, 
 use Rattle.script.specs.Listing.{form_of}
 use Rattle.script.specs.WellFormed.{AllInRange, InRangeᶠ}
 use Rattle.script.specs.Syntax.{Formula}
-use Rattle.theorems.specs.Writing.{Wrote, Left, wrote_nothing, then}
+use Rattle.output.specs.declared.Output.{Output}
+use Rattle.output.specs.Written.{Written, Left, nothing_written, then}
 use Rattle.theorems.specs.Line.{trailer_size}
 use Rattle.theorems.specs.Reading.{formula_back}
 use Rattle.list_reader.specs.Lines.{Tail}
@@ -137,35 +138,35 @@ turn_text t hk hw hr = rw (t.is, hk, hw, hr, t.kind, t.row, t.formula, name_is t
 
 -- ---- the walk that writes a line for each condition
 
-pub record Walking (out₀ : List ℕ) (at : ℕ) (ws : List ℤ) (out : List ℕ) (end i : ℕ) : Type 0 where
+pub record Walking (out₀ : Output ℕ) (ws : List ℤ) (out : Output ℕ) (i : ℕ) : Type 0 where
   pub conditions : List Condition
   pub ahead : Ahead ws i conditions
   pub inside : i < length ws
   pub within : length (lines (conditions_in ws)) ≤ 12 * i + length (lines conditions)
-  pub text : Left out₀ at (lines (conditions_in ws)) out end (lines conditions)
+  pub text : Left out₀ (lines (conditions_in ws)) out (lines conditions)
 
-pub set_out : (out : List ℕ) (at : ℕ) (ws : List ℤ) → Listed ws → Walking out at ws out at 0
-set_out out at ws l =
+pub set_out : (out : Output ℕ) (ws : List ℤ) → Listed ws → Walking out ws out 0
+set_out out ws l =
     let start = all_ahead ws l in
     record {
       conditions = conditions_in ws;
       ahead = start;
       inside = omega (linear, ap length start.words, length-append (all_lines (form_of ws) (conditions_in ws)) (start.count ∷ []));
       within = omega linear;
-      text = λ q out' w. w;
+      text = λ out' w. w;
     }
 
-pub arrived : {out₀ out : List ℕ} {at end i : ℕ} {ws : List ℤ} → Walking out₀ at ws out end i → length ws ≤ i + 1
-    → Wrote out₀ at (lines (conditions_in ws)) end out × (length (lines (conditions_in ws)) ≤ 12 * length ws)
+pub arrived : {out₀ out : Output ℕ} {i : ℕ} {ws : List ℤ} → Walking out₀ ws out i → length ws ≤ i + 1
+    → Written out₀ (lines (conditions_in ws)) out × (length (lines (conditions_in ws)) ≤ 12 * length ws)
 unfolding lines
 arrived w h =
     let none = over _ _ w.conditions w.ahead h in
-    (w.text _ _ (rw none (wrote_nothing _ _)), omega (linear, rw none at w.within, w.inside))
+    (w.text _ (rw none (nothing_written _)), omega (linear, rw none at w.within, w.inside))
 
-module _ {out₀ out : List ℕ} {at end i e n k : ℕ} {ws : List ℤ} {w r : ℤ} (here : Walking out₀ at ws out end i) (tail : Tail ws n)
+module _ {out₀ out : Output ℕ} {i e n k : ℕ} {ws : List ℤ} {w r : ℤ} (here : Walking out₀ ws out i) (tail : Tail ws n)
     (t : Turn ws i e n here.conditions) (hk : k ≡ field_number w) (hw : w ≡ get_or ws e (pos 0)) (hr : r ≡ get_or ws (e + 1) (pos 0)) where
-  pub walked_on : {end' : ℕ} {out' : List ℕ} → Wrote out end (line (name_of k) (r ∷ take (e - i) (drop i ws))) end' out'
-      → length (line (name_of k) (r ∷ take (e - i) (drop i ws))) ≤ 12 * length (take (e - i) (drop i ws)) + 36 → Walking out₀ at ws out' end' (e + n)
+  pub walked_on : {out' : Output ℕ} → Written out (line (name_of k) (r ∷ take (e - i) (drop i ws))) out'
+      → length (line (name_of k) (r ∷ take (e - i) (drop i ws))) ≤ 12 * length (take (e - i) (drop i ws)) + 36 → Walking out₀ ws out' (e + n)
   walked_on wrote short = record {
     conditions = t.others;
     ahead = t.ahead;
@@ -173,5 +174,5 @@ module _ {out₀ out : List ℕ} {at end i e n k : ℕ} {ws : List ℤ} {w r : �
     within =
         let first = line (name_of k) (r ∷ take (e - i) (drop i ws)) in
         omega (linear, here.within, tail.least, t.size, t.forward, short, ap length (turn_text t hk hw hr), length-append first (lines t.others));
-    text = λ q l v. here.text q l (rw (turn_text t hk hw hr) (then wrote v));
+    text = λ o v. here.text o (rw (turn_text t hk hw hr) (then wrote v));
   }

@@ -6,11 +6,14 @@
 
 ghost use Rattle.std.specs.Prelude.{◌≡◌, [], ◌∷◌, ◌+◌, ◌*◌, ◌≤◌, pos, length};
 ghost use Rattle.theorems.specs.Writing.{Wrote};
+ghost use Rattle.output.specs.Written.{Written};
 ghost use Rattle.text.specs.Decimal.{decimal};
 ghost use Rattle.printer.specs.Input.{words_of};
 ghost use Rattle.printer.specs.Text.{signed_decimal, rest_of_line, line, name, name_of, lines, conditions_in, answer_text, Listed};
 
+use output::Output;
 use script::{Answer, Rule};
+use text::Text;
 
 // Writes the words that the bytes spell, and gives their number.
 pub fn decode(bytes: &[u8], words: &mut [i32]) -> usize
@@ -26,46 +29,45 @@ pub fn decode(bytes: &[u8], words: &mut [i32]) -> usize
 }
 
 // A space and a number.
-fn put_count(out: &mut [u8], at: usize, n: usize) -> usize
-    ensures { Wrote out.old at (32 ∷ decimal n) result out.new }
+fn put_count(n: usize, out: &mut Output<'_, u8>)
+    ensures { Written out.old (32 ∷ decimal n) out.new }
 {
-    let end = text::push_byte(out, at, b' ');
-    text::push_number(out, end, n)
+    out.push_byte(b' ');
+    out.push_number(n);
 }
 
 // A space and a word.
-fn put_field(out: &mut [u8], at: usize, w: i32) -> usize
-    ensures { Wrote out.old at (32 ∷ signed_decimal w) result out.new }
+fn put_field(w: i32, out: &mut Output<'_, u8>)
+    ensures { Written out.old (32 ∷ signed_decimal w) out.new }
 {
     let n = text::magnitude(w);
     if w < 0 {
-        let end = text::push_text(out, at, b" -");
-        text::push_number(out, end, n)
+        out.push_text(b" -");
+        out.push_number(n);
     } else {
-        put_count(out, at, n)
+        put_count(n, out);
     }
 }
 
 // What stands after the first word of a line. A word has at most 11 characters.
-fn put_fields(out: &mut [u8], at: usize, words: &[i32]) -> usize
-    ensures wrote { Wrote out.old at (rest_of_line words.now) result out.new }
+fn put_fields(words: &[i32], out: &mut Output<'_, u8>)
+    ensures wrote { Written out.old (rest_of_line words.now) out.new }
     ensures words_len_bound { length (rest_of_line words.now) ≤ 12 * length words.now + 1 }
 {
-    let mut end = at;
     for word in words {
-        end = put_field(out, end, *word);
+        put_field(*word, out);
     }
-    text::push_byte(out, end, b'\n')
+    out.push_byte(b'\n');
 }
 
 // A line of a name and two numbers.
-fn put_heading(out: &mut [u8], name: &[u8], first: usize, second: usize) -> usize
-    ensures { Wrote out.old 0 (line name.now (pos first ∷ pos second ∷ [])) result out.new }
+fn put_heading(name: &[u8], first: usize, second: usize, out: &mut Output<'_, u8>)
+    ensures { Written out.old (line name.now (pos first ∷ pos second ∷ [])) out.new }
 {
-    let a = text::push_text(out, 0, name);
-    let b = put_count(out, a, first);
-    let c = put_count(out, b, second);
-    text::push_byte(out, c, b'\n')
+    out.push_text(name);
+    put_count(first, out);
+    put_count(second, out);
+    out.push_byte(b'\n');
 }
 
 // The rule of a condition of this kind.
@@ -83,44 +85,56 @@ fn rule_of(kind: usize) -> Rule
 }
 
 // The name of a rule.
-fn put_name(out: &mut [u8], at: usize, rule: Rule) -> usize
-    ensures { Wrote out.old at (name rule) result out.new }
+fn put_name(rule: Rule, out: &mut Output<'_, u8>)
+    ensures { Written out.old (name rule) out.new }
 {
     match rule {
-        Rule::Exit => text::push_text(out, at, b"exit"),
-        Rule::Floor => text::push_text(out, at, b"floor"),
-        Rule::Step => text::push_text(out, at, b"step"),
-        Rule::Main => text::push_text(out, at, b"main"),
-        Rule::Guard => text::push_text(out, at, b"guard"),
+        Rule::Exit => out.push_text(b"exit"),
+        Rule::Floor => out.push_text(b"floor"),
+        Rule::Step => out.push_text(b"step"),
+        Rule::Main => out.push_text(b"main"),
+        Rule::Guard => out.push_text(b"guard"),
     }
 }
 
 // The line of a condition.
-fn put_condition(out: &mut [u8], at: usize, kind: usize, row: i32, formula: &[i32]) -> usize
-    ensures wrote { Wrote out.old at (line (name_of kind) (row ∷ formula.now)) result out.new }
+fn put_condition(kind: usize, row: i32, formula: &[i32], out: &mut Output<'_, u8>)
+    ensures wrote { Written out.old (line (name_of kind) (row ∷ formula.now)) out.new }
     ensures formula_len_bound { length (line (name_of kind) (row ∷ formula.now)) ≤ 12 * length formula.now + 36 }
 {
-    let a = put_name(out, at, rule_of(kind));
-    let b = put_field(out, a, row);
-    put_fields(out, b, formula)
+    put_name(rule_of(kind), out);
+    put_field(row, out);
+    put_fields(formula, out);
 }
 
 // The lines of a list's conditions, first one first. The list may be in either form: its trailers, depths among them, are passed over.
-fn put_lines(out: &mut [u8], at: usize, list: &[i32]) -> usize
+fn put_lines(list: &[i32], out: &mut Output<'_, u8>)
     requires { Listed list.now }
-    ensures wrote { Wrote out.old at (lines (conditions_in list.now)) result out.new }
+    ensures wrote { Written out.old (lines (conditions_in list.now)) out.new }
     ensures list_len_bound { length (lines (conditions_in list.now)) ≤ 12 * length list.now }
 {
     let tail = list_reader::trailer_length(list);
-    let mut end = at;
     let mut i = 0;
     while i + 1 < list.len() {
         let e = list_reader::formula_end(list, i);
         let kind = script::field_number(list[e]);
-        end = put_condition(out, end, kind, list[e + 1], &list[i..e]);
+        put_condition(kind, list[e + 1], &list[i..e], out);
         i = e + tail;
     }
-    end
+}
+
+// The text of an answer.
+fn put_answer(answer: Answer, list: &[i32], out: &mut Output<'_, u8>)
+    requires { answer.number ≡ 0 → Listed list.now }
+    ensures wrote { Written out.old (answer_text answer (conditions_in list.now)) out.new }
+    ensures answer_len_bound { length (answer_text answer (conditions_in list.now)) ≤ 12 * length list.now + 64 }
+{
+    if answer.number == 0 {
+        put_heading(b"planned", answer.conditions, answer.words, out);
+        put_lines(list, out);
+    } else {
+        put_heading(b"refused", answer.number, answer.row, out);
+    }
 }
 
 // Writes the text of an answer: after a plan with the conditions of the list, which is all of it that was used.
@@ -130,10 +144,7 @@ pub fn render(answer: Answer, list: &[i32], out: &mut [u8]) -> usize
     ensures wrote { Wrote out.old 0 (answer_text answer (conditions_in list.now)) result out.new }
     ensures upper_bound { result ≤ length out.old }
 {
-    if answer.number == 0 {
-        let end = put_heading(out, b"planned", answer.conditions, answer.words);
-        put_lines(out, end, list)
-    } else {
-        put_heading(out, b"refused", answer.number, answer.row)
-    }
+    let mut text = Output { list: out, at: 0 };
+    put_answer(answer, list, &mut text);
+    text.at
 }

@@ -8,9 +8,9 @@ use Rattle.script.specs.Syntax.{Expr}
 use Rattle.script.specs.Words.{expr_words}
 use Rattle.script.specs.WellFormed.{InRange}
 use Rattle.theorems.specs.Reading.{expr_back}
-use Rattle.theorems.specs.Writing.{Wrote}
+use Rattle.output.specs.declared.Output.{Output}
+use Rattle.output.specs.Written.{Written}
 use Rattle.list_reader.specs.Ends.{rest_of, after_expression, ExpressionEnds, ends_past}
-use Rattle.smt_writer.specs.declared.terms.Reached.{Reached}
 use Rattle.theorems.specs.WordsAt.{Stands, front, behind, past, expression, node_inside}
 use Rattle.smt_writer.specs.Nodes.{NodeAt, at_place}
 use Rattle.smt_writer.specs.Openings.{by_zero_text, before_divisor}
@@ -35,12 +35,13 @@ pub record DividesBy (ws : List ℤ) (at : ℕ) (kind : Kind) : Type 0 where
 
 -- ---- what is left
 
-pub record ByZero (ws : List ℤ) (at k : ℕ) (l : List ℕ) (p q : ℕ) (l' : List ℕ) : Type 0 where
-  pub wrote : (n d : Expr) → DivisionAt ws at k n d → Wrote l p (by_zero_text k n) q l'
+pub record ByZero (ws : List ℤ) (at k : ℕ) (o o' : Output ℕ) : Type 0 where
+  pub wrote : (n d : Expr) → DivisionAt ws at k n d → Written o (by_zero_text k n) o'
 
-pub record Divided (ws : List ℤ) (at k : ℕ) (l : List ℕ) (p : ℕ) (r : Reached) (l' : List ℕ) : Type 0 where
-  pub wrote : (n d : Expr) → DivisionAt ws at k n d → Wrote l p (before_divisor k n d) r.place l'
-  pub divisor : (n d : Expr) → DivisionAt ws at k n d → r.end ≡ at + 1 + length (expr_words n)
+-- e is where the divisor stands
+pub record Divided (ws : List ℤ) (at k : ℕ) (o : Output ℕ) (e : ℕ) (o' : Output ℕ) : Type 0 where
+  pub wrote : (n d : Expr) → DivisionAt ws at k n d → Written o (before_divisor k n d) o'
+  pub divisor : (n d : Expr) → DivisionAt ws at k n d → e ≡ at + 1 + length (expr_words n)
 
 -- ---- the parts
 

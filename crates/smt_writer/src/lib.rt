@@ -10,6 +10,7 @@ mod terms;
 ghost use Rattle.std.specs.Prelude.{◌≡◌, length, replicate};
 ghost use Rattle.script.specs.Syntax.{Formula};
 ghost use Rattle.theorems.specs.Writing.{Wrote};
+ghost use Rattle.output.specs.Written.{Written};
 ghost use Rattle.smt.specs.Translate.{script};
 ghost use Rattle.smt.specs.Text.{script_text};
 ghost use Rattle.smt.specs.Written.{fit, written};
@@ -19,8 +20,9 @@ ghost use Rattle.smt_writer.specs.Refused.{refusal_number, refusal_of, number_to
 
 use list_reader::Missing;
 use names::write_declarations;
+use output::Output;
 use terms::write_node;
-use text::{clear, push_text};
+use text::{Text, clear};
 
 // Why no script is written, by the number of the refusal: the words are no list, a list without that condition, or the text has
 // no room.
@@ -51,15 +53,25 @@ impl From<Missing> for Refusal {
 }
 
 // Writes the script of the formula that the words spell.
-fn write_script(formula: &[i32], text: &mut [u8]) -> usize
+fn write_script(formula: &[i32], out: &mut Output<'_, u8>)
+    requires { Spelled formula.now }
+    ensures { (f : Formula) → Spells formula.now f → Written out.old (script_text (script f)) out.new }
+{
+    out.push_text(b"(set-logic QF_NIA)\n");
+    write_declarations(formula, out);
+    out.push_text(b"(assert (not ");
+    write_node(formula, 0, out);
+    out.push_text(b"))\n(check-sat)\n");
+}
+
+// The same into a run of bytes, from its start on; gives the place past it.
+fn write_from_start(formula: &[i32], text: &mut [u8]) -> usize
     requires { Spelled formula.now }
     ensures { (f : Formula) → Spells formula.now f → Wrote text.old 0 (script_text (script f)) result text.new }
 {
-    let logic = push_text(text, 0, b"(set-logic QF_NIA)\n");
-    let declared = write_declarations(formula, text, logic);
-    let opened = push_text(text, declared, b"(assert (not ");
-    let reached = write_node(formula, 0, text, opened);
-    push_text(text, reached.place, b"))\n(check-sat)\n")
+    let mut out = Output { list: text, at: 0 };
+    write_script(formula, &mut out);
+    out.at
 }
 
 // Writes the script of the formula that the words spell into a run that is cleared, or leaves zeros where it has no room.
@@ -68,7 +80,7 @@ fn write_fitting(formula: &[i32], text: &mut [u8]) -> Result<usize, Refusal>
     ensures { (f : Formula) → Spells formula.now f
         → Answered (fit (script_text (script f)) (length text.old)) result text.new }
 {
-    let used = write_script(formula, text);
+    let used = write_from_start(formula, text);
     if text.len() < used {
         clear(text);
         return Err(Refusal::NoRoom);

@@ -3,15 +3,16 @@
 
 ghost use Rattle.std.specs.Prelude.{◌≡◌, ◌-◌, ◌≤◌, ◌<◌, eqb, length, set};
 ghost use Rattle.script.specs.Syntax.{Formula};
-ghost use Rattle.theorems.specs.Writing.{Wrote};
+ghost use Rattle.output.specs.Written.{Written};
 ghost use Rattle.smt.specs.Translate.{variable, mark, letter, name, references, declared_references};
 ghost use Rattle.smt.specs.Pieces.{declaration_text, declarations_text};
 ghost use Rattle.smt_writer.specs.Nodes.{Spells, Spelled};
 ghost use Rattle.smt_writer.specs.Noted.{names, reference_at, variable_place, mark_place, noted, past, top_of, declared_if, declared_from};
 
 use list_reader::kind_at;
+use output::Output;
 use script::{Kind, RowNumber, VARIABLES, VariableNumber, field_number};
-use text::{push_byte, push_number, push_text};
+use text::Text;
 
 // How many names: variables and marks.
 const NAMES: usize = VARIABLES + 2048;
@@ -22,18 +23,18 @@ fn letter_of(v: VariableNumber) -> u8
     if script::is_frozen(v) { b'f' } else { b'v' }
 }
 
-pub fn write_variable(text: &mut [u8], at: usize, v: VariableNumber) -> usize
-    ensures { Wrote text.old at (name (variable v.0)) result text.new }
+pub fn write_variable(v: VariableNumber, out: &mut Output<'_, u8>)
+    ensures { Written out.old (name (variable v.0)) out.new }
 {
-    let p = push_byte(text, at, letter_of(v));
-    push_number(text, p, v.0)
+    out.push_byte(letter_of(v));
+    out.push_number(v.0);
 }
 
-pub fn write_mark(text: &mut [u8], at: usize, r: RowNumber) -> usize
-    ensures { Wrote text.old at (name (mark r.0)) result text.new }
+pub fn write_mark(r: RowNumber, out: &mut Output<'_, u8>)
+    ensures { Written out.old (name (mark r.0)) out.new }
 {
-    let p = push_byte(text, at, b'm');
-    push_number(text, p, r.0)
+    out.push_byte(b'm');
+    out.push_number(r.0);
 }
 
 // The places past the last variable and past the last mark that are noted.
@@ -82,54 +83,51 @@ fn note_names(formula: &[i32], flags: &mut [u8]) -> Tops
 }
 
 // Writes the name at a place of the run.
-fn write_name(text: &mut [u8], at: usize, k: usize) -> usize
-    ensures { Wrote text.old at (name (reference_at k)) result text.new }
+fn write_name(k: usize, out: &mut Output<'_, u8>)
+    ensures { Written out.old (name (reference_at k)) out.new }
 {
     if k < VARIABLES {
-        write_variable(text, at, VariableNumber(k))
+        write_variable(VariableNumber(k), out);
     } else {
-        write_mark(text, at, RowNumber(k - VARIABLES))
+        write_mark(RowNumber(k - VARIABLES), out);
     }
 }
 
-fn write_declaration(text: &mut [u8], at: usize, k: usize) -> usize
-    ensures { Wrote text.old at (declaration_text (reference_at k)) result text.new }
+fn write_declaration(k: usize, out: &mut Output<'_, u8>)
+    ensures { Written out.old (declaration_text (reference_at k)) out.new }
 {
-    let opened = push_text(text, at, b"(declare-const ");
-    let named = write_name(text, opened, k);
-    push_text(text, named, b" Int)\n")
+    out.push_text(b"(declare-const ");
+    write_name(k, out);
+    out.push_text(b" Int)\n");
 }
 
 // Writes a declaration where the name is noted.
-fn declare_noted(text: &mut [u8], at: usize, k: usize, flag: u8) -> usize
-    ensures { Wrote text.old at (declared_if (eqb flag 0) k) result text.new }
+fn declare_noted(k: usize, flag: u8, out: &mut Output<'_, u8>)
+    ensures { Written out.old (declared_if (eqb flag 0) k) out.new }
 {
-    if flag == 0 {
-        return at;
+    if flag != 0 {
+        write_declaration(k, out);
     }
-    write_declaration(text, at, k)
 }
 
 // Writes the declarations of the names that are noted from a place to a top.
-fn declare_names(flags: &[u8], first: usize, top: usize, text: &mut [u8], at: usize) -> usize
+fn declare_names(flags: &[u8], first: usize, top: usize, out: &mut Output<'_, u8>)
     requires { top ≤ length flags.now }
-    ensures { Wrote text.old at (declared_from flags.now first (top - first)) result text.new }
+    ensures { Written out.old (declared_from flags.now first (top - first)) out.new }
 {
-    let mut p = at;
     for k in first..top {
-        p = declare_noted(text, p, k, flags[k]);
+        declare_noted(k, flags[k], out);
     }
-    p
 }
 
 // Writes a declaration for each variable, then for each mark, that occurs in a formula, in rising number.
-pub fn write_declarations(formula: &[i32], text: &mut [u8], at: usize) -> usize
+pub fn write_declarations(formula: &[i32], out: &mut Output<'_, u8>)
     requires { Spelled formula.now }
     ensures { (f : Formula) → Spells formula.now f
-        → Wrote text.old at (declarations_text (declared_references (references f))) result text.new }
+        → Written out.old (declarations_text (declared_references (references f))) out.new }
 {
     let mut flags = [0u8; NAMES];
     let tops = note_names(formula, &mut flags);
-    let p = declare_names(&flags, 0, tops.variables, text, at);
-    declare_names(&flags, VARIABLES, tops.marks, text, p)
+    declare_names(&flags, 0, tops.variables, out);
+    declare_names(&flags, VARIABLES, tops.marks, out);
 }

@@ -1,59 +1,79 @@
-// ASCII text written into a lent run of bytes, up to the first byte that has no room: bytes, numbers, and the run cleared.
+// ASCII text written into an output of bytes (crate `output`): runs of bytes, all of them or none, and numbers. Then a run of bytes
+// cleared.
 
 #![tactic(auto)]
 
 ghost use Rattle.std.specs.Prelude.{◌≡◌, [], ◌∷◌, ◌+◌, ◌%◌, nat_abs, length, replicate};
-ghost use Rattle.theorems.specs.Writing.{Wrote};
+ghost use Rattle.output.specs.Written.{Written};
 ghost use Rattle.text.specs.Decimal.{decimal};
 
-// Puts a zero into every byte.
-pub fn clear(text: &mut [u8])
-    ensures { text.new ≡ replicate (length text.old) 0 }
-{
-    text.fill(0);
+use output::Output;
+
+// Text goes into an output of bytes.
+pub trait Text {
+    fn push_byte(&mut self, byte: u8);
+
+    fn push_text(&mut self, bytes: &[u8]);
+
+    fn push_repeated(&mut self, byte: u8, count: usize);
+
+    fn push_number(&mut self, n: usize);
 }
 
-// Writes one byte. A place is where the next byte goes; past the end of the run it says that there was no room (`Wrote`: a writer
-// goes on from any place with no test, and the last place tells).
-pub fn push_byte(text: &mut [u8], at: usize, byte: u8) -> usize
-    ensures { Wrote text.old at (byte ∷ []) result text.new }
-{
-    if at < text.len() {
-        text[at] = byte;
-        at + 1
-    } else {
-        text.len() + 1
+impl<'a> Text for Output<'a, u8> {
+    // Writes one byte.
+    fn push_byte(&mut self, byte: u8)
+        ensures { Written self.old (byte ∷ []) self.new }
+    {
+        self.push(byte);
     }
-}
 
-// Writes one byte a number of times.
-pub fn push_repeated(text: &mut [u8], at: usize, byte: u8, count: usize) -> usize
-    ensures { Wrote text.old at (replicate count byte) result text.new }
-{
-    if text.len() < at {
-        return at;
+    // Writes bytes, all of them or none.
+    fn push_text(&mut self, bytes: &[u8])
+        ensures { Written self.old bytes.now self.new }
+    {
+        let at = self.at;
+        if self.list.len() < at {
+            return;
+        }
+        if self.list.len() - at < bytes.len() {
+            self.at = self.list.len() + 1;
+            return;
+        }
+        let end = at + bytes.len();
+        self.list[at..end].copy_from_slice(bytes);
+        self.at = end;
     }
-    if text.len() - at < count {
-        return text.len() + 1;
-    }
-    let end = at + count;
-    text[at..end].fill(byte);
-    end
-}
 
-// Writes bytes, all of them or none.
-pub fn push_text(text: &mut [u8], at: usize, bytes: &[u8]) -> usize
-    ensures { Wrote text.old at bytes.now result text.new }
-{
-    if text.len() < at {
-        return at;
+    // Writes one byte a number of times, or not at all.
+    fn push_repeated(&mut self, byte: u8, count: usize)
+        ensures { Written self.old (replicate count byte) self.new }
+    {
+        let at = self.at;
+        if self.list.len() < at {
+            return;
+        }
+        if self.list.len() - at < count {
+            self.at = self.list.len() + 1;
+            return;
+        }
+        let end = at + count;
+        self.list[at..end].fill(byte);
+        self.at = end;
     }
-    if text.len() - at < bytes.len() {
-        return text.len() + 1;
+
+    // Writes a number.
+    fn push_number(&mut self, n: usize)
+        ensures { Written self.old (decimal n) self.new }
+    {
+        let last = digit(n);
+        if n < 10 {
+            self.push_byte(last);
+        } else {
+            self.push_number(n / 10);
+            self.push_byte(last);
+        }
     }
-    let end = at + bytes.len();
-    text[at..end].copy_from_slice(bytes);
-    end
 }
 
 // The last digit of a number.
@@ -63,16 +83,11 @@ fn digit(n: usize) -> u8
     48 + (n % 10) as u8
 }
 
-// Writes a number.
-pub fn push_number(text: &mut [u8], at: usize, n: usize) -> usize
-    ensures { Wrote text.old at (decimal n) result text.new }
+// Puts a zero into every byte.
+pub fn clear(text: &mut [u8])
+    ensures { text.new ≡ replicate (length text.old) 0 }
 {
-    if n < 10 {
-        push_byte(text, at, digit(n))
-    } else {
-        let p = push_number(text, at, n / 10);
-        push_byte(text, p, digit(n))
-    }
+    text.fill(0);
 }
 
 // A word without its sign.

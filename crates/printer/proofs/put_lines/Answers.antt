@@ -2,17 +2,18 @@
 use Rattle.std.proofs.Common.{rules, arith, ◌+◌, ◌^◌, ◌<◌, length, get_or, ℕ, ℤ, List, pos}
 use lib.Signed.{mag}
 use Rattle.script.specs.Laws.{back}
+use Rattle.output.specs.declared.Output.{Output}
 use Rattle.list_reader.specs.Lines.{Tail}
 use Rattle.list_reader.specs.Ends.{FormulaEnds}
 use Rattle.printer.proofs.Walk.{Walking, Turn, turn, set_out, arrived, walked_on}
 use Rattle.printer.proofs.put_lines.Goals as goal
 
-here : {out₀ out : List ℕ} {at end i e n : ℕ} {ws : List ℤ} → (w : Walking out₀ at ws out end i) → i + 1 < length ws → Tail ws n
+here : {out₀ out : Output ℕ} {i e n : ℕ} {ws : List ℤ} → (w : Walking out₀ ws out i) → i + 1 < length ws → Tail ws n
     → FormulaEnds ws i e → Turn ws i e n w.conditions
 here w = turn _ _ _ _ _ w.ahead
 
 pub loop-i-init : goal.loop-i-init
-loop-i-init c = set_out _ _ _ c.requires
+loop-i-init c = set_out _ _ c.requires
 
 pub offset_bounds-list-e : goal.offset_bounds-list-e
 offset_bounds-list-e c =
@@ -65,7 +66,7 @@ loop-i-preserved c =
     let e = c.formula_end-e.result in
     let kind : mag (get_or c.args.list.now e (pos 0)) < 2 ^ 31 = search rules in
     let row : mag (get_or c.args.list.now (e + 1) (pos 0)) < 2 ^ 31 = search rules in
-    let line = c.put_condition-end.ensures in
+    let line = c.put_condition.ensures in
     walked_on c.loop-i.invariant c.trailer_length-tail.ensures t c.field_number-kind.ensures (back kind) (back row) line.wrote line.formula_len_bound
 
 pub returns-clause-wrote : goal.returns-clause-wrote

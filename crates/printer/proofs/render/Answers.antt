@@ -1,38 +1,8 @@
--- There is room for the heading and the lines.
-use Rattle.std.proofs.Common.{rules, arith, [], ◌∷◌, pos}
-use Rattle.std.proofs.Math.ListN.{length-append}
-use Rattle.text.specs.Ascii.{bytes}
-use Rattle.theorems.specs.Writing.{then, wrote_room}
-use Rattle.printer.specs.Text.{line, lines, conditions_in}
-use Rattle.printer.proofs.Lines.{planned_is, refused_is}
-use Rattle.printer.proofs.Short.{heading_short}
+-- There is room for the text.
+use Rattle.std.proofs.Common.{arith}
+use Rattle.theorems.specs.Writing.{wrote_room}
 use Rattle.printer.proofs.render.Goals as goal
 
-pub returns-then-answer-eq0-clause-wrote : goal.returns-then-answer-eq0-clause-wrote
-returns-then-answer-eq0-clause-wrote c =
-    rw (planned_is c.args.answer (conditions_in c.args.list.now) c.if-answer-eq0.true)
-    (then c.put_heading-end.ensures c.put_lines.ensures.wrote)
-
-pub returns-then-answer-eq0-clause-upper_bound : goal.returns-then-answer-eq0-clause-upper_bound
-returns-then-answer-eq0-clause-upper_bound c =
-    let answer = c.args.answer in
-    let heading = line (bytes "planned") (pos answer.conditions ∷ pos answer.words ∷ []) in
-    let short = heading_short (bytes "planned") answer.conditions answer.words (search rules) (search rules) in
-    wrote_room
-    (then c.put_heading-end.ensures c.put_lines.ensures.wrote)
-    (omega (
-      arith,
-      length-append heading (lines (conditions_in c.args.list.now)),
-      short,
-      c.put_lines.ensures.list_len_bound,
-      c.requires.list_in_bounds,
-    ))
-
-pub returns-else-answer-eq0-clause-wrote : goal.returns-else-answer-eq0-clause-wrote
-returns-else-answer-eq0-clause-wrote c =
-    rw (refused_is c.args.answer (conditions_in c.args.list.now) c.if-answer-eq0.false) c.put_heading.ensures
-
-pub returns-else-answer-eq0-clause-upper_bound : goal.returns-else-answer-eq0-clause-upper_bound
-returns-else-answer-eq0-clause-upper_bound c =
-    let short = heading_short (bytes "refused") c.args.answer.number c.args.answer.row (search rules) (search rules) in
-    wrote_room c.put_heading.ensures (omega (arith, short, c.requires.list_in_bounds))
+pub returns-clause-upper_bound : goal.returns-clause-upper_bound
+returns-clause-upper_bound c =
+    wrote_room c.put_answer.ensures.wrote.wrote (omega (arith, c.put_answer.ensures.answer_len_bound, c.requires.list_in_bounds))

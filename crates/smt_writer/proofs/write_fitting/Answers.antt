@@ -6,5 +6,5 @@ use Rattle.smt_writer.proofs.write_fitting.Goals as goal
 
 pub returns : goal.returns
 returns c f s =
-    let wrote = c.write_script-used.ensures f s in
+    let wrote = c.write_from_start-used.ensures f s in
     fitting c.requires.1 wrote (omega (arith, wrote_length wrote, c.if-text-used.false))

@@ -13,8 +13,8 @@ decreases-write_division l = 4 * (length l.words.now - l.at) + 2
 abbrev pub decreases-write_node : goal.decreases-write_node
 decreases-write_node l = 4 * (length l.words.now - l.first) + 3
 
-abbrev pub invariant-write_node-loop-p : goal.invariant-write_node-loop-p
-invariant-write_node-loop-p l = Turns l.words l.first l.initial.text l.start l.at l.p l.closing l.text
+abbrev pub invariant-write_node-loop-kind : goal.invariant-write_node-loop-kind
+invariant-write_node-loop-kind l = Turns l.words l.first l.initial.out l.at l.closing l.out
 
-abbrev pub decreases-write_node-loop-p : goal.decreases-write_node-loop-p
-decreases-write_node-loop-p l = length l.words - l.at
+abbrev pub decreases-write_node-loop-kind : goal.decreases-write_node-loop-kind
+decreases-write_node-loop-kind l = length l.words - l.at

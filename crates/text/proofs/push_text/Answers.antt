@@ -1,6 +1,0 @@
-use Rattle.std.proofs.Common.{refl, arith}
-use Rattle.text.proofs.Parts.{part_written}
-use Rattle.text.proofs.push_text.Goals as goal
-
-pub returns : goal.returns
-returns c = part_written _ _ _ _ _ (omega arith) refl c.copy_from_slice.ensures.after
