@@ -2,7 +2,7 @@
 // D of a node with one part that divides, and no divisor of its own, is D of that part: such nodes are passed over, down to
 // the source, where D has a word of its own. It is found once for a table, from the first row up, and then only read. It goes
 // into the run that has what follows each statement, at the entries of expressions and formulas, which are free there
-// (`specs/Divided.antt` says what an entry means). (a) No heap: an entry is a word of the lent scratch, and no Option.
+// (`specs/Divided.antt` says what an entry means). An entry is a word of the lent scratch, so it is a number and no Option.
 
 #![tactic(auto)]
 
@@ -41,7 +41,7 @@ pub fn source(follow: &[i32], r: RowNumber) -> RowNumber
     RowNumber(entry(follow, r) - 1)
 }
 
-// Whether a kind is div or mod. (a) The public parameter stays a number, as it was read.
+// Whether a kind is div or mod, whatever the number.
 pub fn is_division(kind: usize) -> bool
     ensures { result ≡ division kind }
 {

@@ -57,7 +57,7 @@ fn pass_blocks(v: VariableNumber, path: &[i32], j: usize) -> usize
     ensures { Blocks path.now v.0 j result }
 {
     let mut k = j;
-    // (d) `(8..=j).rev().step_by(8)` would need `j % 8` after it
+    // no `for`: `(8..=j).rev().step_by(8)` would need `j % 8` after it
     while 8 <= k {
         if is_in_block(v, path, k - 8) {
             return k;

@@ -30,7 +30,7 @@ pub struct Progress {
 // What lines are written into, with the number of conditions before its place.
 #[derive(Drop)]
 pub struct Lines<'a, 'b> {
-    // (c) by `&mut`: of a list two structs deep the maker of both is told no more than its length
+    // by `&mut`: of a list two structs deep the maker of both is told no more than its length
     pub out: &'a mut Output<'b, i32>,
     pub count: usize,
 }

@@ -74,7 +74,7 @@ pub fn write_before(
 {
     let mut s = first;
     let mut j = passed;
-    // (a) no heap: 2048, a word of the lent scratch, says that nothing follows
+    // 2048, a word of the lent scratch, says that nothing follows
     while s != 2048 {
         if !out.fits() {
             return;
