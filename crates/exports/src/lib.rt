@@ -200,16 +200,12 @@ pub extern "C" fn leqwarti_smt(
     ensures used { used.new ≡ (written words.now index (length text.old)).used }
     ensures text { text.new ≡ (written words.now index (length text.old)).buffer }
 {
-    match smt_writer::write_condition(words, index, text) {
-        Ok(bytes) => {
-            *number = 0;
-            *used = bytes;
-        }
-        Err(refusal) => {
-            *number = refusal.number();
-            *used = 0;
-        }
-    }
+    let (refused, bytes) = match smt_writer::write_condition(words, index, text) {
+        Ok(bytes) => (0, bytes),
+        Err(refusal) => (refusal.number(), 0),
+    };
+    *number = refused;
+    *used = bytes;
 }
 
 // Reads a script's text: number and place, how many words of the table were used, and the table.
@@ -226,18 +222,13 @@ pub extern "C" fn leqwarti_read(
     ensures used { used.new ≡ (answer text.now (length words.old)).used }
     ensures words { words.new ≡ (answer text.now (length words.old)).words }
 {
-    match script_reader::read_text(text, words) {
-        Ok(read) => {
-            *number = 0;
-            *place = 0;
-            *used = read;
-        }
-        Err(refusal) => {
-            *number = refusal.fault.number();
-            *place = refusal.place;
-            *used = 0;
-        }
-    }
+    let (fault, at, read) = match script_reader::read_text(text, words) {
+        Ok(read) => (0, 0, read),
+        Err(refusal) => (refusal.fault.number(), refusal.place, 0),
+    };
+    *number = fault;
+    *place = at;
+    *used = read;
 }
 
 // Writes a list whose conditions are shortened: number, and how many words of the new list were used.
@@ -252,16 +243,12 @@ pub extern "C" fn leqwarti_shorten(
     ensures used { used.new ≡ (written_short order list.now (length short.old)).used }
     ensures short { short.new ≡ (written_short order list.now (length short.old)).list }
 {
-    match shortener::shorten(list, short) {
-        Ok(words) => {
-            *number = 0;
-            *used = words;
-        }
-        Err(fault) => {
-            *number = fault.number();
-            *used = 0;
-        }
-    }
+    let (refusal, length) = match shortener::shorten(list, short) {
+        Ok(words) => (0, words),
+        Err(refusal) => (refusal.number(), 0),
+    };
+    *number = refusal;
+    *used = length;
 }
 
 // The shorter of the two formulas at an index: number, in which list it stands (0 the old, 1 the new), and from where to where.

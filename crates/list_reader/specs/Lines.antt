@@ -90,6 +90,16 @@ Told (P.Err m) l = no_line (refusal m) ≡ l
 abbrev pub place_after : Line → ℕ → ℕ
 place_after l e = cond (eqb l.number 0) l.start e
 
+-- the same, from an answer
+abbrev pub place_of : P.Result Line Missing → ℕ → ℕ
+place_of (P.Ok l) e = l.start
+place_of (P.Err m) e = e
+
+-- an answer as a line alone: the line, or one of zeros with the number of the refusal
+abbrev pub line_alone : P.Result Line Missing → Line
+line_alone (P.Ok l) = l
+line_alone (P.Err m) = no_line (refusal m)
+
 -- ---- a whole list, and the line at an index
 
 -- n lines that end at a place, in the form that the last word tells

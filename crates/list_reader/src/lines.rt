@@ -7,7 +7,7 @@ ghost use Rattle.script.specs.Kinds.{kind_of};
 ghost use Rattle.script.specs.declared.Line.{Line};
 ghost use Rattle.script.specs.Listing.{rule_of, below, last_word, step_back};
 ghost use Rattle.list_reader.specs.Lines.{is_some, line_ending, Tail, trailer_at, is_line, found_by, start_found};
-ghost use Rattle.list_reader.specs.Lines.{trailer_line, line_told, refusal, Told, place_after};
+ghost use Rattle.list_reader.specs.Lines.{trailer_line, line_told, refusal, Told, place_after, place_of, line_alone};
 
 use crate::formulas::is_formula;
 use script::{Kind, Line};
@@ -175,7 +175,8 @@ pub fn line_before(words: &[i32], end: usize) -> Result<Line, Missing>
 
 // The place that a reader moves to from the place end, with what it read there.
 pub fn place_after(read: Result<Line, Missing>, end: usize) -> usize
-    ensures { (line : Line) → Told read line → result ≡ place_after line end }
+    ensures place { result ≡ place_of read end }
+    ensures told { (line : Line) → Told read line → result ≡ place_after line end }
 {
     match read {
         Ok(line) => line.start,
@@ -185,7 +186,8 @@ pub fn place_after(read: Result<Line, Missing>, end: usize) -> usize
 
 // An answer as a line alone: the line, or one of zeros with the number of the refusal.
 pub fn as_line(read: Result<Line, Missing>) -> Line
-    ensures { (line : Line) → Told read line → result ≡ line }
+    ensures line { result ≡ line_alone read }
+    ensures told { (line : Line) → Told read line → result ≡ line }
 {
     match read {
         Ok(line) => line,

@@ -17,8 +17,8 @@ pub struct Output<'a, T> {
 }
 
 impl<'a, T: Copy> Output<'a, T> {
-    // Writes one element.
-    pub fn push(&mut self, element: T)
+    // Writes one element. (A slice whose elements have a size has fewer than that.)
+    pub fn put(&mut self, element: T)
         requires { length self.old.list.now < 18446744073709551615 }
         ensures { Written self.old (element ∷ []) self.new }
     {
@@ -40,6 +40,13 @@ impl<'a, T: Copy> Output<'a, T> {
 }
 
 impl<'a> Output<'a, i32> {
+    // Writes one word.
+    pub fn push(&mut self, word: i32)
+        ensures { Written self.old (word ∷ []) self.new }
+    {
+        self.put(word);
+    }
+
     // Writes two words.
     pub fn push_two(&mut self, first: i32, second: i32)
         ensures { Written self.old (first ∷ second ∷ []) self.new }

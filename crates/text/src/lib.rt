@@ -25,7 +25,7 @@ impl<'a> Text for Output<'a, u8> {
     fn push_byte(&mut self, byte: u8)
         ensures { Written self.old (byte ∷ []) self.new }
     {
-        self.push(byte);
+        self.put(byte);
     }
 
     // Writes bytes, all of them or none.
