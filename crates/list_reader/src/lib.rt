@@ -12,7 +12,7 @@ ghost use Rattle.list_reader.specs.Lines.{is_some, lines_ending, line_among, Cla
 
 pub use formulas::{expression_end, formula_end};
 use lines::{last_word, line_told, start_before};
-pub use lines::{Missing, as_line, kind_at, line_before, place_after, trailer_length};
+pub use lines::{Missing, as_line, kind_at, line_before, place_after, place_of, trailer_length};
 use script::Line;
 
 // The line at an index of the count lines that end at a place, walked from the end back: its own place is kept on the way.

@@ -173,8 +173,15 @@ pub fn line_before(words: &[i32], end: usize) -> Result<Line, Missing>
     }
 }
 
-// The place that a reader moves to from the place end, with what it read there.
-pub fn place_after(read: Result<Line, Missing>, end: usize) -> usize
+// The place that a reader moves to from the place end, with the line that it read there.
+pub fn place_after(line: Line, end: usize) -> usize
+    ensures { result ≡ place_after line end }
+{
+    if line.number == 0 { line.start } else { end }
+}
+
+// The same, with what it read there.
+pub fn place_of(read: Result<Line, Missing>, end: usize) -> usize
     ensures place { result ≡ place_of read end }
     ensures told { (line : Line) → Told read line → result ≡ place_after line end }
 {

@@ -35,7 +35,7 @@ pub fn step<'a>(r: Reader<'a>) -> (Result<Line, Missing>, Reader<'a>)
     ensures reader { result.1 ≡ moved r.entry }
 {
     let line = list_reader::line_before(r.words, r.end);
-    let end = list_reader::place_after(line, r.end);
+    let end = list_reader::place_of(line, r.end);
     let reader = Reader {
         words: r.words,
         end,

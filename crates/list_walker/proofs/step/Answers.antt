@@ -8,4 +8,4 @@ pub returns-clause-reader : goal.returns-clause-reader
 returns-clause-reader c =
     let r = c.args.r in
     let made : ℕ → Reader = λ n. record { words = r.words; end = n } in
-    ap made (c.place_after-end.ensures.told _ c.line_before-line.ensures ∙ place_after_is r.words.now r.end refl)
+    ap made (c.place_of-end.ensures.told _ c.line_before-line.ensures ∙ place_after_is r.words.now r.end refl)
