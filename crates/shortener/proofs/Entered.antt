@@ -5,7 +5,6 @@ use mathlib.Core.List.{List}
 use lib.IntN.{ℤ}
 use lib.ListN.{length, get_or, set}
 use Rattle.std.proofs.lemmas.List.{get_or-map, length-map, map-set}
-use Rattle.std.proofs.Math.ListN as ListN
 use Rattle.std.proofs.Math.Seq.{map-set_same}
 use Rattle.shortener.specs.declared.rules.Change.{Change}
 use Rattle.shortener.specs.declared.plan.Entry.{Entry}
@@ -14,23 +13,7 @@ use Rattle.shortener.specs.Entries.{entry, entry_at}
 use Rattle.shortener.specs.Planning.{BackTo, back_one}
 use Rattle.output.specs.declared.Output.{Output}
 use Rattle.shortener.specs.Turns.{Begins, Turn}
-use Rattle.shortener.specs.Runs.{shape_told, change_told, coded, ends, shapes, changes, blank}
-
--- ---- at any place
-
-module _ (es : List Entry) (at : ℕ) {e : Entry} (q : e ≡ get_or es at blank) where
-  pub end_read : e.end ≡ get_or (ends es) at 0
-  end_read = ap (λ (x : Entry). x.end) q ∙ sym (ListN.get_or-map (λ (x : Entry). x.end) es at blank)
-
-  pub shape_read : shape_told e.shape ≡ get_or (shapes es) at 0
-  shape_read = ap (λ (x : Entry). shape_told x.shape) q ∙ sym (ListN.get_or-map (λ (x : Entry). shape_told x.shape) es at blank)
-
-  -- at a place that was read
-  pub end_read_at : {n : ℕ} → at ≡ n → e.end ≡ get_or (ends es) n 0
-  end_read_at p = end_read ∙ ap (λ k. get_or (ends es) k 0) p
-
-  pub shape_read_at : {n : ℕ} → at ≡ n → shape_told e.shape ≡ get_or (shapes es) n 0
-  shape_read_at p = shape_read ∙ ap (λ k. get_or (shapes es) k 0) p
+use Rattle.shortener.specs.Runs.{shape_told, change_told, coded, ends, shapes, changes}
 
 -- what becomes of a node gives its shape
 pub changed_is : {e e' t t' x x' y y' s : ℕ} → e ≡ e' → t ≡ t' → x ≡ x' → y ≡ y' → s ≡ changed_shape_code t x y

@@ -7,7 +7,7 @@ ghost use Rattle.script.specs.Kinds.{kind_of};
 ghost use Rattle.shortener.specs.Codes.{kept_code, numbered_code, other_code};
 ghost use Rattle.shortener.specs.Entries.{entry, number_code, pair_entry, not_entry, entry_at};
 ghost use Rattle.shortener.specs.Planning.{Roomy, Planned};
-ghost use Rattle.shortener.specs.Runs.{shape_told, coded, ends, shapes, changes, blank};
+ghost use Rattle.shortener.specs.Runs.{shape_told, coded, ends, shapes, changes};
 
 use crate::rules::{Change, Shape, changed_shape, not_change, pair_change};
 use list_reader::kind_at;
@@ -35,15 +35,35 @@ pub fn place(end: u16) -> usize
     end as usize
 }
 
-// The entry of the part that begins at a place; the blank one past the run's end.
-fn part_at(entries: &[Entry], at: usize) -> Entry
-    ensures { result ≡ get_or entries.now at blank }
+// The place past the part that begins at a place; 0 past the run's end.
+fn end_at(entries: &[Entry], at: usize) -> u16
+    ensures { result ≡ get_or (ends entries.now) at 0 }
 {
     if at < entries.len() {
-        entries[at]
+        entries[at].end
     } else {
-        BLANK
+        0
     }
+}
+
+// The shape of the part that begins at a place; that of 0 past the run's end.
+fn shape_at(entries: &[Entry], at: usize) -> Shape
+    ensures { shape_told result ≡ get_or (shapes entries.now) at 0 }
+{
+    if at < entries.len() {
+        entries[at].shape
+    } else {
+        Shape::Zero
+    }
+}
+
+// Puts an entry at its place, field by field: the entry before it reads one field at once, and would wait for a word put together.
+fn put(place: &mut Entry, entry: Entry)
+    ensures { place.new ≡ entry }
+{
+    place.end = entry.end;
+    place.shape = entry.shape;
+    place.change = entry.change;
 }
 
 // The shape of the constant whose number stands at a place; that of 0 past the words' end.
@@ -66,14 +86,11 @@ fn not_entry(at: usize, entries: &[Entry]) -> Entry
     requires { at < 16384 }
     ensures { coded result ≡ not_entry (ends entries.now) (shapes entries.now) at }
 {
-    let part = part_at(entries, at + 1);
-    let change = not_change(part.shape);
-    let shape = changed_shape(change, part.shape, Shape::Other);
-    Entry {
-        end: part.end,
-        shape,
-        change,
-    }
+    let end = end_at(entries, at + 1);
+    let x = shape_at(entries, at + 1);
+    let change = not_change(x);
+    let shape = changed_shape(change, x, Shape::Other);
+    Entry { end, shape, change }
 }
 
 // The entry of a node with two parts at a place.
@@ -81,15 +98,13 @@ fn pair_entry(kind: Kind, at: usize, entries: &[Entry]) -> Entry
     requires { at < 16384 }
     ensures { (k : ℕ) → kind ≡ kind_of k → coded result ≡ pair_entry k (ends entries.now) (shapes entries.now) at }
 {
-    let first = part_at(entries, at + 1);
-    let second = part_at(entries, place(first.end));
-    let change = pair_change(kind, first.shape, second.shape);
-    let shape = changed_shape(change, first.shape, second.shape);
-    Entry {
-        end: second.end,
-        shape,
-        change,
-    }
+    let middle = place(end_at(entries, at + 1));
+    let end = end_at(entries, middle);
+    let x = shape_at(entries, at + 1);
+    let y = shape_at(entries, middle);
+    let change = pair_change(kind, x, y);
+    let shape = changed_shape(change, x, y);
+    Entry { end, shape, change }
 }
 
 // The entry of a constant, a variable or a mark at a place.
@@ -139,11 +154,11 @@ fn entry_at(words: &[i32], at: usize, entries: &[Entry]) -> Entry
         Kind::Mark => number_entry(at, Shape::Other),
         Kind::True => truth_entry(at, Shape::True),
         Kind::False => truth_entry(at, Shape::False),
-        Kind::Negate => kept_entry(part_at(entries, at + 1).end),
+        Kind::Negate => kept_entry(end_at(entries, at + 1)),
         Kind::Choose => {
-            let formula = part_at(entries, at + 1);
-            let chosen = part_at(entries, place(formula.end));
-            kept_entry(part_at(entries, place(chosen.end)).end)
+            let formula = place(end_at(entries, at + 1));
+            let chosen = place(end_at(entries, formula));
+            kept_entry(end_at(entries, chosen))
         }
         Kind::Not => not_entry(at, entries),
         Kind::Plus | Kind::Minus | Kind::Times | Kind::And | Kind::Implies => {
@@ -151,8 +166,8 @@ fn entry_at(words: &[i32], at: usize, entries: &[Entry]) -> Entry
         }
         // two parts and no rule: by `pair_entry` too it is slower
         _ => {
-            let first = part_at(entries, at + 1);
-            kept_entry(part_at(entries, place(first.end)).end)
+            let middle = place(end_at(entries, at + 1));
+            kept_entry(end_at(entries, middle))
         }
     }
 }
@@ -163,6 +178,7 @@ pub fn plan(words: &[i32], entries: &mut [Entry])
     ensures { Planned words.now (ends entries.new) (shapes entries.new) (changes entries.new) }
 {
     for at in (0..words.len()).rev() {
-        entries[at] = entry_at(words, at, entries);
+        let entry = entry_at(words, at, entries);
+        put(&mut entries[at], entry);
     }
 }

@@ -5,7 +5,6 @@ use Rattle.script.specs.Rows.{field_number}
 use Rattle.shortener.specs.Codes.{Coded, kept_code, numbered_code, other_code, other_pair}
 use Rattle.shortener.specs.Entries.{entry, entry_of, pair_entry, kept_pair, other_entry}
 use Rattle.shortener.specs.Runs.{ends, shapes}
-use Rattle.shortener.proofs.Entered.{end_read, end_read_at}
 use Rattle.shortener.proofs.plan.entry_at.Goals as goal
 
 -- what was read at the place
@@ -57,16 +56,16 @@ unfolding entry_of
 returns-in-Negate c =
     let e = c.kind_at-kind.ensures in
     of_kind c.args.words.now (ends c.args.entries.now) (shapes c.args.entries.now) c.args.at
-    (c.kept_entry.ensures ∙ ap (λ n. entry n other_code kept_code) (end_read c.args.entries.now (c.args.at + 1) c.part_at.ensures))
+    (c.kept_entry.ensures ∙ ap (λ n. entry n other_code kept_code) c.end_at.ensures)
     (number_read e c.in-Negate.is refl)
 
 pub returns-in-Choose : goal.returns-in-Choose
 unfolding entry_of
 returns-in-Choose c =
     let es = c.args.entries.now in
-    let formula = c.place.ensures ∙ end_read es (c.args.at + 1) c.part_at-formula.ensures in
-    let chosen = c.place-in-Choose.ensures ∙ end_read_at es c.place.result c.part_at-chosen.ensures formula in
-    let last = end_read_at es c.place-in-Choose.result c.part_at-in-Choose.ensures chosen in
+    let formula = c.place-formula.ensures ∙ c.end_at-in-Choose.ensures in
+    let chosen = c.place-chosen.ensures ∙ c.end_at-in-Choose-2.ensures ∙ ap (λ k. get_or (ends es) k 0) formula in
+    let last = c.end_at-in-Choose-3.ensures ∙ ap (λ k. get_or (ends es) k 0) chosen in
     let e = c.kind_at-kind.ensures in
     of_kind c.args.words.now (ends c.args.entries.now) (shapes c.args.entries.now) c.args.at
     (c.kept_entry-in-Choose.ensures ∙ ap (λ n. entry n other_code kept_code) last)
@@ -88,8 +87,8 @@ returns-in_default c =
     let k = field_number (get_or ws c.args.at (pos 0)) in
     let d = c.in_default in
     let e = c.kind_at-kind.ensures in
-    let middle = c.place-in_default.ensures ∙ end_read es (c.args.at + 1) c.part_at-first.ensures in
-    let last = end_read_at es c.place-in_default.result c.part_at-in_default.ensures middle in
+    let middle = c.place-middle.ensures ∙ c.end_at-in_default.ensures in
+    let last = c.end_at-in_default-2.ensures ∙ ap (λ k. get_or (ends es) k 0) middle in
     let stays = other_pair k (other_read e d.not-Plus refl) (other_read e d.not-Minus refl) (other_read e d.not-Times refl) (other_read e d.not-And refl)
     (other_read e d.not-Implies refl) in
     c.kept_entry-in_default.ensures
