@@ -129,17 +129,16 @@ pub value_at-value_at-requires-in-Plus : goal.value_at-value_at-requires-in-Plus
 value_at-value_at-requires-in-Plus t c =
     part_ready c.requires c.decreases (operands_low c.requires c.args.self.now.code c.kind_at-kind.ensures c.in-Plus.is refl c.field-in-Plus-2.ensures).1
 
-pub value_at-returns-in_err-b-in-Plus : goal.value_at-returns-in_err-b-in-Plus
-value_at-returns-in_err-b-in-Plus t c =
-    let p = err_from_is_err_and c.from_residual-in_err-b-in-Plus.result c.from_residual-in_err-b-in-Plus.ensures.1 in
-    rw (p.1, p.2) (second_stops (operands c.requires c.args.self.now.code c.kind_at-kind.ensures c.in-Plus.is c.field-in-Plus.ensures c.field-in-Plus-2.ensures)
-    c.in_ok-a-in-Plus.ensures c.in_err-b-in-Plus.ensures)
+pub value_at-returns-in-Err : goal.value_at-returns-in-Err
+value_at-returns-in-Err t c =
+    second_stops (operands c.requires c.args.self.now.code c.kind_at-kind.ensures c.in-Plus.is c.field-in-Plus.ensures c.field-in-Plus-2.ensures)
+    c.in_ok-a-in-Plus.ensures c.in-Err.ensures
 
-pub value_at-returns-in_ok-b-in-Plus : goal.value_at-returns-in_ok-b-in-Plus
-value_at-returns-in_ok-b-in-Plus t c =
+pub value_at-returns-in-Ok : goal.value_at-returns-in-Ok
+value_at-returns-in-Ok t c =
     operated_as c.args.self.now.code (search rules) (search rules) c.operator_of.ensures c.combined.ensures
     ∙ both_go (operands c.requires c.args.self.now.code c.kind_at-kind.ensures c.in-Plus.is c.field-in-Plus.ensures c.field-in-Plus-2.ensures)
-    c.in_ok-a-in-Plus.ensures c.in_ok-b-in-Plus.ensures
+    c.in_ok-a-in-Plus.ensures c.in-Ok.ensures
 
 -- ---- a negation
 
