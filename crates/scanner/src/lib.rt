@@ -8,7 +8,7 @@ mod runs;
 pub mod tokens;
 mod words;
 
-ghost use Rattle.std.specs.Prelude.{◌≡◌, [], ◌∷◌, ◌+◌, ◌^◌, ◌<◌, ◌≤◌, length, drop, get_or};
+ghost use Rattle.std.specs.Prelude.{◌≡◌, [], ◌∷◌, ◌+◌, ◌^◌, ◌<◌, length, drop, get_or};
 ghost use Rattle.grammar.specs.Scanning.{is_blank, is_digit, numeral_of, token_at};
 ghost use Rattle.grammar.specs.Fronts.{run};
 ghost use Rattle.scanner.specs.Lexed.{lexed, told_at, word_at, symbol_at};
@@ -44,7 +44,6 @@ fn plain(kind: usize, end: usize) -> Token
 // A numeral.
 #[tactic(auto, using(grammar::specs::Fronts::length_run), unfolding(crate::specs::Lexed::lexed, grammar::specs::Numbers::token_number, grammar::specs::Numbers::token_value))]
 fn numeral_at(text: &[u8], at: usize) -> Token
-    requires { at ≤ length text.now }
     ensures { result ≡ lexed at (numeral_of (run is_digit (drop at text.now))) }
 {
     let digits = number_at(text, at);

@@ -1,6 +1,6 @@
 // The longest run of digits, or of letters and digits, from a place on: where it ends, and the number that it makes.
 
-ghost use Rattle.std.specs.Prelude.{◌≡◌, true, ℕ, Bool, List, ◌+◌, ◌*◌, ◌-◌, ◌≤◌, min, drop, length};
+ghost use Rattle.std.specs.Prelude.{◌≡◌, true, ℕ, Bool, List, ◌+◌, ◌*◌, ◌-◌, ◌≤◌, min, drop};
 ghost use Rattle.grammar.specs.Scanning.{is_digit, is_word_byte, front, decimal, number};
 ghost use Rattle.grammar.specs.Fronts.{run};
 ghost use Rattle.grammar.specs.Numbers.{most};
@@ -88,13 +88,15 @@ impl Bytes for WordBytes {
     }
 }
 
-// The run of such bytes from a place on.
+// The run of such bytes from a place on; none past the text's end.
 pub fn run_at<B: Bytes>(text: &[u8], at: usize) -> Run
-    requires { at ≤ length text.now }
     ensures end { result.end ≡ at + front B.passes (drop at text.now) }
     ensures number { result.number ≡ min (B.fold 0 (run B.passes (drop at text.now))) B.top }
 {
     let mut number = 0;
+    if text.len() < at {
+        return Run { end: at, number };
+    }
     for (passed, byte) in text[at..].iter().enumerate() {
         if !B::passes(*byte) {
             return Run {
@@ -112,7 +114,6 @@ pub fn run_at<B: Bytes>(text: &[u8], at: usize) -> Run
 
 // The digits from a place on as the number of a numeral or a variable: one with a leading zero is beyond every range.
 pub fn number_at(text: &[u8], at: usize) -> Run
-    requires { at ≤ length text.now }
     ensures end { result.end ≡ at + front is_digit (drop at text.now) }
     ensures number { result.number ≡ min (number (run is_digit (drop at text.now))) most }
 {
