@@ -114,10 +114,11 @@ impl State<'_> {
             Kind::Variable => Ok(self.variables[field(self.table, r, 1)]),
             Kind::Plus | Kind::Minus | Kind::Times | Kind::Div | Kind::Mod => {
                 let a = self.value_at(field(self.table, r, 1))?;
-                match self.value_at(field(self.table, r, 2)) {
-                    Ok(b) => combined(operator_of(kind), self.code, a, b),
-                    Err(stop) => Err(stop),
-                }
+                let b = match self.value_at(field(self.table, r, 2)) {
+                    Ok(b) => b,
+                    Err(stop) => return Err(stop),
+                };
+                combined(operator_of(kind), self.code, a, b)
             }
             Kind::Negate => negated(self.value_at(field(self.table, r, 1))?),
             Kind::Mark => Ok(self.marks[field(self.table, r, 1)]),

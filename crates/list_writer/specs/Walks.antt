@@ -23,7 +23,7 @@ use Rattle.line_writer.specs.declared.Lines.{Lines}
 use Rattle.line_writer.specs.Listed.{Listed, InRoom, size, listed_then, listed_none, listed_full, listed_as, in_room_on}
 use Rattle.line_writer.specs.Loops.{Lined, nothing_passed}
 
--- the statement at row s is at hand, in the bodies of so many loops, and the list was written up to p
+-- the statement at row s is at hand, in the bodies of so many loops, and these lines are listed
 pub record Walking (t follow path : List ℤ) (end depth s : ℕ) (ls : Lines) : Type 0 where
   pub before : Before t follow path 0 end s
   pub here : s < rows t
